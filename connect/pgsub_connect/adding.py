@@ -4,6 +4,7 @@
 |---|---|---|
 | IDLE | the table's changes are left out | once it is time: the table is read from the catalog, and the stream is held |
 | HELD | nothing is passed on | once all that was passed on is stored, and so confirmed: the slot is made and the table locked |
+| MAKING | what is below P for certain is passed on, where commits wait for the follower | once the slot is made: the table is locked |
 | GOING | commits below P are passed on | once the first payload behind P has come: the rows are passed on |
 | SENT | all is passed on, or nothing where the session is to end | once the store is at P: the table is there |
 
@@ -18,19 +19,20 @@ from __future__ import annotations
 
 import collections
 import time
-from typing import TYPE_CHECKING, Any, Protocol
+from typing import TYPE_CHECKING, Any
 
 from . import log
-from .catalog import Column, Shape
+from .addable import Stream, TooLarge, relation_of, table_of, too_large, too_long
 from .copying import PASSING
 from .differences import PUBLICATION
-from .errors import NoSlot, Passing, ServerError, Stopped, Unconnected, Unfit
+from .errors import NoSlot, Passing, Renewed, ServerError, Stopped, Unconnected, Unfit
 from .found import About
+from .gating import MOST as LONGEST_WAIT
+from .gating import WAITED, Making
 from .meeting import Source
-from .publishing import Column as TableColumn
 from .publishing import Table, sizes_of
 from .reading import BLOCK, GONE
-from .remembered import Relation, Remembered
+from .remembered import Remembered
 from .replacing import Leaving, Rows, payload_of
 from .texts import counted, lsn_text
 
@@ -43,33 +45,16 @@ if TYPE_CHECKING:
     from .progress import Progress
     from .watching import Watch
 
-IDLE, HELD, GOING, SENT = "idle", "held", "going", "sent"
+IDLE, HELD, MAKING, GOING, SENT = "idle", "held", "making", "going", "sent"
 # How long the stream is held at most until the slot is made, and after how many seconds it is tried again, at first and at most.
 SLOT, FIRST_DELAY, LONGEST_DELAY = 10.0, 1.0, 60.0
-# How long it is held at most for a lock of somebody else on the table.
-LOCK = 5.0
+# How long it is held at most for a lock of somebody else on the table, and where commits wait.
+LOCK, SHORT_LOCK = 5.0, 0.5
 # How many tables at most lose their changes at a time, and after how many attempts that end in the same way one is refused.
 MOST, ATTEMPTS = 4, 5
 # A table whose files are so many times what may be buffered is refused before anything is done.
 FAR = 2
 EPOCH = 946684800
-
-
-class Stream(Protocol):
-    """The follower, as far as tables are added by it."""
-
-    def serve_server(self) -> None:
-        """Keeps the server content while something else is waited for. Raises where the end was asked for."""
-
-    def attend(self) -> None:
-        """Keeps server and filter content in a session while something else is waited for. Raises where the end was asked for."""
-
-    def push(self, frames: bytes) -> None:
-        """Gives the filter frames, and waits until it has room."""
-
-
-class TooLarge(Exception):
-    """A table has more than may be buffered."""
 
 
 class Adder:
@@ -84,6 +69,10 @@ class Adder:
         self.leaving = Leaving()
         self.phase, self.oid, self.point = IDLE, 0, 0
         self.source: Source | None = None
+        # what makes the slot while the stream goes on
+        self.making: Making | None = None
+        # since when nothing is passed on but the table's rows
+        self.began = 0.0
         self.table: Table | None = None
         self.next_try = self.delay = 0.0
         self.counts: collections.Counter[tuple[int, str]] = collections.Counter()
@@ -140,13 +129,10 @@ class Adder:
         if not self.checkpoint.has_room_for(oid):
             return f"{table.text()}: the checkpoint has no room for it"
         size = sizes_of(source.plain, [table]).get(oid, 0)
-        return self.too_large(table, size) if size > FAR * self.options.max_buffered else ""
-
-    def too_large(self, table: Table, size: int) -> str:
-        return (
-            f"{table.text()} has at least {size} bytes, and {self.options.max_buffered} may be buffered of a transaction: give the follower"
-            " a --max-buffered above that, or copy anew"
-        )
+        most = self.options.max_buffered
+        if size > FAR * most:
+            return too_large(table, size, most)
+        return too_long(table, size) if self.progress.is_waited_for else ""
 
     def left_out(self) -> dict[int, int]:
         """The tables whose changes are left out: those that are added next, and of the initial copy's all that are still to come."""
@@ -192,12 +178,15 @@ class Adder:
 
     def end_session(self) -> None:
         """A session has ended, and with it what was under way."""
-        if self.phase in (HELD, GOING) or self.ends_session:
+        if self.phase in (HELD, MAKING, GOING) or self.ends_session:
             self.hold.end()
         self.close()
         self.phase, self.ends_session = IDLE, False
 
     def close(self) -> None:
+        if self.making:
+            self.making.give_up()
+        self.making = None
         if self.source:
             self.source.close()
         self.source = None
@@ -211,7 +200,7 @@ class Adder:
             self.phase, self.delay, self.next_try = IDLE, 0.0, 0.0
         elif self.phase == IDLE and self.leaving.points and not self.hold.is_held and time.monotonic() >= self.next_try:
             self.prepare()
-        elif self.phase == HELD and self.confirming.is_stored():
+        elif self.phase == HELD and self.confirming.is_stored() or self.phase == MAKING and self.making and not self.making.is_alive():
             self.meet()
         elif self.phase == GOING and self.hold.is_there:
             self.send()
@@ -228,9 +217,10 @@ class Adder:
             return
         try:
             self.source = Source(self.options, self.checkpoint.known, self.stream.attend, "add")
-            self.source.patience = LOCK
+            self.source.patience = SHORT_LOCK if self.progress.note_standbys(self.source.standbys()) else LOCK
             self.table = self.source.narrow(self.oid)
             self.is_gone = self.table is None
+            self.check_size(self.source)
             if self.oid in self.remembered.unwanted:
                 self.table = self.table or table_of(self.remembered.described(self.oid))
         except (ServerError, Passing, Unfit) as error:
@@ -241,16 +231,40 @@ class Adder:
             log.warning(f"{self.remembered.text_of(self.oid)} isn't published any more: it isn't added, and the rows that it had stay")
             self.forget(self.oid)
             return
-        self.hold.begin(None, 0.0)
-        self.phase, self.progress.state = HELD, "adding a table"
+        self.hold_stream()
+        self.progress.state = "adding a table"
         self.show("waits for a slot")
+
+    def check_size(self, source: Source) -> None:
+        """Rejects a table whose rows commits would wait for. It is tried again later, when they may not wait any more."""
+        if self.table and self.progress.is_waited_for:
+            if why := too_long(self.table, sizes_of(source.plain, [self.table]).get(self.oid, 0)):
+                raise Passing(why)
+
+    def hold_stream(self) -> None:
+        """Holds the stream. Where commits wait for it, the slot is made meanwhile, and it goes on up to a gate."""
+        assert self.source
+        if not self.progress.is_waited_for:
+            self.hold.begin(None, 0.0)
+            self.phase = HELD
+            return
+        self.hold.begin(None, 0.0, maker=self.source.maker())
+        self.making, self.phase = Making(self.source, SLOT), MAKING
+        self.making.start()
+
+    def let_go(self, why: str) -> None:
+        """Lets the stream go, since commits have waited for too long."""
+        if self.phase in (HELD, MAKING, GOING):
+            self.hold.end()
+            self.phase = IDLE
+            self.fail(Passing(why))
 
     def meet(self) -> None:
         """Makes the slot, and locks the table as it is at its LSN."""
         assert self.source
         try:
-            point, snapshot = self.source.make_slot(SLOT)
-            if point <= (reached := self.confirming.reached()):
+            point, snapshot = self.making.result() if self.making else self.source.make_slot(SLOT)
+            if point <= (reached := max(self.confirming.reached(), self.hold.gate or 0)):
                 raise Passing(f"its slot is at {lsn_text(point)}, and the stream at {lsn_text(reached)}: is it of a standby behind?")
             self.source.see(snapshot)
         except (ServerError, Passing, Unfit, NoSlot) as error:
@@ -281,13 +295,14 @@ class Adder:
     def send(self) -> None:
         """Passes on the rows. Where that fails the session ends, since a part of their transaction was passed on."""
         assert self.table and self.source
+        self.began = time.monotonic()
         rows = Rows(self.table, self.point, round((time.time() - EPOCH) * 1000000))
         self.remembered.replaced(relation_of(self.table), rows.lsn)
         try:
             self.send_all(rows)
         except TooLarge as error:
             self.refuse(self.oid, str(error))
-            raise ServerError("the session ends, since a table can't be added") from None
+            raise Renewed("the session ends, since a table can't be added") from None
         except (ServerError, Passing) as error:
             self.fail(error)
             raise ServerError("the session ends, since a table's rows can't be read") from None
@@ -305,9 +320,11 @@ class Adder:
         for lines in () if self.is_gone else self.source.plain.copied_blocks(self.table.query(), BLOCK):
             block = rows.rows(lines)
             if rows.cost > self.options.max_buffered:
-                raise TooLarge(self.too_large(self.table, rows.cost))
+                raise TooLarge(too_large(self.table, rows.cost, self.options.max_buffered))
             if rows.longest > self.options.max_frame:
                 raise TooLarge(f"{self.table.text()} has a row of {rows.longest} bytes: give the follower a --max-frame above that")
+            if self.progress.is_waited_for and time.monotonic() - self.began > LONGEST_WAIT:
+                raise TooLarge(WAITED)
             self.push(block, [])
             self.noting.note_rows(self.table.oid, len(lines), len(block))
             self.show(f"{counted(rows.count, 'row')} so far")
@@ -377,16 +394,3 @@ def reason(error: Exception) -> str:
     if isinstance(error, NoSlot):
         return f"the server made no slot in {SLOT:g} seconds, since it waits for all transactions that run"
     return str(error).removesuffix(": nothing was compared")
-
-
-def table_of(relation: Relation | None) -> Table | None:
-    """A table that isn't published any more, as it was described."""
-    if relation is None:
-        return None
-    columns = [TableColumn(it.name, it.type_oid, it.modifier, it.key, it.number) for it in relation.shape.columns]
-    return Table(relation.oid, relation.namespace, relation.name, "r", relation.shape.identity, None, None, columns)
-
-
-def relation_of(table: Table) -> Relation:
-    columns = tuple(Column(it.name, it.type_oid, it.modifier, it.key, it.number) for it in table.columns)
-    return Relation(table.oid, table.namespace, table.name, Shape(table.identity, columns))

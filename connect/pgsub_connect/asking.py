@@ -8,7 +8,7 @@ import time
 from typing import TYPE_CHECKING
 
 from . import log
-from .errors import ServerError, Stopped
+from .errors import ServerError, Stopped, Unfit, understood
 from .postgres import QUICK, Connection
 from .progress import Progress
 from .server import END, exact_end, postmaster_start, waits_for
@@ -17,7 +17,8 @@ from .texts import counted, literal, parse_lsn
 if TYPE_CHECKING:
     from .options import Options
 
-# After how many seconds the server is asked again: where a file shows it, and where none does, so that only warnings come of it.
+# After how many seconds the server is asked again: where a file shows it or nothing of the session is read, and else, where only warnings
+# come of it.
 SHOWN, UNSHOWN = 2.0, 60.0
 # The first version that says of a slot how long it is safe.
 SAFETY = 130000
@@ -72,8 +73,11 @@ class Asker(threading.Thread):
 
     def run(self) -> None:
         # (a session that was just begun has looked at all of it)
-        while not self.ended.wait(self.interval):
-            if self.progress.sessions:
+        asked = time.monotonic()
+        while not self.ended.wait(min(self.interval, SHOWN)):
+            is_due = time.monotonic() - asked >= self.interval or self.progress.is_unread
+            if self.progress.sessions and is_due:
+                asked = time.monotonic()
                 self.ask()
                 if not self.is_shown:
                     self.disconnect()
@@ -91,9 +95,10 @@ class Asker(threading.Thread):
         """Asks once. What can't be asked now isn't told: the session says itself what is wrong."""
         try:
             self.note(self.connection or self.connect())
-        except (ServerError, Stopped):
+        except (ServerError, Stopped, Unfit):
             self.disconnect()
 
+    @understood("its settings")
     def connect(self) -> Connection:
         self.connection = Connection(self.options.dsn, name=f"{self.options.slot} status", quiet=True, check=self.check)
         self.started = postmaster_start(self.connection)
@@ -108,6 +113,7 @@ class Asker(threading.Thread):
             self.connection.close()
         self.connection = None
 
+    @understood("the slot")
     def note(self, connection: Connection) -> None:
         """Asks, and notes what the server says."""
         progress, asked = self.progress, time.time()
@@ -124,6 +130,7 @@ class Asker(threading.Thread):
         if there:
             progress.slot.wal_status = status or ""
             progress.slot.safe_wal_size = int(safe) if safe else None
+            progress.slot.told = time.monotonic()
             self.warning.note(progress.slot.wal_status, progress.slot.safe_wal_size, self.most)
         if progress.is_standby and standby == "f" and self.started and self.started == progress.server_started:
             progress.was_promoted = True

@@ -6,8 +6,10 @@ so that the feed has what it lacks. It ends with the follower: a signal ends it,
 
 from __future__ import annotations
 
+import contextlib
 import os
 import signal
+import sqlite3
 import subprocess
 import sys
 import threading
@@ -16,7 +18,8 @@ from typing import TYPE_CHECKING
 
 from . import log
 from .errors import FileError, Unfit
-from .feed.beginning import is_tables
+from .feed.asides import shown_asides
+from .feed.beginning import is_tables, opened
 from .feed.retaining import read_lsn
 from .feed.noting import READERS
 from .filtering import KEPT
@@ -72,6 +75,7 @@ class Beside(threading.Thread):
 
     def run(self) -> None:
         delay = FIRST_DELAY
+        self.look()
         while True:
             began = time.monotonic()
             status = self.run_once()
@@ -122,6 +126,14 @@ class Beside(threading.Thread):
             log.info(f"tables: {line}")
         if level == "error":
             self.said = rest
+        self.look()
+
+    def look(self) -> None:
+        """Shows which tables are set aside. It says a line of each once the file has it."""
+        with contextlib.suppress(OSError, sqlite3.Error, ValueError):
+            if os.path.exists(self.path):
+                with contextlib.closing(opened(self.path)) as db:
+                    self.progress.tables_aside = {it.name(): it.text() for it in shown_asides(db).values()}
 
     def has(self, lsn: int) -> bool:
         """Whether the disk has the tables at this LSN, or they don't follow any more."""

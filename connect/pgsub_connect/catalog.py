@@ -6,6 +6,7 @@ import dataclasses
 from collections.abc import Iterator
 from typing import NamedTuple
 
+from .errors import WrongAnswer, understood
 from .postgres import QUICK, Connection
 from .texts import literal, parse_lsn
 
@@ -56,7 +57,9 @@ class Part(NamedTuple):
 @dataclasses.dataclass(frozen=True)
 class Table:
     """A published table. `untouched`: nobody has renamed it or moved it since it was made; `unwritten`: nor written it anew; `node`:
-    the number of the file with its rows, 0 where that isn't known; `altered`: which transactions have made or altered its columns."""
+    the number of the file with its rows, 0 where that isn't known; `altered`: which transactions have made or altered its columns;
+    `logged`: its changes are in the log; `toast`: the OID of what keeps its long values, 0 where it has none, or that isn't known;
+    `primary`: the columns of its primary key, none where that is deferrable, or isn't known."""
 
     oid: int
     namespace: str
@@ -68,6 +71,9 @@ class Table:
     unwritten: bool = dataclasses.field(default=False, compare=False)
     node: int = 0
     altered: str = ""
+    logged: bool = True
+    toast: int = 0
+    primary: tuple[str, ...] = ()
 
     def text(self) -> str:
         return f"{self.namespace}.{self.name} ({self.oid})"
@@ -77,7 +83,7 @@ class Table:
 class Partition:
     """A partition or a partitioned table; `parent` is 0 of one that is in no other. `made`: it was made there, and not attached;
     `node`: the number of the file with its rows, 0 where that isn't known; `since`: which transaction has attached it, "" where that
-    isn't known."""
+    isn't known; `logged` and `toast` as of a table."""
 
     oid: int
     parent: int
@@ -86,6 +92,8 @@ class Partition:
     made: bool = dataclasses.field(default=False, compare=False)
     node: int = 0
     since: str = ""
+    logged: bool = True
+    toast: int = 0
 
 
 @dataclasses.dataclass(frozen=True)
@@ -102,11 +110,19 @@ class Catalog:
     # by the OIDs of types that published columns have in them: `name`, the labels of enumerations, by OID, and what composite
     # types consist of, by `#` and the number of the part
     types: dict[int, dict[str, str]]
+    # the first transaction that may have run when it was read, 0 where that isn't known
+    running: int = dataclasses.field(default=0, compare=False)
+    # what the rows themselves have told, as the module `doubting` says: tables that have the values that they had, though their columns
+    # and their file were altered, and partitions that had no rows when they were attached
+    kept: frozenset[int] = dataclasses.field(default=frozenset(), compare=False)
+    fresh: frozenset[int] = dataclasses.field(default=frozenset(), compare=False)
 
 
+@understood("what is published")
 def read_catalog(connection: Connection, names: list[str]) -> Catalog:
     """Reads it, with a number of queries that doesn't depend on that of the tables."""
     connection.run("SET jit = off", limit=QUICK)
+    running = connection.text("SELECT pg_catalog.txid_snapshot_xmin(pg_catalog.txid_current_snapshot())")
     publications = read_publications(connection, names)
     tables = read_tables(connection, list(publications))
     partitions = read_partitions(connection, list(publications))
@@ -117,7 +133,7 @@ def read_catalog(connection: Connection, names: list[str]) -> Catalog:
         "SELECT CASE WHEN pg_catalog.pg_is_in_recovery() THEN pg_catalog.pg_last_wal_replay_lsn()"
         " ELSE pg_catalog.pg_current_wal_insert_lsn() END"
     )
-    return Catalog(tuple(names), parse_lsn(end), highest, publications, tables, partitions, types)
+    return Catalog(tuple(names), parse_lsn(end), highest, publications, tables, partitions, types, int(running))
 
 
 def listed_names(names: list[str]) -> str:
@@ -174,6 +190,10 @@ ALTERED = (
 )
 
 
+# Whether changes of a relation `c` are in the log: not of a foreign table, nor of one that is unlogged.
+LOGGED = "c.relpersistence = 'p' AND c.relkind <> 'f'"
+
+
 def read_tables(connection: Connection, names: list[str]) -> dict[int, Table]:
     """The published tables. Row filters and column lists came with PostgreSQL 15."""
     fine = connection.version() >= 150000
@@ -182,8 +202,8 @@ def read_tables(connection: Connection, names: list[str]) -> dict[int, Table]:
     sent = "pg_catalog.array_to_string(g.attrs::pg_catalog.int2[], ',')" if fine else "NULL"
     rows = connection.rows(
         f"SELECT p.pubname, c.oid, n.nspname, c.relname, c.relkind, c.relreplident, {row_filter}, {listed}, {sent},"
-        f" {is_whole(connection, 'c')}, {UNTOUCHED}, {UNWRITTEN}, pg_catalog.pg_relation_filenode(c.oid), {ALTERED}"
-        " FROM pg_catalog.pg_publication p"
+        f" {is_whole(connection, 'c')}, {UNTOUCHED}, {UNWRITTEN}, pg_catalog.pg_relation_filenode(c.oid), {ALTERED},"
+        f" {LOGGED}, c.reltoastrelid FROM pg_catalog.pg_publication p"
         " CROSS JOIN LATERAL pg_catalog.pg_get_publication_tables(p.pubname::pg_catalog.text) g"
         " JOIN pg_catalog.pg_class c ON c.oid = g.relid JOIN pg_catalog.pg_namespace n ON n.oid = c.relnamespace"
         " LEFT JOIN pg_catalog.pg_type y ON y.oid = c.reltype"
@@ -191,10 +211,11 @@ def read_tables(connection: Connection, names: list[str]) -> dict[int, Table]:
         f" WHERE p.pubname IN ({listed_names(names)}) ORDER BY c.oid, p.pubname",
         QUICK,
     )
-    columns = read_columns(connection, sorted({number(row[1]) for row in rows}))
+    oids = sorted({number(row[1]) for row in rows})
+    columns, keys = read_columns(connection, oids), read_keys(connection, oids)
     tables: dict[int, Table] = {}
-    for publication, relid, namespace, name, kind, identity, where, own, attributes, whole, untouched, unwritten, node, altered in rows:
-        oid = number(relid)
+    for publication, relid, namespace, name, kind, identity, where, own, attributes, whole, *more in rows:
+        oid, (untouched, unwritten, node, altered, logged, toast) = number(relid), more
         part = Part(where, numbers(own), whole == "t")
         if oid in tables:
             tables[oid].parts[publication or ""] = part
@@ -202,7 +223,7 @@ def read_tables(connection: Connection, names: list[str]) -> dict[int, Table]:
         shape = Shape(identity or "", sent_columns(connection, columns.get(oid, []), numbers(attributes)))
         tables[oid] = Table(
             oid, namespace or "", name or "", kind or "", shape, {publication or "": part}, untouched == "t", unwritten == "t",
-            number(node), altered or "",
+            number(node), altered or "", logged == "t", number(toast), tuple(keys.get(oid, ())),
         )
     return tables
 
@@ -239,6 +260,24 @@ def read_columns(connection: Connection, oids: list[int]) -> dict[int, list[tupl
     return columns
 
 
+def read_keys(connection: Connection, oids: list[int]) -> dict[int, list[str]]:
+    """The columns of tables' primary keys, in the key's order; none of a deferrable one, which may
+    have equal values within a transaction."""
+    rows = connection.rows(
+        "SELECT i.indrelid, a.attname FROM pg_catalog.pg_index i"
+        " CROSS JOIN LATERAL pg_catalog.unnest((i.indkey::pg_catalog.int2[])[0:i.indnkeyatts - 1])"
+        " WITH ORDINALITY k (attnum, place)"
+        " JOIN pg_catalog.pg_attribute a ON a.attrelid = i.indrelid AND a.attnum = k.attnum"
+        f" WHERE i.indrelid IN ({listed_oids(oids)})"
+        " AND i.indisprimary AND i.indisvalid AND i.indimmediate ORDER BY i.indrelid, k.place",
+        QUICK,
+    )
+    keys: dict[int, list[str]] = {}
+    for oid, name in rows:
+        keys.setdefault(number(oid), []).append(name or "")
+    return keys
+
+
 def read_partitions(connection: Connection, names: list[str]) -> dict[int, Partition]:
     """The partitioned tables of the publications and all that is below them, whichever name it is published under.
 
@@ -252,15 +291,33 @@ def read_partitions(connection: Connection, names: list[str]) -> dict[int, Parti
         f" LEFT JOIN pg_catalog.pg_inherits i ON i.inhrelid = root.oid WHERE p.pubname IN ({listed_names(names)})"
         " UNION SELECT i.inhrelid, i.inhparent FROM t JOIN pg_catalog.pg_inherits i ON i.inhparent = t.oid)"
         f" SELECT c.oid, t.parent, n.nspname || '.' || c.relname, c.relkind <> 'p', i.xmin = y.xmin AND {UNTOUCHED} AND {UNWRITTEN},"
-        " pg_catalog.pg_relation_filenode(c.oid), i.xmin::pg_catalog.text"
+        f" pg_catalog.pg_relation_filenode(c.oid), i.xmin::pg_catalog.text, {LOGGED}, c.reltoastrelid"
         " FROM t JOIN pg_catalog.pg_class c ON c.oid = t.oid JOIN pg_catalog.pg_namespace n ON n.oid = c.relnamespace"
         " LEFT JOIN pg_catalog.pg_inherits i ON i.inhrelid = t.oid JOIN pg_catalog.pg_type y ON y.oid = c.reltype ORDER BY 1",
         QUICK,
     )
-    return {
-        number(oid): Partition(number(oid), number(parent), name or "", leaf == "t", made == "t", number(node), since or "")
-        for oid, parent, name, leaf, made, node, since in rows
+    partitions = {
+        number(oid): Partition(
+            number(oid), number(parent), name or "", leaf == "t", made == "t", number(node), since or "", logged == "t", number(toast)
+        )
+        for oid, parent, name, leaf, made, node, since, logged, toast in rows
     }
+    check_tree(partitions)
+    return partitions
+
+
+def check_tree(partitions: dict[int, Partition]) -> None:
+    """Rejects partitions in a circle, in which whoever looks for what is above one would go round
+    for ever."""
+    checked: set[int] = set()
+    for first in partitions:
+        oid, way = first, list[int]()
+        while oid in partitions and oid not in checked:
+            checked.add(oid)
+            way.append(oid)
+            oid = partitions[oid].parent
+        if oid in way:
+            raise WrongAnswer(f"the server's partitions are in a circle: {oid} is below itself")
 
 
 # By publication and the OID of a relation: the OIDs of what says that the publication has it, itself or by its schema, that with who

@@ -15,6 +15,7 @@ from .log import escaped
 from .making import REFUSED, Wanted, inserts_of, keyless_text, members, names_of
 from .postgres import Check, Connection, never
 from .texts import counted
+from .trust import CURE, OWN
 
 if TYPE_CHECKING:
     from .options import Options
@@ -27,7 +28,8 @@ SHORTEST_TIMEOUT = 5000
 # SQL's word for a right that is missing
 DENIED = "42501"
 # Which of the results end a copy before anything is made.
-REQUIRED = ("version", "wal_level", "replication_slots", "role", "standby", "encoding")
+# (Whether the role may replicate, the server has said by letting in the connection by which a copy begins.)
+REQUIRED = ("version", "wal_level", "replication_slots", "standby", "encoding")
 
 
 @dataclasses.dataclass
@@ -122,11 +124,13 @@ def judge_senders(facts: Facts, purpose: Purpose) -> Judged:
 
 
 def judge_role(facts: Facts, purpose: Purpose) -> Judged:
+    """By the server's word: some let in members of a role of their own, as Amazon RDS those of rds_replication."""
     role = facts.role
-    if role.replicates:
-        yield Result(OK, "role", f"{role.name} may replicate")
+    if role.replicates or facts.has_replicated:
+        yield Result(OK, "role", f"{role.name} may replicate{'' if role.replicates else ', since the server has let it'}")
     else:
-        yield Result(ERROR, "role", f"{role.name} lacks REPLICATION: ALTER ROLE {role.name} REPLICATION")
+        granted = f", or GRANT {facts.replicators} TO {role.name}" if facts.replicators else ""
+        yield Result(ERROR, "role", f"{role.name} lacks REPLICATION: ALTER ROLE {role.name} REPLICATION{granted}")
 
 
 def judge_making(facts: Facts, purpose: Purpose) -> Judged:
@@ -257,19 +261,22 @@ def judge_keeping(facts: Facts, purpose: Purpose) -> Judged:
 
 def judge_sender_timeout(facts: Facts, purpose: Purpose) -> Judged:
     milliseconds = number(facts, "wal_sender_timeout")
-    if 0 < milliseconds < SHORTEST_TIMEOUT:
+    if milliseconds <= 0:
+        text = "no limit: a connector that hangs is never given up, and may keep the server's checkpoints waiting; 1min is the default"
+        yield Result(WARNING, "wal_sender_timeout", text)
+    elif milliseconds < SHORTEST_TIMEOUT:
         yield Result(WARNING, "wal_sender_timeout", f"{milliseconds} ms: any pause may end a session")
     else:
-        yield Result(OK, "wal_sender_timeout", f"{milliseconds} ms" if milliseconds > 0 else "no limit")
+        yield Result(OK, "wal_sender_timeout", f"{milliseconds} ms")
 
 
 def judge_connection(facts: Facts, purpose: Purpose) -> Judged:
-    if facts.is_encrypted:
-        yield Result(OK, "tls", "in use")
-    elif facts.is_local:
-        yield Result(OK, "tls", "not in use, to a server on this machine")
+    """What is verified of the server, and whether others can read along."""
+    protection = facts.protection
+    if protection.is_safe():
+        yield Result(OK, "tls", protection.text())
     else:
-        yield Result(WARNING, "tls", "not in use: rows and their changes can be read on the way; sslmode=verify-full asks for it")
+        yield Result(WARNING, "tls", f"{protection.text()}; {CURE}")
 
 
 def judge_standby(facts: Facts, purpose: Purpose) -> Judged:
@@ -346,6 +353,8 @@ def require_reading(connection: Connection, publications: list[str]) -> None:
 
 def run(options: Options, check: Check = never) -> int:
     """Prints all preconditions; the exit status."""
+    # (that of TLS is among them)
+    OWN.is_quiet = True
     wanted = Wanted(options.publication, options.table or [], options.all_tables, options.keyless)
     found = results(all_facts(options.dsn, options.slot, wanted, check), purpose_of(options))
     if options.json:

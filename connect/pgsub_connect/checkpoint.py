@@ -1,10 +1,10 @@
 """What is known of a store from one run to the next, in a file beside it, and what a start concludes from it.
 
-The file is `STORE.connector`: two lines of JSON, each padded to 512 bytes and overwritten in place. It is locked as long as a
-connector or a filter that it started is alive, so that a filter of a killed connector can end its commit before the next
-one opens the store.
+The file is `STORE.connector`: two lines that are written in turns, as the module `checkpoint_lines` says. It is locked as long as a
+connector or a filter that it started is alive, so that a filter of a killed connector can end its commit before the next one opens the
+store. It is its owner's alone whatever mode was asked for, since whoever can open a file can lock it.
 
-The first line:
+What is known of the store:
 
 | Field | Means |
 |---|---|
@@ -17,10 +17,10 @@ The first line:
 | `found` | what may have made the copy wrong, and the LSN at which it was found first; until somebody accepts it |
 | `skipped` | the final LSN of the commit that was skipped last |
 | `adding` | where there are any: the OIDs of tables whose changes are left out until their rows are stored, as the module `replacing` says, each with the LSN at which these will be, 0 where that isn't known |
+| `encrypted` | connections were encrypted, so that none follows that isn't, unless somebody accepts it |
 
-The second line is of changes that found no row. A file of an earlier version has none: they are counted from the store's position on
-then. Such a version leaves one that is there as it is, so what it stores meanwhile is told as not counted. Each line is right by
-itself, whichever of the two a power cut leaves as it was.
+What is counted of changes that found no row. Where an earlier version of this program has counted none, they are from the store's
+position on then.
 
 | Field | Means |
 |---|---|
@@ -32,75 +32,63 @@ itself, whichever of the two a power cut leaves as it was.
 
 from __future__ import annotations
 
+import contextlib
 import dataclasses
 import fcntl
-import json
 import os
+import stat
 import time
 from typing import Any
 
 from . import log
+from .checkpoint_lines import (
+    COPIED as COPIED, COPYING as COPYING, FOLLOWING as FOLLOWING, NEW as NEW, SIZE as SIZE, SLOT as SLOT, TEXT, Counted as Counted,
+    Known as Known, line_of, padded, read_file,
+)
 from .errors import FileError, Passing, Unfit
+from .jsontexts import GREATEST
 from .postgres import Check, never
 from .texts import lsn_text
 
-SIZE = 512
+MODE = 0o600
 PATIENCE = 60
-TEXT = json.JSONEncoder(separators=(",", ":"))
-# What stands before the two positions in the first line, and between them. (In a text of it each of its quotes has a backslash.)
+# What stands before the two positions in what is known, and between them. (In a text of it each of its quotes has a backslash.)
 BEFORE, BETWEEN = '"confirmed":', ',"position":'
-NEW, COPYING, SLOT, COPIED, FOLLOWING = "new", "copying", "slot", "copied", "following"
 # The kind of what is found by changes that found no row.
 MISSING = "missing"
-
-
-@dataclasses.dataclass
-class Known:
-    """The fields of the file."""
-
-    phase: str = NEW
-    system: str = ""
-    database: str = ""
-    slot: str = ""
-    timeline: int = 0
-    started: int = 0
-    confirmed: int = 0
-    position: int = 0
-    found: dict[str, str] = dataclasses.field(default_factory=dict)
-    skipped: str = ""
-    adding: dict[str, int] = dataclasses.field(default_factory=dict)
-
-
-@dataclasses.dataclass(frozen=True)
-class Counted:
-    """The fields of the second line."""
-
-    since: int
-    upto: int
-    count: int = 0
-    first: int = 0
-    relation: int = 0
-    gap: tuple[int, int] | None = None
+# All kinds of what may be found.
+KINDS = ("slot", "gap", "history", "names", "publication", "values", MISSING)
 
 
 class Checkpoint:
     """The file, open and locked. `counted` is None before a filter has begun."""
 
-    def __init__(self, store: str, mode: int = 0o600, check: Check = never) -> None:
-        self.path, self.mode = store + ".connector", mode
-        # what stands around the two positions in the first line, as long as nothing else of it changes
+    def __init__(self, store: str, check: Check = never) -> None:
+        self.path = store + ".connector"
+        # what stands around the two positions in what is known, as long as nothing else of it changes
         self.around: tuple[str, str] | None = None
         self.file = self.opened()
         try:
             self.lock(check)
-            self.known, self.counted = self.read(), self.read_counted()
+            self.number, self.known, self.counted, at = read_file(self.file, self.path)
+            # the place of a line that the disk has; the other one is written
+            self.durable = at
+            os.fsync(self.file)
+        except OSError as error:
+            os.close(self.file)
+            raise FileError(f"{self.path}: {error.strerror}") from None
         except BaseException:
             os.close(self.file)
             raise
 
     def opened(self) -> int:
         try:
-            return os.open(self.path, os.O_RDWR | os.O_CREAT | os.O_CLOEXEC, self.mode)
+            file = os.open(self.path, os.O_RDWR | os.O_CREAT | os.O_CLOEXEC, MODE)
+            if stat.S_IMODE(os.fstat(file).st_mode) & ~MODE:
+                # (of an earlier version of this program)
+                with contextlib.suppress(PermissionError):
+                    os.fchmod(file, MODE)
+            return file
         except OSError as error:
             raise FileError(f"{self.path}: {error.strerror}") from None
 
@@ -130,49 +118,41 @@ class Checkpoint:
         return False
 
     def read(self) -> Known:
-        line = os.pread(self.file, SIZE, 0).strip()
-        if not line:
-            return Known()
-        try:
-            return Known(**json.loads(line))
-        except (ValueError, TypeError):
-            raise FileError(f"{self.path}: not a checkpoint of this program") from None
+        """What the file says is known."""
+        return read_file(self.file, self.path).known
 
     def read_counted(self) -> Counted | None:
-        line = os.pread(self.file, SIZE, SIZE).strip()
-        if not line:
-            return None
-        try:
-            return counted_of(json.loads(line))
-        except (ValueError, TypeError):
-            raise FileError(f"{self.path}: not a checkpoint of this program") from None
+        """What it says of changes that found no row."""
+        return read_file(self.file, self.path).counted
 
     def write(self, durably: bool, **fields: Any) -> None:
-        """Changes fields of the first line. Where `durably`, the disk has them before this returns."""
+        """Changes what is known. Where `durably`, the disk has it before this returns."""
         self.put(durably, dataclasses.replace(self.known, **fields), self.counted)
 
     def put(self, durably: bool, known: Known, counted: Counted | None) -> None:
-        """Writes both lines. They are known once they are written."""
-        self.put_lines(durably, encoded(known), counted)
+        """Writes a line. It is known once it is written."""
+        self.put_line(durably, spelled(known), counted)
         self.known, self.around = known, None
 
     def put_positions(self, durably: bool, confirmed: int, position: int, counted: Counted | None) -> None:
         """Writes the positions. It is done for most of the statuses, so what stands around them isn't made anew each time."""
         head, tail = self.around = self.around or around_positions(self.known)
-        self.put_lines(durably, f"{head}{confirmed}{BETWEEN}{position}{tail}".encode(), counted)
+        self.put_line(durably, f"{head}{confirmed}{BETWEEN}{position}{tail}", counted)
         self.known.confirmed, self.known.position = confirmed, position
 
-    def put_lines(self, durably: bool, line: bytes, counted: Counted | None) -> None:
-        lines = (line, TEXT.encode(vars(counted)).encode() if counted else b"")
-        if len(max(lines, key=len)) >= SIZE:
-            raise FileError(f"{self.path}: names too long for a checkpoint")
+    def put_line(self, durably: bool, known: str, counted: Counted | None) -> None:
+        """Writes a line over the one that the disk needn't have: so a power cut leaves one that is whole, whatever becomes of this."""
+        line, at = line_of(self.number + 1, known, counted), 1 - self.durable
+        if len(line) >= SIZE:
+            raise FileError(f"{self.path}: {len(line)} bytes are too long for a checkpoint: `--accept` what was found, or copy anew")
         try:
-            os.pwrite(self.file, b"".join(line.ljust(SIZE - 1) + b"\n" for line in lines), 0)
+            os.pwrite(self.file, padded(line), at * SIZE)
             if durably:
                 os.fdatasync(self.file)
         except OSError as error:
             raise Passing(f"{self.path}: {error.strerror}") from None
-        self.counted = counted
+        self.number, self.counted = self.number + 1, counted
+        self.durable = at if durably else self.durable
 
     def begin_anew(self) -> None:
         """Forgets what is known, as where the store is made anew."""
@@ -180,7 +160,8 @@ class Checkpoint:
 
     def forget_server(self) -> None:
         """Forgets whose changes the store holds, and how far it was."""
-        self.known = Known(found=self.known.found, skipped=self.known.skipped, adding=self.known.adding)
+        known = self.known
+        self.known = Known(found=known.found, skipped=known.skipped, adding=known.adding, encrypted=known.encrypted)
 
     def note(self, confirmed: int, position: int) -> None:
         """Notes what is about to be confirmed to the server, before it is.
@@ -246,13 +227,12 @@ class Checkpoint:
 
     def has_room_for(self, oid: int) -> bool:
         """Whether one more table can be noted, whatever else the file will say."""
-        most = (1 << 64) - 1
-        adding = {**self.known.adding, str(oid): most}
-        found = {kind: lsn_text(most) for kind in {*self.known.found, "publication", "values"}}
-        longest = dataclasses.replace(
-            self.known, adding=adding, found=found, confirmed=most, position=most, skipped=lsn_text(most), timeline=(1 << 32) - 1
+        most = GREATEST
+        known = dataclasses.replace(
+            self.known, adding={**self.known.adding, str(oid): most}, found=dict.fromkeys({*self.known.found, *KINDS}, lsn_text(most)),
+            confirmed=most, position=most, skipped=lsn_text(most), timeline=(1 << 32) - 1, started=most,
         )
-        return len(encoded(longest)) < SIZE
+        return len(line_of(most, spelled(known), Counted(most, most, most, most, most, (most, most)))) < SIZE
 
     def accept(self, kinds: list[str]) -> None:
         """Forgets what was found of these kinds."""
@@ -272,28 +252,15 @@ def has_name(file: int, path: str) -> bool:
         return False
 
 
-def encoded(known: Known) -> bytes:
-    """The line of the file. What came later is left out where there is nothing to say, so that an earlier version reads it too."""
-    fields = vars(known)
-    return TEXT.encode(fields if known.adding else {name: it for name, it in fields.items() if name != "adding"}).encode()
+def spelled(known: Known) -> str:
+    return TEXT.encode(vars(known))
 
 
 def around_positions(known: Known) -> tuple[str, str]:
-    """What stands in the line before and behind the two positions, but for what is between them."""
-    text, positions = encoded(known).decode(), f"{known.confirmed}{BETWEEN}{known.position}"
+    """What stands in its text before and behind the two positions, but for what is between them."""
+    text, positions = spelled(known), f"{known.confirmed}{BETWEEN}{known.position}"
     at = text.index(BEFORE + positions) + len(BEFORE)
     return text[:at], text[at + len(positions) :]
-
-
-def counted_of(said: Any) -> Counted:
-    """The second line's fields. A ValueError or TypeError says that they are none."""
-    counted = Counted(**said)
-    if not all(isinstance(it, int) for name, it in vars(counted).items() if name != "gap"):
-        raise TypeError
-    if counted.gap is None:
-        return counted
-    first, last = counted.gap
-    return dataclasses.replace(counted, gap=(int(first), int(last)))
 
 
 def check_gap(known: Known, position: int, slot_at: int) -> None:

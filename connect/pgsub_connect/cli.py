@@ -10,7 +10,7 @@ import traceback
 from collections.abc import Callable, Sequence
 from typing import Any, Protocol
 
-from . import checking, dropping, exporting, log, probing, refreshing, requesting, taking, verifying
+from . import checking, dropping, exporting, log, probing, refreshing, requesting, taking, trust, verifying
 from . import checkpoint as known_of
 from .asking import Asker
 from .checkpoint import Checkpoint
@@ -22,6 +22,7 @@ from .feed import verifying as tables_verifying
 from .feeding import Feeding
 from .filtering import Filter, FilterEnded
 from .following import Follower
+from .interrupting import interrupt
 from .options import Options
 from .placing import check_meant
 from .postgres import Check
@@ -50,6 +51,7 @@ def stop_by_signals(*workers: Worker) -> None:
             if worker.stop_asked:
                 os._exit(128 + number)
             worker.stop_asked = True
+        interrupt()
 
     for number in (signal.SIGINT, signal.SIGTERM):
         signal.signal(number, ask)
@@ -89,7 +91,8 @@ def follow(options: Options) -> int:
     if not (options.create or options.no_copy or any(os.path.exists(options.store + it) for it in ("", ".connector"))):
         # (before there is a file that would stay)
         raise no_store(options)
-    checkpoint = Checkpoint(options.store, options.mode, start.check)
+    checkpoint = Checkpoint(options.store, start.check)
+    trust.OWN.begin(checkpoint.known.encrypted, options.accept)
     progress = Progress()
     remembered = Remembered(options.store, options.mode)
     feeding = Feeding(options, checkpoint, progress, remembered)
@@ -154,7 +157,7 @@ def begin(options: Options, checkpoint: Checkpoint, copier: Copier, remembered: 
 
 def record(options: Options) -> None:
     assert options.record
-    recorder = Recorder(options, Recording(options.record, options.append, options.bytes, options.mode))
+    recorder = Recorder(options, Recording(options.record, options.append, options.bytes, options.mode, options.overwrite))
     stop_by_signals(recorder)
     maker = maker_of(options, recorder.check_stop)
     try:
@@ -192,11 +195,18 @@ RUNS: dict[str, Callable[[Options], Any]] = {
 }
 
 
+# What connects to the server of a store without its checkpoint.
+BESIDE = ("check", "drop", "verify", "add", "refresh")
+
+
 def main(words: Sequence[str]) -> int:
     options = arguments(words)
 
     def call() -> int:
         settle_options(options)
+        if options.command in BESIDE and options.store:
+            known = dropping.read_known(options.store + ".connector")
+            trust.OWN.begin(known.encrypted, options.accept)
         return int(RUNS[options.command](options) or 0)
 
     return guarded(call)

@@ -5,7 +5,7 @@ from __future__ import annotations
 from typing import TYPE_CHECKING
 
 from . import log
-from .errors import ServerError
+from .errors import ServerError, understood
 from .facts import source_wanted
 from .making import REFUSED, Wanted, keyless_of, names_of
 from .postgres import Check, Connection
@@ -68,6 +68,7 @@ def different_tables(connection: Connection, options: Options, names: str) -> tu
     return f"not published: {names_of(sorted(missing.values()))}" if missing else "", "; ".join(others)
 
 
+@understood("tables")
 def tables_of(connection: Connection, source: str) -> dict[int, str]:
     """The tables of a query with a column `relid`: OID and name."""
     rows = connection.rows(

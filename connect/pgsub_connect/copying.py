@@ -29,20 +29,22 @@ from collections.abc import Callable
 from typing import TYPE_CHECKING
 
 from . import checkpoint as known_of
-from . import log, sizes
+from . import log, sizes, trust
 from .catalog import Catalog, read_catalog
 from .checking import require, require_reading
 from .differences import PUBLICATION, root_of
-from .errors import FileError, Passing, ServerError, Stopped, Unfit
+from .errors import FileError, Passing, ServerError, Stopped, Unfit, understood
 from .filtering import Filter, FilterEnded
 from .found import About
+from .losing import IDLE, idle_limit
 from .making import REFUSED, Look, Maker, Wanted, has_publication
 from .messages import begin, commit, frame
+from .owning import set_mode
 from .postgres import QUICK, Check, Connection, never
 from .publishing import Table, are_so_named, estimated_rows, published_tables, sizes_of, stored_in
 from .reading import LOCK_TIMEOUT, Left, Part, Readers, take_snapshot
 from .resting import hold
-from .server import Server, identify, is_lost, settle, settle_for_slot, slot_position, tell_plain_text
+from .server import Server, identify, is_lost, settle, settle_for_slot, slot_position
 from .snapshots import COPYING, meant, sync_folder
 from .texts import counted, identifier, literal, lsn_text, parse_lsn
 from .waiting import Waiting, lock_text
@@ -60,8 +62,8 @@ NO_MEMORY = "53200"
 # how often it is noted which tables are stored whole, in seconds, and how long it may take to drop a slot of which no copy comes; and how
 # often it is looked whether the slot is lost, which nobody follows as long as rows are copied
 NOTED, LIMIT, LOOK = 1.0, 10.0, 60.0
-# the first version of the server that ends slots which are idle
-IDLE = 180000
+# A slot that is idle may end sooner than any pause of the copy, below so many seconds.
+SHORTEST = 10.0
 # what the name of a store's log adds to that of its file
 LOG = "-wal"
 # what may be in the way only for now: a table that was altered or dropped while it was to be read
@@ -114,6 +116,8 @@ class Copier:
         self.lsn, self.delay, self.noted = 0, 0.0, 0.0
         # when the lasting slot was looked at, None where there is none yet
         self.looked: float | None = None
+        # how often it is
+        self.look = LOOK
         # what was made before the slot, and why tables are to be added by themselves
         self.made: dict[str, int] = {}
         self.later: dict[int, str] = {}
@@ -153,6 +157,7 @@ class Copier:
     def slot_is_dropped(self) -> bool:
         """Drops the lasting slot, of which no copy comes. Returns whether it is gone."""
         until, slot = time.monotonic() + LIMIT, self.options.slot
+        log.info(f"dropping the slot {slot} again, which may take {LIMIT:.0f} seconds")
 
         def check() -> None:
             if time.monotonic() > until:
@@ -165,7 +170,7 @@ class Copier:
                 at = connection.value(f"SELECT s.confirmed_flush_lsn - '0/0'::pg_catalog.pg_lsn {query}")
                 if at == str(self.checkpoint.known.confirmed):
                     connection.rows(f"SELECT pg_catalog.pg_drop_replication_slot(s.slot_name) {query}")
-        except ServerError as error:
+        except (ServerError, Unfit) as error:
             log.warning(f"the slot {slot} was made and not dropped again: {error}")
             return False
         self.checkpoint.write(True, phase=known_of.COPYING)
@@ -221,6 +226,11 @@ class Copier:
         if self.stop_asked:
             raise Stopped
 
+    def check_slot(self) -> None:
+        """Looks for the end, and now and then at the slot, while a filter opens its store."""
+        self.check_stop()
+        self.look_at_slot()
+
     def check_all(self) -> None:
         """Looks for the end, and whether the connection is there that holds the snapshot."""
         self.check_stop()
@@ -232,8 +242,6 @@ class Copier:
         options, known = self.options, self.checkpoint.known
         self.progress.state = "copying"
         self.replication = replication = Connection(options.dsn, replication=True, name=options.slot, check=self.check_stop)
-        if not self.was_connected:
-            tell_plain_text(replication)
         self.was_connected = True
         settle(replication)
         server = identify(replication)
@@ -265,7 +273,7 @@ class Copier:
         self.clear()
         self.checkpoint.begin_anew()
         whose = {"system": server.system, "timeline": server.timeline, "database": server.database, "slot": options.slot}
-        self.checkpoint.write(True, phase=known_of.COPYING, **whose)
+        self.checkpoint.write(True, phase=known_of.COPYING, encrypted=trust.OWN.was_encrypted, **whose)
         self.maker.make()
         options.publication = self.maker.publications
         tables, point, readers = self.prepare()
@@ -341,11 +349,11 @@ class Copier:
         if slot_position(replication, slot) != point:
             raise ServerError(f"the slot {slot} is not at {lsn_text(point)}")
         replication.run(f"DROP_REPLICATION_SLOT {identifier(temporary)}")
-        self.looked = time.monotonic()
+        self.looked, self.look = time.monotonic(), look_for(idle_limit(replication))
 
     def look_at_slot(self) -> None:
         """Looks now and then whether the lasting slot is lost: then nothing can follow on the copy, however long it goes on."""
-        if self.looked is None or not self.replication or time.monotonic() - self.looked < LOOK:
+        if self.looked is None or not self.replication or time.monotonic() - self.looked < self.look:
             return
         self.looked, slot = time.monotonic(), self.options.slot
         if is_lost(self.replication, slot):
@@ -366,7 +374,7 @@ class Copier:
 
     def copy(self, tables: list[Table], point: int, readers: Readers) -> None:
         """Sends all rows to a filter on a new file, and waits until the store has them."""
-        if self.filter.start(self.check_stop) != 0:
+        if self.filter.start(self.check_slot) != 0:
             raise FileError(f"{self.part}: not a new store")
         self.set_mode()
         self.lsn = 0
@@ -436,7 +444,7 @@ class Copier:
         if is_lost(self.replication, options.slot):
             log.info(f"the slot {options.slot} of an interrupted copy is lost: the copy begins anew")
             return False
-        position = self.filter.start(self.check_stop)
+        position = self.filter.start(self.check_slot)
         whole = {oid for oid, end in copied.items() if end <= position}
         self.plain = plain = Connection(options.dsn, name=f"{options.slot} copy", check=self.check_all)
         settle(plain)
@@ -507,7 +515,7 @@ class Copier:
         if not os.path.exists(self.part + LOG) and os.path.exists(self.store + LOG):
             # (that run was complete, and ended between the two renames of `keep`)
             return True
-        complete = self.filter.start(self.check_stop) == point
+        complete = self.filter.start(self.check_slot) == point
         self.filter.finish()
         try:
             self.wait_for(lambda: False)
@@ -532,7 +540,7 @@ class Copier:
         try:
             for it in (self.part, self.part + LOG):
                 with contextlib.suppress(FileNotFoundError):
-                    os.chmod(it, self.options.mode)
+                    set_mode(it, self.options.mode)
         except OSError as error:
             raise FileError(f"{self.part}: {error.strerror}") from None
 
@@ -549,6 +557,15 @@ class Copier:
             sync_folder(self.part)
         except OSError as error:
             raise FileError(f"{self.store}: {error.strerror}") from None
+
+
+def look_for(limit: float | None) -> float:
+    """How often the slot is looked at, which the server ends where nobody uses it for so many seconds."""
+    if limit is None:
+        return LOOK
+    if limit < SHORTEST:
+        log.warning(f"idle_replication_slot_timeout is {counted(round(limit), 'second')}: any pause may lose the slot")
+    return min(LOOK, limit / 3)
 
 
 def altered_tables(before: Catalog, after: Catalog) -> list[int]:
@@ -578,8 +595,9 @@ def create_temporary(replication: Connection, name: str) -> tuple[str, int, str]
     temporary = f"{name}_{secrets.token_hex(4)}"
     settle_for_slot(replication)
     command = f"CREATE_REPLICATION_SLOT {identifier(temporary)} TEMPORARY LOGICAL pgoutput EXPORT_SNAPSHOT"
-    _, point, snapshot, _ = replication.rows(command)[0]
-    return temporary, parse_lsn(point or ""), snapshot or ""
+    with understood("a new slot"):
+        _, point, snapshot, _ = replication.rows(command)[0]
+        return temporary, parse_lsn(point or ""), snapshot or ""
 
 
 def set_failover(replication: Connection, slot: str, wanted: bool) -> None:

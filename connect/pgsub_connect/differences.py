@@ -22,6 +22,8 @@ from .found import NOTHING, About
 NAMES, PUBLICATION, VALUES = "names", "publication", "values"
 KINDS = (NAMES, PUBLICATION, VALUES)
 TRUNCATE = ACTIONS[3]
+# What is said of a table or partition that is new, and unlogged or foreign.
+UNLOGGED = "Its changes are in no log, so its rows aren't in the copy"
 # Who has put a table into a schema, as `ways_to` has it.
 PUT = re.compile("@[0-9]+")
 # How many columns, labels and the like a text names.
@@ -85,6 +87,8 @@ def table_differences(oid: int, before: Catalog, now: Catalog) -> Iterator[Diffe
         if oid in before.partitions:
             text = f"partition {new.text()} is sent under its own name now: the rows that it had don't change"
             yield Difference(PUBLICATION, text, About((oid,)))
+        elif not new.logged:
+            yield Difference("", f"table {new.text()} is new. {UNLOGGED}")
         elif is_complete(new, before, now):
             yield Difference("", f"table {new.text()} is new, and followed from its first row on")
         else:
@@ -97,6 +101,7 @@ def table_differences(oid: int, before: Catalog, now: Catalog) -> Iterator[Diffe
         else:
             yield gone(oid, f"{old.namespace}.{old.name}")
     elif old is not None and new is not None:
+        yield from logging_differences(f"table {new.text()}", (oid,), old.logged, new.logged)
         parts = (part_differences(new, old.parts[name], new.parts[name]) for name in sorted(old.parts.keys() & new.parts.keys()))
         told = [*itertools.chain.from_iterable(parts), *sent_differences(old, new, before, now)]
         if not told and has_left(old, new, before, now):
@@ -110,15 +115,47 @@ def table_differences(oid: int, before: Catalog, now: Catalog) -> Iterator[Diffe
         yield from shapes
 
 
+def logging_differences(name: str, tables: tuple[int, ...], old: bool, new: bool) -> Iterator[Difference]:
+    """Whether changes are in the log, of what its rows were copied or not."""
+    if old and not new:
+        text = f"{name} is unlogged now: its changes aren't sent, and the rows that it had stay as they were"
+        yield Difference(PUBLICATION, text, About(tables))
+    elif new and not old:
+        text = f"{name} was unlogged, and isn't any more: the rows that it had before are missing"
+        yield Difference(PUBLICATION, text, About(tables, is_missing=True))
+
+
 def is_computed_anew(oid: int, before: Catalog, now: Catalog) -> bool:
     """Whether an ALTER TABLE may have computed values of a table that has the same columns: by USING, without another type."""
+    return oid not in now.kept and bool(written_anew(oid, before, now))
+
+
+def written_anew(oid: int, before: Catalog, now: Catalog) -> list[Table | Partition]:
+    """Of a table whose columns were altered: itself or its partitions, as far as an ALTER TABLE may have written them anew.
+
+    That gives a table that keeps long values another place for these. VACUUM FULL, CLUSTER and TRUNCATE don't.
+    """
     old, new = before.tables[oid], now.tables[oid]
     if "" in (old.altered, new.altered) or old.altered == new.altered:
-        return False
-    if new.node:
-        return old.node not in (0, new.node)
-    parts = [it for it in before.partitions.keys() & now.partitions.keys() if root_of(it, now) == oid == root_of(it, before)]
-    return any(before.partitions[it].node not in (0, now.partitions[it].node) for it in parts)
+        return []
+    pairs: list[tuple[Table | Partition, Table | Partition]] = [(old, new)]
+    if not new.node:
+        both = sorted(before.partitions.keys() & now.partitions.keys())
+        pairs = [(before.partitions[it], now.partitions[it]) for it in both if root_of(it, now) == oid == root_of(it, before)]
+    return [are for was, are in pairs if was.node not in (0, are.node) and (not are.toast or are.toast != was.toast)]
+
+
+def asks_rows(oid: int, before: Catalog, now: Catalog) -> list[int]:
+    """Those of them of which only their rows tell whether it was done; none where it is certain of one."""
+    found = written_anew(oid, before, now)
+    if any(it.toast and toast_of(it.oid, before) for it in found):
+        return []
+    return [it.oid for it in found]
+
+
+def toast_of(oid: int, catalog: Catalog) -> int:
+    it = catalog.tables.get(oid) or catalog.partitions.get(oid)
+    return it.toast if it else 0
 
 
 def gone(oid: int, name: str) -> Difference:
@@ -133,7 +170,7 @@ def is_complete(table: Table, before: Catalog, now: Catalog) -> bool:
     It was made after `before` was read, nobody has written it anew, as where it became a logged one, and it is in a publication
     of all tables, or in one of its schema without having been moved there. Or it was made as a partition of what was published.
     """
-    if is_made_in(table.oid, before, now):
+    if is_made_in(table.oid, before, now) or table.oid in now.fresh:
         return True
     if table.oid <= before.highest or not table.unwritten:
         return False
@@ -142,6 +179,22 @@ def is_complete(table: Table, before: Catalog, now: Catalog) -> bool:
         if part.whole and old == now.publications[name] and (old.whole or table.untouched):
             return True
     return False
+
+
+def attached(before: Catalog, now: Catalog) -> dict[int, list[str]]:
+    """The partitions that weren't published, and are by what they were attached to, which was: each with the transactions that have
+    attached it, or what it is in. Rows that are older than these weren't sent."""
+    found = {}
+    for oid, partition in now.partitions.items():
+        if oid in before.partitions or oid in before.tables or not (partition.leaf and partition.logged) or is_made_in(oid, before, now):
+            continue
+        ways, at = [partition.since], partition.parent
+        while at and at not in before.partitions and at in now.partitions:
+            ways.append(now.partitions[at].since)
+            at = now.partitions[at].parent
+        if at in before.partitions and all(ways):
+            found[oid] = ways
+    return found
 
 
 def is_made_in(oid: int, before: Catalog, now: Catalog) -> bool:
@@ -265,11 +318,17 @@ def partition_differences(before: Catalog, now: Catalog) -> Iterator[Difference]
             yield Difference(PUBLICATION, f"{partition} was detached or dropped: its rows stay", About((was,)))
         if was != root and root in before.tables:
             partition = f"partition {now.partitions[oid].name} ({oid}) of {now.tables[root].text()}"
-            if is_made_in(oid, before, now):
+            if not now.partitions[oid].logged:
+                yield Difference("", f"{partition} is new. {UNLOGGED}")
+            elif is_made_in(oid, before, now) or oid in now.fresh:
                 yield Difference("", f"{partition} is new, and followed from its first row on")
             else:
                 text = f"{partition} was attached: the rows that it had before are missing"
                 yield Difference(PUBLICATION, text, About((root,), is_missing=True))
+        if was == root and was in now.tables:
+            old, new = before.partitions[oid], now.partitions[oid]
+            partition = f"partition {new.name} ({oid}) of {now.tables[root].text()}"
+            yield from logging_differences(partition, (root,), old.logged, new.logged)
     yield from truncations(before, now)
     yield from dict.fromkeys(detachments(before, now))
 
@@ -288,21 +347,30 @@ def detachments(before: Catalog, now: Catalog) -> Iterator[Difference]:
 
 
 def truncations(before: Catalog, now: Catalog) -> Iterator[Difference]:
-    """Partitions under another name whose rows are in another file: a TRUNCATE of such a one alone isn't sent.
+    """Partitions under another name whose rows are in another file: a TRUNCATE of such a one alone isn't sent."""
+    for oid, root in written_partitions(before, now).items():
+        # (rows that are older than the earlier reading tell that it wasn't truncated)
+        if oid not in now.kept:
+            partition = f"partition {now.partitions[oid].name} ({oid}) of {now.tables[root].text()}"
+            text = f"{partition} was truncated or written anew: if it was truncated, its rows stay"
+            yield Difference(PUBLICATION, text, About((root,)))
+
+
+def written_partitions(before: Catalog, now: Catalog) -> dict[int, int]:
+    """Those partitions, each with the table under whose name it comes.
 
     Where all partitions of a table are, that was done by way of the table, which is sent.
     """
-    parts: dict[int, list[Partition]] = {}
+    parts: dict[int, list[int]] = {}
     for oid in sorted(before.partitions.keys() & now.partitions.keys() - now.tables.keys()):
         root = root_of(oid, now)
-        if root and root == root_of(oid, before):
-            parts.setdefault(root, []).append(now.partitions[oid])
-    for root, partitions in parts.items():
-        anew = [it for it in partitions if before.partitions[it.oid].node not in (0, it.node)]
-        for it in anew if len(anew) < len(partitions) or len(anew) == 1 else ():
-            partition = f"partition {it.name} ({it.oid}) of {now.tables[root].text()}"
-            text = f"{partition} was truncated or written anew: if it was truncated, its rows stay"
-            yield Difference(PUBLICATION, text, About((root,)))
+        if root and root == root_of(oid, before) and now.partitions[oid].logged and before.partitions[oid].logged:
+            parts.setdefault(root, []).append(oid)
+    found = dict[int, int]()
+    for root, oids in parts.items():
+        anew = [it for it in oids if before.partitions[it].node not in (0, now.partitions[it].node)]
+        found |= {it: root for it in anew} if len(anew) < len(oids) or len(anew) == 1 else {}
+    return found
 
 
 def root_of(oid: int, catalog: Catalog) -> int:

@@ -4,7 +4,6 @@ from __future__ import annotations
 
 import contextlib
 import fcntl
-import json
 import os
 import select
 import sys
@@ -12,16 +11,18 @@ import time
 from collections.abc import Callable, Iterator
 from typing import TYPE_CHECKING, Any
 
-from . import checkpoint as known_of
 from . import log
 from .checkpoint import Known, has_name
-from .errors import FileError, Passing, Unfit
+from .checkpoint_lines import read_file
+from .errors import FileError, Passing, Unfit, understood
+from .jsontexts import Unreadable, object_of, open_plain, whole_of
 from .making import inserts_of, oid_of, other_slots
 from .placing import OF_COPY, OF_STORE
 from .postgres import TICK, Check, Connection, never
 from .resting import own_files
-from .server import settle
+from .server import Server, database_oid, is_same_database, settle
 from .snapshots import OF_FILE, meant
+from .tables_form import read_lines
 from .texts import identifier, literal
 
 if TYPE_CHECKING:
@@ -36,29 +37,31 @@ PATIENCE = 5.0
 def read_known(path: str) -> Known:
     """What the checkpoint has, or nothing where it isn't there."""
     try:
-        with open(path, encoding="utf-8") as file:
-            line = file.read(known_of.SIZE).strip()
-        return Known(**json.loads(line)) if line else Known()
+        file = open_plain(path)
     except FileNotFoundError:
         return Known()
     except OSError as error:
         raise FileError(f"{path}: {error.strerror}") from None
-    except (ValueError, TypeError):
-        raise FileError(f"{path}: not a checkpoint of this program") from None
+    except Unreadable as error:
+        raise FileError(f"{path}: {error}") from None
+    try:
+        return read_file(file, path).known
+    finally:
+        os.close(file)
 
 
 def read_remembered(path: str) -> dict[str, Any]:
     """What is remembered beside the store; nothing where that can't be read, since it is only asked for names."""
-    with contextlib.suppress(OSError, ValueError), open(path, encoding="utf-8") as file:
-        found = json.load(file)
-        return found if isinstance(found, dict) else {}
+    with contextlib.suppress(OSError, Unreadable):
+        return read_lines(path)[0]
     return {}
 
 
 def made_publications(remembered: dict[str, Any]) -> dict[str, int]:
     """The publications that the connector made, with their OIDs."""
-    made = remembered.get("made")
-    return {str(name): int(oid) for name, oid in made.items()} if isinstance(made, dict) else {}
+    with contextlib.suppress(Unreadable):
+        return {name: whole_of(oid) for name, oid in object_of(remembered.get("made")).items()}
+    return {}
 
 
 @contextlib.contextmanager
@@ -108,6 +111,14 @@ def ask_terminal(question: str, check: Check = never, command: str = "drop") -> 
     return sys.stdin.readline().strip().lower() in ("y", "yes")
 
 
+def noted_database(remembered: dict[str, Any]) -> tuple[int, str] | None:
+    """The OID and the name of the database that is followed, None where they weren't noted."""
+    found = remembered.get("database")
+    if isinstance(found, list) and len(found) == 2 and isinstance(found[0], int):
+        return found[0], str(found[1])
+    return None
+
+
 class Dropper:
     """Drops what belongs to one store."""
 
@@ -134,6 +145,7 @@ class Dropper:
             if done:
                 self.drop_files()
 
+    @understood("itself")
     def check_server(self, connection: Connection) -> None:
         """Rejects a server that isn't the one that the store follows."""
         known = self.known
@@ -142,11 +154,13 @@ class Dropper:
         system, database = connection.rows(
             "SELECT s.system_identifier, pg_catalog.current_database() FROM pg_catalog.pg_control_system() s"
         )[0]
-        if (system, database) != (known.system, known.database):
+        server = Server(system or "", 0, 0, database or "", False, database_oid=database_oid(connection))
+        if system != known.system or not is_same_database(known.database, noted_database(self.remembered), server):
             raise Unfit(
                 f"the store follows the database {known.database} of the server {known.system}, and this is {database} of {system}"
             )
 
+    @understood("a slot")
     def drop_slot(self, connection: Connection) -> bool:
         """Drops the slot. Returns whether it is gone."""
         query = (
@@ -197,7 +211,7 @@ class Dropper:
             elif others and self.options.yes:
                 log.info(f"the publication {name} stays{more}")
             elif self.ask(f"drop the publication {name}{'' if is_ours else ', which somebody else may have made'}{more}?"):
-                connection.run(f"BEGIN; SET LOCAL synchronous_commit = local; DROP PUBLICATION {identifier(name)}; COMMIT")
+                connection.run(f"BEGIN READ WRITE; SET LOCAL synchronous_commit = local; DROP PUBLICATION {identifier(name)}; COMMIT")
                 log.info(f"dropped the publication {name}")
 
     def drop_files(self) -> None:

@@ -2,6 +2,12 @@
 
 from __future__ import annotations
 
+import contextlib
+import struct
+from collections.abc import Iterator
+
+from .texts import shortened
+
 
 class Stopped(Exception):
     """The end was asked for by a signal."""
@@ -17,6 +23,10 @@ class FileError(Exception):
 
 class Passing(Exception):
     """Something is in the way only for now: a later start may do."""
+
+
+class Delayed(Passing):
+    """Commits at the server had to wait for too long, so nothing was repaired: another try may take less."""
 
 
 class NoSlot(Exception):
@@ -62,5 +72,28 @@ class ServerError(Exception):
         return self.sqlstate.startswith(LASTING)
 
 
+class Renewed(ServerError):
+    """A session ends so that another one begins at once: commits may wait for it."""
+
+
 class Unconnected(ServerError):
     """No connection was made: the server can't be reached, or let nobody in."""
+
+
+class WrongAnswer(ServerError):
+    """The server answered what no PostgreSQL server does, or more than is read: another try ends in
+    the same way."""
+
+    def is_lasting(self) -> bool:
+        return True
+
+
+@contextlib.contextmanager
+def understood(what: str) -> Iterator[None]:
+    """Around what reads a server's answer, or as a decorator of it: another number of rows or
+    columns, and what is no number or LSN where one is to be, is the server's fault."""
+    try:
+        yield
+    except (ValueError, LookupError, TypeError, ArithmeticError, struct.error) as error:
+        text = f"the server's answer about {what} isn't one of PostgreSQL"
+        raise WrongAnswer(f"{text}: {shortened(str(error))}") from error

@@ -10,16 +10,19 @@
 from __future__ import annotations
 
 import contextlib
+import dataclasses
 import itertools
 import sqlite3
-from collections.abc import Iterable, Iterator, Sequence
+from collections.abc import Callable, Collection, Iterable, Iterator, Mapping, Sequence
 from typing import TYPE_CHECKING
 
 from . import log
+from .catalog import Column, Shape
 from .errors import FileError, Passing, Stopped, Unfit
 from .naming import OLD, POSITION, TABLES, name_columns, name_tables, names_of
 from .placing import check_into, placed
 from .postgres import Check
+from .primary import primary_key
 from .remembered import Relation, Remembered
 from .resting import at_rest, failed
 from .stored import APPLICATION, check_store, choose, is_export, opened, read_position, read_relations
@@ -35,22 +38,37 @@ OLDEST = (3, 37, 0)
 ROOM = 1 << 20
 # What a row takes beside its bytes.
 ROW = 200
+# How many copies of a row are written, and how many steps SQLite makes, until it is asked whether to end.
+LOT, STEPS = 10000, 1_000_000
+# The column of a table that has none, since SQLite has no such tables.
+NONE = Column("pgsub_none", 25, -1, False)
 
 
 # A value as it is bound.
 Bound = Value | str
 
 
-class Target:
-    """A table of the export."""
+def with_columns(relation: Relation) -> Relation:
+    """A relation as SQLite can have it: null in one column where the publisher's has none."""
+    if relation.shape.columns:
+        return relation
+    return dataclasses.replace(relation, shape=Shape(relation.shape.identity, (NONE,)))
 
-    def __init__(self, name: str, relation: Relation, is_text: bool) -> None:
+
+class Target:
+    """A table of the export. `primary`: the columns of its primary key, where its replica identity
+    is another."""
+
+    def __init__(
+        self, name: str, relation: Relation, is_text: bool, primary: Collection[str] = ()
+    ) -> None:
         self.name, self.relation = name, relation
         columns = relation.shape.columns
         self.kinds: list[tuple[str, Read, Read]] = [kind_of(it, is_text) for it in columns]
         self.columns = [identifier(it) for it in name_columns(it.name for it in columns)]
         is_keyed = relation.shape.identity in ("d", "i")
-        self.key = [at for at, it in enumerate(columns) if it.key and is_keyed]
+        told = primary or [it.name for it in columns if it.key and is_keyed]
+        self.key = [at for at, it in enumerate(columns) if it.name in told]
         # whether the key is one of SQLite's
         self.is_keyed = bool(self.key)
         self.waiting: list[tuple[list[Bound], int]] = []
@@ -93,13 +111,17 @@ class Export:
         position = read_position(self.store)
         stored = read_relations(self.store)
         relations = named(choose(stored, remembered, position), self.names)
-        self.begin(position, relations)
+        tables = remembered.catalog.tables if remembered.catalog else {}
+        keys = {it.oid: primary_key(tables.get(it.oid), it) for it in relations}
+        self.begin(position, relations, keys)
         self.copy_rows(stored)
         self.into.execute("COMMIT")
         return position, len(self.targets), sum(it.rows for it in self.targets.values())
 
-    def begin(self, position: int, relations: list[Relation]) -> None:
-        """Makes the tables."""
+    def begin(
+        self, position: int, relations: list[Relation], keys: Mapping[int, Collection[str]]
+    ) -> None:
+        """Makes the tables, with these primary keys by their OIDs."""
         into = self.into
         for pragma in ("journal_mode = MEMORY", "synchronous = OFF", "cache_size = -8000", f"application_id = {APPLICATION}"):
             into.execute(f"PRAGMA {pragma}")
@@ -110,7 +132,10 @@ class Export:
             f'CREATE TABLE {TABLES} (name TEXT PRIMARY KEY, schema TEXT NOT NULL, "table" TEXT NOT NULL, oid INTEGER NOT NULL) STRICT'
         )
         names = name_tables((it.oid, it.namespace, it.name) for it in relations)
-        self.targets = {it.oid: Target(names[it.oid], it, self.is_text) for it in relations}
+        self.targets = {
+            it.oid: Target(names[it.oid], with_columns(it), self.is_text, keys[it.oid])
+            for it in relations
+        }
         for target in self.targets.values():
             relation = target.relation
             named = (target.name, relation.namespace, relation.name, relation.oid)
@@ -137,6 +162,8 @@ class Export:
                 self.into.execute(f"CREATE INDEX {index} ON {identifier(target.name)} ({target.keys()})")
 
     def values(self, target: Target, body: bytes) -> list[Bound]:
+        if NONE in target.relation.shape.columns:
+            return [None]
         try:
             return target.row(read_row(body, target.kinds))
         except Unlike as unlike:
@@ -156,11 +183,11 @@ class Export:
             self.loosen(target)
         before = self.into.total_changes
         try:
-            self.into.executemany(target.insertion(), repeated(waiting))
+            self.into.executemany(target.insertion(), repeated(waiting, self.check))
         except sqlite3.IntegrityError:
             done = self.into.total_changes - before
             self.loosen(target)
-            self.into.executemany(target.insertion(), itertools.islice(repeated(waiting), done, None))
+            self.into.executemany(target.insertion(), itertools.islice(repeated(waiting, self.check), done, None))
         target.rows += sum(copies for _, copies in waiting)
 
     def loosen(self, target: Target) -> None:
@@ -182,11 +209,15 @@ def named(relations: list[Relation], names: Sequence[str]) -> list[Relation]:
 
 
 def unlike_text(relation: Relation, unlike: Unlike) -> str:
+    return f"{relation.text()}: {unlike_reason(relation, unlike)}"
+
+
+def unlike_reason(relation: Relation, unlike: Unlike) -> str:
     column = relation.shape.columns[unlike.index].name
     shown = unlike.value[:100].decode(errors="backslashreplace")
     return (
-        f"{relation.text()}: the column {column} has a value that isn't one of its type, {shown!r}: the type was altered, and"
-        " the server doesn't send what it made of the rows"
+        f"the column {column} has a value that isn't one of its type, {shown!r}: the type was altered,"
+        " and the server doesn't send what it made of the rows"
     )
 
 
@@ -195,9 +226,33 @@ def key_index(oid: int) -> str:
     return f"key of table {oid}"
 
 
-def repeated(rows: Iterable[tuple[list[Bound], int]]) -> Iterator[list[Bound]]:
+def repeated(rows: Iterable[tuple[list[Bound], int]], check: Check) -> Iterator[list[Bound]]:
     """Each row as often as it is there."""
-    return itertools.chain.from_iterable(itertools.repeat(values, copies) for values, copies in rows)
+    return itertools.chain.from_iterable(
+        itertools.repeat(values, count) for values, copies in rows for count in lots(copies, check)
+    )
+
+
+def lots(copies: int, check: Check) -> Iterator[int]:
+    """Parts of a number, of which each is soon written."""
+    while copies > LOT:
+        check()
+        yield LOT
+        copies -= LOT
+    yield copies
+
+
+def stop(check: Check) -> Callable[[], int]:
+    """What SQLite asks in the midst of a statement: whether that is to end."""
+
+    def ask() -> int:
+        try:
+            check()
+        except Stopped:
+            return 1
+        return 0
+
+    return ask
 
 
 def run(options: Options, check: Check) -> int:
@@ -222,8 +277,12 @@ def export(path: str, new: str, options: Options, check: Check) -> tuple[int, in
     remembered = Remembered(options.store)
     try:
         with contextlib.closing(opened(path)) as store, contextlib.closing(sqlite3.connect(new, isolation_level=None)) as into:
+            for db in (store, into):
+                db.set_progress_handler(stop(check), STEPS)
             return Export(store, into, options.text, check, options.table).run(remembered)
     except Malformed:
         raise FileError(f"{options.store}: a malformed row or definition: the disk, or another program, has spoiled the file") from None
     except sqlite3.Error as error:
+        # (the end may have been asked for)
+        check()
         raise failed(error, f"{options.store}, {options.into}") from None

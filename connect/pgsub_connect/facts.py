@@ -5,16 +5,18 @@ from __future__ import annotations
 import dataclasses
 import re
 
-from .errors import ServerError
+from .errors import ServerError, understood
 from .making import Wanted, has_publication, keyless_of, keyless_tables, kinds_left_out, members, publishable, tree_of
 from .postgres import Check, Connection
 from .texts import literal
+from .trust import Protection
 from .waiting import prepared_texts
 
 SETTINGS = (
     "wal_level", "max_replication_slots", "max_wal_senders", "max_slot_wal_keep_size", "idle_replication_slot_timeout",
     "wal_sender_timeout", "max_locks_per_transaction", "max_connections", "max_prepared_transactions", "server_encoding",
 )
+RDS = "rds_replication"
 # A table's name in what CREATE PUBLICATION takes for one.
 NAME = re.compile(r'\s*(?:ONLY\s+)?((?:"(?:[^"]|"")+"|[\w$]+)(?:\s*\.\s*(?:"(?:[^"]|"")+"|[\w$]+))?)', re.I)
 
@@ -74,8 +76,7 @@ class Facts:
     settings: dict[str, str] = dataclasses.field(default_factory=dict)
     is_standby: bool = False
     database: str = ""
-    is_encrypted: bool = False
-    is_local: bool = True
+    protection: Protection = Protection()
     slots: int = 0
     senders: int = 0
     role: Role = dataclasses.field(default_factory=Role)
@@ -86,12 +87,16 @@ class Facts:
     relations: int = 0
     prepared: list[str] = dataclasses.field(default_factory=list)
     replication_error: str = ""
+    # whether a connection for replication was let in, and a role of the server's provider whose members are
+    has_replicated: bool = False
+    replicators: str = ""
 
 
 def true(text: str | None) -> bool:
     return text == "t"
 
 
+@understood("its settings")
 def server_facts(connection: Connection, slot: str) -> Facts:
     """What concerns the server, the role and the slot."""
     names = ", ".join(literal(name) for name in SETTINGS)
@@ -106,8 +111,7 @@ def server_facts(connection: Connection, slot: str) -> Facts:
         settings={name or "": value or "" for name, value in settings},
         is_standby=true(standby),
         database=database or "",
-        is_encrypted=connection.is_encrypted(),
-        is_local=connection.is_local(),
+        protection=connection.protection,
         slots=int(slots or 0),
         senders=int(senders or 0),
         role=role_facts(connection),
@@ -115,6 +119,7 @@ def server_facts(connection: Connection, slot: str) -> Facts:
     )
 
 
+@understood("the role")
 def role_facts(connection: Connection) -> Role:
     name, superuser, replicates, creates = connection.rows(
         "SELECT r.rolname, r.rolsuper, r.rolreplication,"
@@ -124,6 +129,12 @@ def role_facts(connection: Connection) -> Role:
     return Role(name or "", true(superuser), true(replicates) or true(superuser), true(creates))
 
 
+def replicators(connection: Connection) -> str:
+    """The role whose members may replicate without the attribute, where the server is one of Amazon RDS."""
+    return connection.value(f"SELECT r.rolname FROM pg_catalog.pg_roles r WHERE r.rolname = {literal(RDS)}") or ""
+
+
+@understood("a slot")
 def slot_facts(connection: Connection, slot: str) -> Slot | None:
     version = connection.version()
     columns = [
@@ -145,6 +156,7 @@ def slot_facts(connection: Connection, slot: str) -> Slot | None:
     )
 
 
+@understood("the publications")
 def publication_facts(connection: Connection, facts: Facts, wanted: Wanted) -> None:
     """What concerns the publications, and the tables that they have or would have."""
     sources = []
@@ -185,7 +197,7 @@ def mixed_roots(connection: Connection, name: str) -> list[str]:
         f" FROM pg_catalog.pg_get_publication_tables({literal(name)}) p JOIN pg_catalog.pg_class c ON c.oid = p.relid"
         " JOIN pg_catalog.pg_namespace n ON n.oid = c.relnamespace,"
         " LATERAL pg_catalog.pg_partition_tree(c.oid) t JOIN pg_catalog.pg_class l ON l.oid = t.relid"
-        " WHERE c.relkind = 'p' AND l.relkind = 'r' AND l.relreplident <> c.relreplident ORDER BY 1"
+        " WHERE c.relkind = 'p' AND l.relkind = 'r' AND l.relpersistence = 'p' AND l.relreplident <> c.relreplident ORDER BY 1"
     )
     return [row[0] or "" for row in rows]
 
@@ -215,6 +227,7 @@ def source_wanted(connection: Connection, wanted: Wanted) -> tuple[str, list[str
     return " UNION ".join(f"SELECT {oid}::pg_catalog.oid AS relid" for oid in oids), unknown
 
 
+@understood("tables")
 def tables_facts(connection: Connection, source: str) -> list[TableFacts]:
     rows = connection.rows(
         "SELECT n.nspname || '.' || c.relname, pg_catalog.has_table_privilege(c.oid, 'SELECT'),"
@@ -233,10 +246,12 @@ def all_facts(dsn: str, slot: str, wanted: Wanted, check: Check) -> Facts:
         facts = server_facts(connection, slot)
         publication_facts(connection, facts, wanted)
         facts.prepared = prepared_texts(connection)
+        facts.replicators = "" if facts.role.replicates else replicators(connection)
     finally:
         connection.close()
     try:
         Connection(dsn, replication=True, name=f"{slot} check", check=check).close()
+        facts.has_replicated = True
     except ServerError as error:
         facts.replication_error = str(error)
     return facts

@@ -148,6 +148,8 @@ class Filter:
         self.kept_open = kept_open
         self.mode = mode
         self.runs = self.takes = False
+        # how many bytes wait for the running one, and how many it has taken
+        self.waiting = self.taken = 0
         self.status = b""
         # what it has said of changes that found no row since it began
         self.missing = Missing()
@@ -156,6 +158,10 @@ class Filter:
 
     def is_running(self) -> bool:
         return self.runs
+
+    def pid(self) -> int:
+        """Its process."""
+        return self.child.pid
 
     def launch(self) -> None:
         """Starts the filter. Its first status comes once it has opened its store."""
@@ -177,8 +183,8 @@ class Filter:
             os.set_blocking(it, False)
         with contextlib.suppress(OSError):
             fcntl.fcntl(self.down, fcntl.F_SETPIPE_SZ, PIPE)
-        self.pending: collections.deque[bytearray] = collections.deque()
-        self.waiting = self.written = 0
+        self.pending: collections.deque[bytearray | memoryview] = collections.deque()
+        self.waiting = self.written = self.taken = 0
         self.partial, self.line, self.said = b"", b"", ""
         self.hearing = select.poll()
         self.hearing.register(self.err, select.POLLIN)
@@ -213,10 +219,13 @@ class Filter:
             self.keep(memoryview(piece)[done:])
 
     def keep(self, rest: memoryview) -> None:
-        """Keeps what waits until the pipe takes it, and small pieces together."""
+        """Keeps what waits until the pipe takes it, and copies of small pieces together: a long one may be a row of any size."""
         pending = self.pending
-        if pending and len(pending[-1]) < PIECE:
-            pending[-1] += rest
+        last = pending[-1] if pending else None
+        if len(rest) >= PIECE:
+            pending.append(rest)
+        elif isinstance(last, bytearray) and len(last) < PIECE:
+            last += rest
         else:
             pending.append(bytearray(rest))
         self.waiting += len(rest)
@@ -289,7 +298,9 @@ class Filter:
     def written_of(self, piece: bytes | memoryview) -> int:
         """Writes as much as the pipe takes. Of one that has ended, its end tells why nothing is written."""
         try:
-            return os.write(self.down, piece)
+            done = os.write(self.down, piece)
+            self.taken += done
+            return done
         except BlockingIOError:
             return 0
         except BrokenPipeError:

@@ -10,11 +10,11 @@ from __future__ import annotations
 from typing import TYPE_CHECKING
 
 from . import checkpoint as known_of
-from . import log
+from . import log, trust
 from .checkpoint import Checkpoint, check_gap
 from .errors import ServerError, Unfit
 from .postgres import Check, Connection
-from .server import Server, left_at, settle, slot_position
+from .server import Server, is_same_database, left_at, settle, slot_position
 from .texts import lsn_text
 from .watching import Watch
 
@@ -31,8 +31,9 @@ class Fitting:
     def check_server(self, server: Server, confirmed: int, position: int) -> None:
         """Checks that this is the server whose changes the store has, and that it has all of them. On another timeline it needn't be
         beyond what a keepalive alone has confirmed: a standby that was promoted never had what isn't published behind its last commit."""
-        known, options = self.checkpoint.known, self.options
-        if known.system and (server.system, server.database, options.slot) != (known.system, known.database, known.slot):
+        known, options, remembered = self.checkpoint.known, self.options, self.watch.remembered
+        is_same = is_same_database(known.database, remembered.database, server)
+        if known.system and ((server.system, options.slot) != (known.system, known.slot) or not is_same):
             raise Unfit(
                 f"the store follows slot {known.slot} of database {known.database} of the server {known.system}, "
                 f"and not slot {options.slot} of {server.database} of {server.system}"
@@ -43,7 +44,11 @@ class Fitting:
         ends = f"log ends at {lsn_text(server.log_end)}, before the store at {lsn_text(least)}"
         if server.is_standby:
             raise ServerError(f"the server is a standby whose {ends}")
-        raise Unfit(f"the server's {ends}: it lost changes")
+        raise Unfit(
+            f"the server's {ends}: it lost changes, as a standby that was promoted before it had them, or a backup that was put back. Copy anew"
+            " (`pgsub-connect drop`, then a start with --create); or start again once its log is beyond that, and take the copy as it is then"
+            " by --accept history"
+        )
 
     def find_slot(self, connection: Connection, server: Server) -> int:
         """The LSN from which the slot sends."""
@@ -108,10 +113,15 @@ class Fitting:
 
     def note_server(self, server: Server, confirmed: int, position: int) -> None:
         """Notes durably whose changes the store has, and what its filter confirms."""
-        known = self.checkpoint.known
+        known, remembered = self.checkpoint.known, self.watch.remembered
+        if text := remembered.note_database(server.database_oid, server.database):
+            log.warning(text)
+        # (a feed keeps the name that it has begun with)
+        database = known.database if known.database and remembered.feed else server.database
         self.checkpoint.write(
             True, confirmed=max(confirmed, known.confirmed), phase=known_of.FOLLOWING, system=server.system, timeline=server.timeline,
-            started=server.started, database=server.database, slot=self.options.slot, position=max(position, known.position),
+            started=server.started, database=database, slot=self.options.slot, position=max(position, known.position),
+            encrypted=trust.OWN.was_encrypted,
         )
 
     def check_slot(self, position: int, check: Check) -> None:

@@ -28,6 +28,19 @@ def printed_float(value: float, is_short: bool) -> str:
     return "-" * sign + placed(text, last, 6 if is_short else 15)
 
 
+def stored_float(value: float, is_short: bool) -> str:
+    """A number of 8 bytes as the server prints that which it is stored for: read from the digits that the
+    server prints, or of 4 bytes. Any other, which no server has sent, as Python prints it."""
+    if not math.isfinite(value):
+        return repr(value)
+    try:
+        text = printed_float(value, is_short)
+        exact = struct.unpack(">f", struct.pack(">f", value))[0] if is_short else value
+    except OverflowError:
+        return repr(value)
+    return text if value in (exact, float(text)) else repr(value)
+
+
 def placed(text: str, last: int, most: int) -> str:
     """Digits, of which the last one counts 10 to the power of `last`."""
     power = len(text) + last - 1

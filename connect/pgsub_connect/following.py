@@ -18,24 +18,29 @@ from .awake import NEEDED, Awake, processors
 from .checkpoint import Checkpoint
 from .confirming import Confirming
 from .differences import PUBLICATION
-from .errors import LOGIN, FileError, FilterFault, Passing, ServerError, Stopped, Unconnected, Unfit
+from .errors import LOGIN, FileError, FilterFault, Passing, Renewed, ServerError, Stopped, Unconnected, Unfit
 from .feeding import Feeding
 from .filtering import MISSED, PIECE, Filter, FilterEnded
 from .fitting import Fitting
 from .found import NOTHING, About
+from .gating import LOOK as GATE
+from .gating import WAITED, Gating
+from .losing import Repeats, lost_error
 from .missing import Misses
 from .noting import Noting
 from .postgres import COPY_BOTH, Connection
 from .progress import Progress
+from .publishing import with_cure
 from .recording import Aside
 from .remembered import Remembered
 from .repairing import Repairing
 from .server import (
-    ABORTS_IN_VERSION_1, STREAMS, Server, identify, is_lost, log_end, postmaster_start, sender_timeout, settle, tell_plain_text,
+    ABORTS_IN_VERSION_1, STREAMS, Server, identify, is_lost, log_end, postmaster_start, sender_timeout, settle,
     tell_version_1, waits_for,
 )
 from .skipping import Skipping
 from .snapshots import SOON, Snapshots
+from .standing import Standing
 from .texts import counted, identifier, lsn_text, replication_literal
 from .watching import Watch
 
@@ -74,6 +79,8 @@ class Follower:
         self.was_connected = False
         self.proto, self.streams = options.proto, options.proto >= 2
         self.delay = 0.0
+        # whether another session is to begin at once in place of the last one
+        self.is_renewed = False
         self.heartbeat = options.heartbeat
         self.noting = Noting(progress, remembered)
         self.watch = Watch(options, checkpoint, progress, remembered)
@@ -84,7 +91,10 @@ class Follower:
         self.adder = Adder(options, checkpoint, progress, remembered, self.watch, self.noting, confirming, snapshots.hold, self)
         self.repairing = Repairing(options, checkpoint, progress, remembered, self.watch, self.noting, confirming, snapshots, self)
         snapshots.adds, snapshots.is_streaming, snapshots.reached = self.adder.take, self.is_streaming, confirming.reached
-        self.kills = sizes.Kills()
+        snapshots.delays_commits = progress.note_standbys
+        self.gating = Gating(options, progress, snapshots.hold, self.serve_server, self.let_go)
+        self.kills, self.repeats = sizes.Kills(), Repeats(options)
+        self.standing = Standing(child, progress)
         # when the server was heard last, as far as anything of it was waited for
         self.heard = time.monotonic()
         self.until = options.until if isinstance(options.until, int) else None
@@ -139,11 +149,13 @@ class Follower:
         """
         is_of_connecting = isinstance(error, Unconnected) or error.sqlstate.startswith(LOGIN)
         if error.is_lasting() and not (self.was_connected and is_of_connecting):
-            raise error
+            raise with_cure(error, self.options.publication)
         if not (self.was_connected or error.sqlstate):
             raise Passing(str(error))
         log.warning(f"{error}")
         self.progress.last_error = str(error)
+        self.repeats.note(error, self.confirming.position)
+        self.is_renewed = isinstance(error, Renewed)
         if error.sqlstate == INTERNAL:
             self.stop_streaming("the server can't stream a large transaction")
 
@@ -201,7 +213,7 @@ class Follower:
         state, self.progress.state = self.progress.state, "copying the store"
         with contextlib.suppress(Stopped):
             # (whoever has called this sees that, and ends)
-            self.snapshots.take(self.confirming.position, self.serve_server)
+            self.snapshots.take(self.confirming.position, self.serve_copy)
         self.progress.state = state
         return self.snapshots.hold.stops()
 
@@ -246,18 +258,21 @@ class Follower:
 
     def wait(self) -> None:
         """Waits before the next session, each time longer, and serves the filter meanwhile."""
+        if self.is_renewed:
+            self.is_renewed = False
+            return
         self.delay = min(2 * self.delay, LONGEST_DELAY) if self.delay else FIRST_DELAY
         if not self.stop_asked:
             self.progress.state = "waiting to connect again"
         until = time.monotonic() + self.delay
-        while not self.stop_asked and (left := until - time.monotonic()) > 0:
+        while not self.stop_asked and ((left := until - time.monotonic()) > 0 or self.standing.lasts()):
             self.progress.beat()
             self.holds_for_snapshot()
             if not self.filter.is_running():
-                time.sleep(min(left, SLEEP))
+                time.sleep(max(0.0, min(left, SLEEP)))
                 continue
             try:
-                self.confirming.note_statuses(self.serve(min(left, STEP))[2])
+                self.confirming.note_statuses(self.serve(min(left, STEP) if left > 0 else STEP)[2])
             except FilterEnded as ended:
                 self.note_end(ended)
             self.tend_misses()
@@ -269,8 +284,6 @@ class Follower:
         connection = Connection(options.dsn, replication=True, name=options.slot, check=self.check_stop)
         self.connection = connection
         settle(connection)
-        if not self.was_connected:
-            tell_plain_text(connection)
         server = identify(connection)
         self.progress.note_server(connection.version(), server.timeline)
         self.progress.server_started, self.progress.is_standby = server.started, server.is_standby
@@ -283,6 +296,7 @@ class Follower:
         # (what comes later isn't what was accepted)
         options.accept = []
         self.was_connected = True
+        self.standing.begin_session()
         self.progress.sessions += 1
         log.info(f"following slot {options.slot} from {lsn_text(max(at, slot_at))}")
         if self.recording:
@@ -328,7 +342,7 @@ class Follower:
         except ServerError as error:
             if server.is_standby and error.sqlstate.startswith(NOT_AT_STANDBYS) and not is_lost(connection, self.options.slot):
                 raise ServerError(f"the server is a standby: {error}") from None
-            raise
+            raise lost_error(connection, self.options, error) if error.sqlstate else error from None
 
     def choose_protocol(self, version: int) -> None:
         """Chooses the version of the protocol, and has the filter read it.
@@ -399,6 +413,7 @@ class Follower:
             now = time.monotonic()
             self.heard = now - silent
             self.keep_alive(silent)
+            self.standing.check(self.options.silence, self.snapshots.hold.stops())
             if self.delay and now - began > 2 * self.heartbeat:
                 self.delay = 0.0
         self.end_session_by_ourselves()
@@ -414,7 +429,25 @@ class Follower:
             self.renew(connection)
             return True
         self.adder.step()
+        self.gating.step()
         return False
+
+    def let_go(self, why: str) -> None:
+        """Goes on, whatever the stream is held for."""
+        hold = self.snapshots.hold
+        if hold.keeps:
+            self.repairing.give_up(why, False, delays=True)
+        elif hold.into:
+            self.snapshots.answer(hold.into, why)
+            hold.end()
+        else:
+            self.adder.let_go(why)
+
+    def serve_copy(self) -> None:
+        """Keeps the server content while the store is copied. Ends one for which commits have waited for too long."""
+        self.serve_server()
+        if self.gating.is_over():
+            raise OSError(0, WAITED)
 
     def awake(self) -> Awake | None:
         """Waits for what the filter says of a commit, or for the next one, where commits at the server wait for that."""
@@ -430,6 +463,8 @@ class Follower:
             wait = min(wait, confirming.quiet() - (time.monotonic() - confirming.last_moved))
         if self.snapshots.hold.into:
             wait = min(wait, SOON)
+        if self.snapshots.hold.is_gated():
+            wait = min(wait, GATE)
         return max(0.0, min(wait, STEP))
 
     def is_over(self) -> bool:
@@ -451,8 +486,10 @@ class Follower:
     def renew(self, connection: Connection) -> None:
         """Ends a session so that another one begins, with whole transactions where rows come from here, or again without."""
         log.info("a session begins anew, because of rows that are added or repaired")
-        self.delay = 0.0
+        self.delay, self.is_renewed = 0.0, True
         connection.end_copy()
+        # (the slot is in use as long as the server hasn't heard it)
+        connection.drain(STEP)
 
     def attend(self) -> None:
         """Keeps server and filter content in a session while something else is waited for."""
@@ -462,6 +499,7 @@ class Follower:
             self.misses.tell()
         self.require_server()
         self.keep_alive(0.0)
+        self.standing.check(self.options.silence)
 
     def require_server(self) -> None:
         """Asks the server on another connection whether it is there, where nothing has come for too long: of the session nothing is read
@@ -500,7 +538,7 @@ class Follower:
         payloads, more = (hold.take_kept(), True) if hold.kept else connection.payloads(self.filter.room(), PIECE)
         if not payloads:
             return more
-        if hold.point is not None:
+        if hold.limit() is not None:
             payloads = hold.passing(payloads, bool(self.noting.begun))
         recorded = payloads
         if self.adder.leaving.points:
@@ -557,6 +595,7 @@ class Follower:
                     self.confirming.pass_on(status)
                 if time.monotonic() - self.confirming.last_sent >= self.heartbeat:
                     self.confirming.repeat()
+                self.standing.check(self.options.silence, ends=True)
         except FilterEnded as ended:
             self.confirming.release()
             check_end(ended)
@@ -577,8 +616,10 @@ class Follower:
 
     def disconnect(self) -> None:
         self.confirming.end_session()
+        self.progress.is_unread = False
         self.adder.end_session()
         self.repairing.end_session()
+        self.gating.end_session()
         self.snapshots.hold.end_session()
         self.watch.finish()
         if self.connection:

@@ -17,7 +17,8 @@ above, since a server says there up to where it has read its log and sent what c
 they hold isn't in the store.
 
 The stream is held before the slot is made, so P is above all that was passed on: its record is written later than each commit that the
-server has sent. No frame is made up or left out, and statuses go on meanwhile.
+server has sent. Where commits at the server wait for the follower, it goes on up to a gate, as the module `gating` says, which P is above.
+No frame is made up or left out, and statuses go on meanwhile.
 
 The request is a dialog in the file `STORE.request`, which is locked (flock) by whoever asks: with the lock goes the hold.
 
@@ -25,6 +26,8 @@ The request is a dialog in the file `STORE.request`, which is locked (flock) by 
 |---|---|---|
 | `into` | verify | the file to copy to, as in any request |
 | `hold` | verify | for how many seconds at most the stream may be held until `point` is there |
+| `maker` | verify | the process at the server that makes the slot |
+| `standbys` | verify | the server's `synchronous_standby_names` |
 | `held` | the follower | nothing is passed on from now on; its position |
 | `point` | verify | P: the stream goes on up to there, then the copy is taken, and the request goes |
 
@@ -39,6 +42,7 @@ Where rows are to be repaired, as the module `repairing` says, the request has `
 from __future__ import annotations
 
 import contextlib
+import errno
 import fcntl
 import json
 import os
@@ -46,6 +50,7 @@ import time
 from collections.abc import Sequence
 from typing import Any
 
+from .jsontexts import Unreadable, object_of, open_plain, parsed, read_whole
 from .noting import BEGIN, COMMIT, STREAM_COMMIT, final_lsn
 
 # The most seconds that a request may ask for.
@@ -68,32 +73,48 @@ class Hold:
         # are to be passed on, None as long as these aren't told; and whether they were passed on
         self.keeps = self.is_copied = self.is_sent = False
         self.tables: list[int] | None = None
-        # whether all commits up to the point have come in this session, and what came behind them
-        self.is_there = False
+        # where commits wait for the follower: the process that makes the slot, and what may pass until that is made
+        self.maker = 0
+        self.gate: int | None = None
+        # whether all commits up to the point, or to the gate, have come in this session, and what came behind them
+        self.is_there = self.is_at_gate = False
         self.kept: list[bytes] = []
 
-    def begin(self, into: str | None, seconds: float, keeps: bool = False) -> None:
-        """Nothing is passed on from now on."""
+    def begin(self, into: str | None, seconds: float, keeps: bool = False, maker: int = 0) -> None:
+        """Nothing is passed on from now on, or as far as a gate lets it."""
         self.end()
-        self.is_held, self.into, self.keeps = True, into, keeps
+        self.is_held, self.into, self.keeps, self.maker = True, into, keeps, maker
         self.until = time.monotonic() + seconds
 
     def go(self, point: int) -> None:
         """What was committed up to this LSN is passed on."""
-        self.point = point
+        self.point, self.is_at_gate = point, False
+
+    def open_to(self, gate: int) -> None:
+        """What was committed below this LSN is passed on until the point is known."""
+        self.gate, self.is_at_gate = gate, False
+
+    def is_gated(self) -> bool:
+        """Whether the point isn't known, and what is below it for certain is passed on."""
+        return self.is_held and self.point is None and self.maker > 0
+
+    def limit(self) -> int | None:
+        """The LSN up to which payloads are passed on, None where there is none."""
+        return self.gate if self.point is None else self.point
 
     def end(self) -> None:
         """All goes on, with what was kept back."""
         self.is_held, self.into, self.point, self.is_there = False, None, None, False
+        self.maker, self.gate, self.is_at_gate = 0, None, False
         self.keeps, self.is_copied, self.is_sent, self.tables = False, False, False, None
 
     def end_session(self) -> None:
         """The server sends again what was kept back, and what the filter may have lost."""
-        self.kept, self.is_there = [], False
+        self.kept, self.is_there, self.is_at_gate = [], False, False
 
     def stops(self) -> bool:
         """Whether nothing may be passed on now."""
-        return self.is_held and (self.point is None or self.is_there)
+        return self.is_held and (self.is_there or self.is_at_gate or self.limit() is None)
 
     def is_for_copy(self) -> bool:
         """Whether it is held for a copy that somebody has asked for."""
@@ -109,10 +130,14 @@ class Hold:
 
     def passing(self, payloads: list[bytes], is_inside: bool) -> list[bytes]:
         """Those that are to be passed on; the rest is kept. `is_inside`: they begin between a Begin and its Commit."""
-        if self.point is None:
+        limit = self.limit()
+        if limit is None:
             return payloads
-        count = count_below(payloads, self.point, is_inside)
+        count = count_below(payloads, limit, is_inside)
         self.kept = payloads[count:]
+        if self.point is None:
+            self.is_at_gate = bool(self.kept)
+            return payloads[:count]
         self.is_there = bool(self.kept)
         if not self.keeps:
             return payloads[:count]
@@ -143,16 +168,27 @@ def count_below(payloads: Sequence[bytes], point: int, is_inside: bool) -> int:
 
 
 def read_locked(path: str) -> tuple[dict[str, Any], bool] | None:
-    """A request's fields, none where it is being written, and whether whoever asks is alive; None where there is no request."""
+    """A request's fields, none where it is being written, and whether whoever asks is alive; None where there is no request, or it is of
+    another account."""
     try:
-        with open(path, encoding="utf-8") as file:
-            is_alive = is_locked(file.fileno())
-            with contextlib.suppress(ValueError):
-                found = json.load(file)
-                return (found if isinstance(found, dict) else {}), is_alive
-            return {}, is_alive
+        file = open_plain(path, follows=False)
+    except (OSError, Unreadable):
+        return None
+    try:
+        is_own = os.fstat(file).st_uid in (os.geteuid(), 0)
+        return (read_fields(file), is_locked(file)) if is_own else None
     except OSError:
         return None
+    finally:
+        os.close(file)
+
+
+def read_fields(file: int) -> dict[str, Any]:
+    """An open request's fields; none where it is being written."""
+    try:
+        return object_of(parsed(read_whole(file)))
+    except Unreadable:
+        return {}
 
 
 def is_locked(file: int) -> bool:
@@ -166,10 +202,28 @@ def is_locked(file: int) -> bool:
 
 
 def write_request(path: str, **fields: object) -> None:
-    """Changes a request in place, so that its lock stays. One that is gone isn't made anew."""
+    """Changes a request in place, so that its lock stays. One that is gone isn't made anew, and
+    nothing else is written that has its name."""
+    try:
+        file = os.open(path, os.O_WRONLY | os.O_NOFOLLOW | os.O_NONBLOCK | os.O_CLOEXEC)
+    except OSError as error:
+        if error.errno in (errno.ENOENT, errno.ELOOP, errno.ENXIO):
+            return
+        raise
+    try:
+        rewrite(file, fields)
+    finally:
+        os.close(file)
+
+
+def write_own_request(path: str, file: int, **fields: object) -> None:
+    """The same, of a request that is open here: whatever has its name by then stays."""
     with contextlib.suppress(FileNotFoundError):
-        file = os.open(path, os.O_WRONLY | os.O_TRUNC | os.O_CLOEXEC)
-        try:
-            os.write(file, json.dumps(fields).encode())
-        finally:
-            os.close(file)
+        if os.path.samestat(os.lstat(path), os.fstat(file)):
+            rewrite(file, fields)
+
+
+def rewrite(file: int, fields: dict[str, object]) -> None:
+    """Puts an object into an open file."""
+    os.ftruncate(file, 0)
+    os.pwrite(file, json.dumps(fields).encode(), 0)

@@ -14,7 +14,7 @@ from types import MappingProxyType
 from typing import NamedTuple
 
 from . import log
-from .errors import ServerError
+from .errors import ServerError, Unfit, understood
 from .postgres import Check, Connection
 from .publishing import EXACT, FINE, UNIQUE
 from .texts import counted, identifier, literal
@@ -90,6 +90,7 @@ def publishable(version: int) -> str:
     )
 
 
+@understood("tables")
 def publishable_tables(connection: Connection) -> list[str]:
     """Their names for SQL."""
     rows = connection.rows(
@@ -107,15 +108,17 @@ def tree_of(connection: Connection, source: str) -> str:
     return f"(SELECT s.relid, b.part FROM ({source}) s, LATERAL {below} b)"
 
 
+@understood("replica identities")
 def keyless_of(connection: Connection, source: str, stored: bool = False) -> dict[int, str]:
     """The tables among those of a query, and the partitions below them, that have no usable replica identity: OID and name.
 
-    Each partition's own identity counts. A partitioned table counts where it has no partitions yet.
+    Each partition's own identity counts, but of those that are unlogged. A partitioned table counts where it has no partitions yet.
     """
     rows = connection.rows(
         f"SELECT DISTINCT c.oid, n.nspname, c.relname FROM {tree_of(connection, source)} t"
         " JOIN pg_catalog.pg_class c ON c.oid = t.part JOIN pg_catalog.pg_namespace n ON n.oid = c.relnamespace"
-        " WHERE (c.relkind = 'r' OR c.relkind = 'p' AND NOT EXISTS (SELECT FROM pg_catalog.pg_inherits h WHERE h.inhparent = c.oid))"
+        " WHERE (c.relkind = 'r' AND c.relpersistence = 'p'"
+        " OR c.relkind = 'p' AND NOT EXISTS (SELECT FROM pg_catalog.pg_inherits h WHERE h.inhparent = c.oid))"
         f" AND NOT {identity(connection.version(), stored)} ORDER BY 2, 3"
     )
     return {int(oid or 0): f"{namespace}.{name}" for oid, namespace, name in rows}
@@ -137,6 +140,7 @@ def keyless_tables(connection: Connection, name: str) -> dict[int, str]:
     return keyless_of(connection, members(name), stored == "s")
 
 
+@understood("replica identities")
 def rejected_tables(connection: Connection, name: str) -> dict[int, str]:
     """The tables of which the server rejects Deletes, since a publication that was just made has them. Nothing is deleted.
 
@@ -173,6 +177,7 @@ class Listed(NamedTuple):
     whole: str
 
 
+@understood("a publication")
 def listed_above(connection: Connection, name: str, oids: list[int]) -> list[Listed]:
     """What a publication lists of these tables, or above them."""
     fine = connection.version() >= FINE
@@ -196,6 +201,7 @@ def listed_above(connection: Connection, name: str, oids: list[int]) -> list[Lis
     return found
 
 
+@understood("a publication")
 def kinds_left_out(connection: Connection, name: str) -> list[str]:
     """The kinds of changes that a publication doesn't have."""
     kinds = ["insert", "update", "delete", *(["truncate"] if connection.version() >= 110000 else [])]
@@ -204,10 +210,12 @@ def kinds_left_out(connection: Connection, name: str) -> list[str]:
     return [kind for kind, has in zip(kinds, rows[0], strict=True) if has != "t"] if rows else []
 
 
+@understood("a publication")
 def oid_of(connection: Connection, name: str) -> int:
     return int(connection.value(f"SELECT p.oid FROM pg_catalog.pg_publication p WHERE p.pubname = {literal(name)}") or 0)
 
 
+@understood("a publication")
 def content_of(connection: Connection, name: str) -> set[str]:
     """What a publication lists, each as a text that says it to a reader."""
     fine = connection.version() >= FINE
@@ -231,6 +239,7 @@ def content_of(connection: Connection, name: str) -> set[str]:
     return {row[0] or "" for row in connection.rows(query)}
 
 
+@understood("slots")
 def other_slots(connection: Connection, slot: str) -> list[str]:
     """Other slots of this database by which a publication may be followed."""
     rows = connection.rows(
@@ -273,12 +282,13 @@ class Maker:
             connection = self.connection
             connection.check = Waiting(self.dsn, self.name, self.check, lock_text("the publication", connection.pid())).check
             self.path = connection.value("SELECT pg_catalog.current_setting('search_path')") or ""
-            # (the follower may be the standby for which a commit would wait)
-            connection.run(
-                "BEGIN; SET LOCAL synchronous_commit = local; SET LOCAL search_path = ''; SET LOCAL statement_timeout = 0;"
-                " SET LOCAL lock_timeout = 0"
-            )
             self.is_standby = connection.value("SELECT pg_catalog.pg_is_in_recovery()") == "t"
+            # (whatever default_transaction_read_only says. The follower may be the standby for which
+            # a commit would wait)
+            connection.run(
+                f"BEGIN{'' if self.is_standby else ' READ WRITE'}; SET LOCAL synchronous_commit = local;"
+                " SET LOCAL search_path = ''; SET LOCAL statement_timeout = 0; SET LOCAL lock_timeout = 0"
+            )
             self.drop_left(connection)
             for name in self.wanted.publications:
                 self.see_to(name, before)
@@ -396,7 +406,7 @@ class Maker:
 
     def content_asked(self, name: str) -> tuple[set[str], set[str]]:
         """What a publication of --table would list, and what of that has no replica identity. It is made for that, and undone."""
-        connection, trial = self.connection, f"{name[:40]}_trial_{secrets.token_hex(4)}"
+        connection, trial = self.connection, f"{cut(name)}_trial_{secrets.token_hex(4)}"
         connection.run("SAVEPOINT trial")
         try:
             self.create(trial, f"TABLE {', '.join(self.wanted.tables)}")
@@ -416,6 +426,7 @@ class Maker:
         if not self.made:
             return
         until = time.monotonic() + LIMIT
+        log.info(f"dropping {', '.join(self.made)} again, which may take {LIMIT:.0f} seconds")
 
         def check() -> None:
             if time.monotonic() > until:
@@ -427,7 +438,7 @@ class Maker:
                 drop_publications(connection, self.made)
             finally:
                 connection.close()
-        except ServerError as error:
+        except (ServerError, Unfit) as error:
             log.warning(f"made and not dropped again, {error}: {', '.join(f'DROP PUBLICATION {identifier(it)}' for it in self.made)}")
         self.made = {}
 
@@ -435,6 +446,11 @@ class Maker:
         """What was made stays."""
         made, self.made = self.made, {}
         return made
+
+
+def cut(name: str) -> str:
+    """So much of a name that another one, which begins with it, is none that the server cuts."""
+    return name.encode()[:40].decode(errors="ignore")
 
 
 def inserts_of(name: str) -> str:
@@ -447,7 +463,7 @@ def drop_publications(connection: Connection, made: dict[str, int]) -> None:
     for name, oid in made.items():
         rows = connection.rows(f"SELECT p.pubname FROM pg_catalog.pg_publication p WHERE p.oid = {oid} AND p.pubname = {literal(name)}")
         if rows:
-            connection.run(f"BEGIN; SET LOCAL synchronous_commit = local; DROP PUBLICATION {identifier(name)}; COMMIT")
+            connection.run(f"BEGIN READ WRITE; SET LOCAL synchronous_commit = local; DROP PUBLICATION {identifier(name)}; COMMIT")
             log.info(f"dropped the publication {name}")
 
 

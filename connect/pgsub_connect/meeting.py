@@ -8,20 +8,23 @@ from __future__ import annotations
 import contextlib
 import os
 import time
-from collections.abc import Iterable
+from collections.abc import Iterable, Mapping
 from typing import TYPE_CHECKING
 
 from .checkpoint import FOLLOWING, Known
-from .copying import CHANGED, check_names, create_temporary
-from .errors import NoSlot, Passing, ServerError, Unfit, Unrepaired
-from .holding import CHANGES, write_request
+from .copying import CHANGED, SHORT, check_names, create_temporary
+from .errors import Delayed, NoSlot, Passing, ServerError, Unfit, Unrepaired
+from .holding import CHANGES, write_own_request
+from .naming import names_of
 from .postgres import Check, Connection
-from .publishing import Table, published_tables, stored_in
+from .publishing import Table, published_tables
 from .reading import GONE, LOCK_TIMEOUT, lock_tables, take_snapshot
 from .resting import LOOK, is_followed, own_name, put_request, read_request, remove_files, wait_for_copy
-from .server import identify, settle
+from .remembered import Remembered
+from .server import identify, is_same_database, settle
 from .snapshots import remove
 from .texts import lsn_text
+from .unchanged import ALTERED, changed, locked, there
 from .waiting import Waiting
 
 if TYPE_CHECKING:
@@ -44,9 +47,11 @@ class Request:
         self.more = {"repair": True} if repairs else {}
         self.file: int | None = None
 
-    def hold(self) -> None:
-        """Has the follower hold the stream."""
-        self.file = put_request(self.store, self.request, self.into, self.check, hold=self.seconds + MARGIN, **self.more)
+    def hold(self, maker: int = 0, standbys: str = "") -> None:
+        """Has the follower hold the stream. `maker`: the process at the server that makes the slot; `standbys`: for which standbys commits
+        wait there."""
+        fields = {"hold": self.seconds + MARGIN, "maker": maker, "standbys": standbys, **self.more}
+        self.file = put_request(self.store, self.request, self.into, self.check, **fields)
         if self.file is None:
             raise self.ended()
         until = time.monotonic() + PATIENCE
@@ -64,7 +69,12 @@ class Request:
 
     def tell(self, point: int) -> None:
         """Lets the stream go on up to this LSN, where the copy is taken."""
-        write_request(self.request, into=self.into, hold=self.seconds + MARGIN, held="", point=lsn_text(point), **self.more)
+        self.write(hold=self.seconds + MARGIN, held="", point=lsn_text(point))
+
+    def write(self, **fields: object) -> None:
+        """Changes the request."""
+        if self.file is not None:
+            write_own_request(self.request, self.file, into=self.into, **fields, **self.more)
 
     def copied(self) -> str:
         """Waits for the copy, and returns its path."""
@@ -74,15 +84,21 @@ class Request:
 
     def pass_on(self, tables: list[int]) -> None:
         """Has the follower pass on the changes of tables that are in the file, and waits until the store has them."""
-        write_request(self.request, into=self.into, held="", copied="", tables=tables, **self.more)
-        while (found := read_request(self.request)).get("into", self.into) == self.into and os.path.exists(self.request):
-            if "error" in found:
-                kind = Unrepaired if found.get("lasts") else Passing
-                raise kind(f"{self.store}: its follower repaired nothing: {found['error']}")
+        self.check_error()
+        self.write(held="", copied="", tables=tables)
+        while read_request(self.request).get("into", self.into) == self.into and os.path.exists(self.request):
+            self.check_error()
             if not is_followed(self.store):
                 raise Passing(f"{self.store} isn't followed any more: compare again, to see whether it is repaired")
             self.check()
             time.sleep(LOOK)
+
+    def check_error(self) -> None:
+        """Raises where the follower has said that it repairs nothing."""
+        found = read_request(self.request)
+        if "error" in found and found.get("into") == self.into:
+            kind = Unrepaired if found.get("lasts") else Delayed if found.get("delays") else Passing
+            raise kind(f"{self.store}: its follower repaired nothing: {found['error']}")
 
     def changes(self) -> str:
         """The path of the file with changes."""
@@ -118,7 +134,8 @@ class Source:
             # the OID of the table that alone is looked at, 0 for all
             self.only = 0
             self.tables = self.published()
-            self.stored = stored_in(self.plain, self.tables)
+            # those that can't be read as the snapshot has them, and why, where the others are read
+            self.left: dict[int, str] = {}
             self.encoding = self.plain.text("SELECT pg_catalog.current_setting('server_encoding')")
         except BaseException:
             self.close()
@@ -137,13 +154,25 @@ class Source:
         server = identify(self.replication)
         timeline = known.timeline and server.timeline
         ours, theirs = (known.system, known.database, known.timeline), (server.system, server.database, timeline)
-        if ours != theirs:
+        is_same = is_same_database(known.database, Remembered(self.options.store).database, server)
+        if not is_same or (ours[0], ours[2]) != (theirs[0], theirs[2]):
             names = ("the server {}, database {}, timeline {}".format(*it) for it in (ours, theirs))
             raise Unfit("the store follows {}, and this is {}".format(*names))
 
-    def make_slot(self, seconds: float) -> tuple[int, str]:
-        """Makes a temporary slot; its consistent point and its snapshot. Raises where that takes longer than so many seconds."""
-        until, waiting = time.monotonic() + seconds, Waiting(self.options.dsn, self.options.slot, self.check)
+    def maker(self) -> int:
+        """The process at the server that makes the slot."""
+        return self.replication.pid()
+
+    def standbys(self) -> str:
+        """For which standbys commits wait."""
+        return self.plain.text("SHOW synchronous_standby_names")
+
+    def make_slot(self, seconds: float, check_end: Check | None = None) -> tuple[int, str]:
+        """Makes a temporary slot; its consistent point and its snapshot. Raises where that takes longer than so many seconds.
+
+        `check_end`: what is called meanwhile in place of what else is.
+        """
+        until, waiting = time.monotonic() + seconds, Waiting(self.options.dsn, self.options.slot, check_end or self.check)
         # (said in time for the end)
         waiting.next = min(waiting.next, until - 1)
 
@@ -163,27 +192,51 @@ class Source:
             self.replication.check = self.check
         return point, snapshot
 
-    def see(self, snapshot: str) -> None:
-        """Begins the transaction, in which no published table can be altered. Those that were meanwhile end the comparison."""
+    def see(self, snapshot: str, leaves: bool = False) -> None:
+        """Begins the transaction, in which no published table can be altered. Those that aren't any more what the snapshot has
+        end the comparison, or with `leaves` are left out."""
         plain = self.plain
         try:
             plain.run("BEGIN ISOLATION LEVEL REPEATABLE READ READ ONLY")
             take_snapshot(plain, snapshot)
-            self.lock()
-            if (self.published(), stored_in(plain, self.tables)) != (self.tables, self.stored):
-                raise ServerError(CHANGED)
-            check_names(self.options, self.tables, self.check)
+            self.lock(leaves)
+            # (from 16 on the server opens each published table for it)
+            plain.run(f"SET LOCAL lock_timeout = {SHORT}")
+            self.leave(changed(plain, self.tables, self.published), leaves)
+            plain.run("SET LOCAL lock_timeout = 0")
+            self.leave(dict.fromkeys(self.renamed(self.tables), ALTERED), leaves)
         except ServerError as error:
             if str(error) == CHANGED or error.sqlstate in GONE:
                 raise Passing(f"{CHANGED}: nothing was compared") from None
+            if error.sqlstate == LOCK_TIMEOUT:
+                raise Passing("published tables are locked by others: nothing was compared") from None
             raise
         self.slot.close()
+
+    def leave(self, found: Mapping[int, str], leaves: bool) -> None:
+        """Leaves tables out, where that is wanted."""
+        if found and not leaves:
+            raise ServerError(CHANGED)
+        self.left.update(found)
+        self.tables = [it for it in self.tables if it.oid not in found]
+
+    def renamed(self, tables: list[Table]) -> list[int]:
+        """Those of which names are others now than in the snapshot."""
+        try:
+            check_names(self.options, tables, self.check)
+            return []
+        except ServerError as error:
+            if str(error) != CHANGED:
+                raise
+        if len(tables) == 1:
+            return [tables[0].oid]
+        half = len(tables) // 2
+        return [*self.renamed(tables[:half]), *self.renamed(tables[half:])]
 
     def narrow(self, oid: int) -> Table | None:
         """Looks at one table alone from now on. Returns it, None where it isn't published."""
         self.only = oid
         self.tables = [it for it in self.tables if it.oid == oid]
-        self.stored = stored_in(self.plain, self.tables)
         return self.tables[0] if self.tables else None
 
     def published(self) -> list[Table]:
@@ -191,24 +244,30 @@ class Source:
         found = published_tables(self.plain, self.options.publication)
         return [it for it in found if self.only in (0, it.oid)]
 
-    def lock(self) -> None:
+    def lock(self, leaves: bool) -> None:
         """Locks the tables. None is waited for while others are locked: that could end an application's transaction by a deadlock."""
         until = time.monotonic() + self.patience
         self.plain.run("SAVEPOINT unlocked")
-        while not self.has_locked():
+        while not self.has_locked(leaves):
             if time.monotonic() > until:
+                if leaves:
+                    self.leave({it.oid: why for it in self.tables if (why := locked(self.plain, it))}, leaves)
+                    return
                 raise Passing(f"published tables are locked by others for {self.patience:.0f} seconds: nothing was compared")
             self.check()
             time.sleep(LOOK)
 
-    def has_locked(self) -> bool:
-        """Locks all tables, or none where one of them is to be waited for."""
+    def has_locked(self, leaves: bool) -> bool:
+        """Locks all tables, or none where one of them is to be waited for, or is gone."""
         try:
             lock_tables(self.plain, self.tables, waits=False)
         except ServerError as error:
-            if error.sqlstate != LOCK_TIMEOUT:
+            if error.sqlstate != LOCK_TIMEOUT and not (leaves and error.sqlstate in GONE):
                 raise
             self.plain.run("ROLLBACK TO SAVEPOINT unlocked")
+            if error.sqlstate != LOCK_TIMEOUT:
+                here = there(self.plain, self.tables)
+                self.leave({it.oid: ALTERED for it in self.tables if it.oid not in here}, leaves)
             return False
         return True
 
@@ -223,7 +282,7 @@ class Source:
 
 def chosen(tables: Iterable[Table], names: list[str]) -> list[Table]:
     """The published tables with these names; those of the schema `public` have short ones too."""
-    known = {name: it for it in tables for name in ([it.name, it.text()] if it.namespace == "public" else [it.text()])}
+    known = {name: it for it in tables for name in names_of(it.namespace, it.name)}
     if unknown := [name for name in names if name not in known]:
         raise Unfit(f"there is no published table {unknown[0]}")
     return list({known[name].oid: known[name] for name in names}.values())

@@ -9,8 +9,8 @@ into a file, which the follower passes on as one transaction that ends there, as
 | REPLICA IDENTITY FULL | an Insert for each copy | a Delete by the old row for each copy | |
 | any other | an Insert for each copy | no change tells which one is meant | |
 
-A table is copied anew as a whole, as the module `adding` says, where no change tells which row is meant; where the copy has it under
-another definition; where a column list leaves out a part of its key, so that several rows have what is left; and where more than a share
+A table is copied anew as a whole, as the module `adding` says, where no change tells which row is meant, not to the copy or, without a
+key, not to who reads its feed, who may have other rows than the copy; where the copy has it under another definition; where a column list leaves out a part of its key, so that several rows have what is left; and where more than a share
 of its rows differs.
 """
 
@@ -24,6 +24,7 @@ from collections.abc import Iterator
 from . import log
 from .digests import Plan, Sums, fields_in
 from .messages import delete, insert, relation, update
+from .owning import give
 from .publishing import Table
 from .sides import Group, Sides
 from .texts import counted
@@ -65,8 +66,7 @@ class Changes:
         self.file = open(os.open(path, os.O_WRONLY | os.O_CREAT | os.O_EXCL | os.O_CLOEXEC, 0o600), "wb")
         if os.getuid() == 0:
             # (so that a follower of another account may read it)
-            owner = os.stat(store)
-            os.chown(path, owner.st_uid, owner.st_gid)
+            give(self.file.fileno(), os.stat(store))
         self.began = 0
 
     def begin(self, table: Table) -> None:
@@ -86,10 +86,11 @@ class Changes:
 
 
 class Mender:
-    """Writes the changes of tables. `written`: how many of each there are by letter; `left`: the tables that are to be copied anew."""
+    """Writes the changes of tables. `written`: how many of each there are by letter; `left`: the tables that are to be copied anew;
+    `is_fed`: whether the changes come into a feed, too."""
 
-    def __init__(self, sides: Sides, changes: Changes) -> None:
-        self.sides, self.changes = sides, changes
+    def __init__(self, sides: Sides, changes: Changes, is_fed: bool = False) -> None:
+        self.sides, self.changes, self.is_fed = sides, changes, is_fed
         self.written: dict[int, collections.Counter[bytes]] = {}
         self.left: list[Table] = []
 
@@ -117,6 +118,9 @@ class Mender:
         """Writes the changes of a table, or leaves it."""
         theirs = self.sides.sums(plan)
         if not (chunks := theirs.differing(ours)):
+            return
+        if self.is_fed and not plan.key:
+            self.leave(plan.table, "without a key no change tells readers of the feed which row is meant")
             return
         many, few = max(theirs.total(), ours.total()), min(theirs.total(), ours.total())
         most = max(FEW, many // SHARE)

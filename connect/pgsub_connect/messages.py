@@ -10,6 +10,7 @@ import re
 import struct
 from collections.abc import Sequence
 
+from .errors import WrongAnswer
 from .publishing import Table
 
 NULL = b"\\N"
@@ -128,6 +129,8 @@ def inserts(lines: list[bytes], heads: InsertHeads) -> bytes:
         return heads[0] * len(lines)
     block = b"".join(lines)
     texts = block[:-1].replace(b"\n", b"\t").split(b"\t")
+    if len(texts) != width * len(lines):
+        raise WrongAnswer(f"the server copied rows of another width than {width} columns")
     step, extra = 2 * width + 1, 4 * width
     parts = [b""] * (len(lines) * step)
     if b"\\" in block:

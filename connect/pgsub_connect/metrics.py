@@ -64,6 +64,7 @@ def metrics(progress: Progress, now: float) -> Iterator[Metric]:
         yield Metric("pgsub_reader_lag_bytes", GAUGE, "How much of the server's log a reader of the feed lacks that the store has.", lags)
         yield Metric("pgsub_reader_lsn", GAUGE, "LSN up to which a reader of the feed has all.", [({"reader": name}, lsn) for name, lsn in readers])
         yield one("pgsub_tables_failed", GAUGE, "Whether the tables that follow the feed have ended by a fault.", int(bool(progress.tables_error)))
+        yield one("pgsub_tables_aside", GAUGE, "How many of them are set aside until their rows come anew.", len(progress.tables_aside))
     yield one("pgsub_changes_total", COUNTER, "Changes that were passed on.", progress.passed_changes)
     yield one("pgsub_commits_total", COUNTER, "Commits that were passed on.", progress.passed_commits)
     yield one("pgsub_sessions_total", COUNTER, "Sessions with the server.", progress.sessions)

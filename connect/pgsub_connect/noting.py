@@ -1,16 +1,20 @@
 """What is noted of the payloads that are passed on: counts, the ends of commits, and of the transactions that are under way which
 tables their changes touch and how these are described.
 
-What is done for a change is little: it is counted for its table, and nothing of it is kept. PROTOCOL.md has the layouts; the letter
-is byte 25 of an XLogData, and in a block the xid of who made a change or sent a Relation follows it.
+What is done for a change is little: it is counted for its table, and nothing of it is kept. So memory goes by the tables that a transaction
+changes and by what describes them, and not by its bytes: tests/test_noting_memory.py says how much that is for each kind of message.
+
+PROTOCOL.md has the layouts; the letter is byte 25 of an XLogData, and in a block the xid of who made a change or sent a Relation follows
+it.
 """
 
 from __future__ import annotations
 
 import collections
+import itertools
 import struct
 import time
-from collections.abc import Sequence
+from collections.abc import Callable, Sequence
 
 from .catalog import Column, Shape
 from .progress import Progress
@@ -22,6 +26,13 @@ START, STOP, STREAM_COMMIT, ABORT = b"SEcA"
 CHANGES = b"IUD"
 # Where the OID of a change ends, outside of a block and in one.
 OUTSIDE, INSIDE = 30, 34
+# The letter under which a TRUNCATE is counted for a table: the count of relations, which follows that of the message, is no OID. And the
+# OID under which it is for all tables that aren't known.
+TRUNCATED, UNKNOWN = b"t", bytes(4)
+# How many OIDs are looked at together.
+AT_ONCE = 1024
+# How many bytes of a Begin or Stream Commit are read, and of any message: its LSN.
+HEAD, AT = 55, 17
 # How many tables a text names.
 NAMED = 5
 # 2000-01-01, from which the server counts, in seconds since 1970.
@@ -33,12 +44,51 @@ EPOCH = 946684800
 Passed = tuple[bytes, dict[bytes, int], bool, int]
 
 
+class Described:
+    """The Relation messages of a transaction that is under way, in order: each with who sent it, b"" outside of blocks."""
+
+    __slots__ = ("bodies", "makers", "oids", "listed")
+
+    def __init__(self) -> None:
+        self.bodies: list[tuple[bytes, bytes]] = []
+        # how many of them each one has sent
+        self.makers: dict[bytes, int] = {}
+        # the OIDs of as many of them as `listed` says
+        self.oids: set[int] | None = None
+        self.listed = 0
+
+    def add(self, maker: bytes, body: bytes) -> None:
+        if self.bodies and self.bodies[-1][0] == maker:
+            maker = self.bodies[-1][0]
+        self.bodies.append((maker, body))
+        self.makers[maker] = self.makers.get(maker, 0) + 1
+
+    def has(self, oid: int) -> bool:
+        """Whether one of them is of this table, or was before it was rolled back."""
+        self.oids = self.oids or set()
+        self.oids.update(number(body[:4]) for _, body in itertools.islice(self.bodies, self.listed, None))
+        self.listed = len(self.bodies)
+        return oid in self.oids
+
+    def abort(self, maker: bytes) -> None:
+        """Drops those of a subtransaction, which mostly are the last ones."""
+        left = self.makers.pop(maker, 0)
+        while left and self.bodies[-1][0] == maker:
+            self.bodies.pop()
+            left -= 1
+        if left:
+            self.bodies = [it for it in self.bodies if it[0] != maker]
+        self.listed = min(self.listed, len(self.bodies))
+
+
 class Streamed:
-    """A transaction that comes in blocks: its changes, its Relation messages with who sent each, and its bytes so far."""
+    """A transaction that comes in blocks: its changes, its Relation messages, and its bytes so far."""
+
+    __slots__ = ("counts", "relations", "size", "about")
 
     def __init__(self) -> None:
         self.counts: dict[bytes, int] = {}
-        self.relations: list[tuple[bytes, bytes]] = []
+        self.relations = Described()
         self.size = 0
         self.about = False
 
@@ -48,9 +98,13 @@ class Streamed:
             key = key[:1] + key[5:]
             self.counts[key] = self.counts.get(key, 0) + count
 
+    def has_items(self) -> bool:
+        """Whether anything of it is buffered. One of which nothing is costs the filter nothing of a limit, so it isn't kept here."""
+        return bool(self.counts or self.relations.bodies)
+
     def abort(self, subxid: bytes) -> None:
         """Drops what a subtransaction described. What it changed can't be told from the rest."""
-        self.relations = [it for it in self.relations if it[0] != subxid]
+        self.relations.abort(subxid)
         self.about = True
 
 
@@ -77,6 +131,7 @@ class Noting:
     def begin_session(self) -> None:
         """Forgets the transactions of a session that has ended."""
         self.open: dict[int, Streamed] = {}
+        self.xid = 0
         self.described: dict[int, list[bytes]] = {}
         # the length of the longest message, where it is one of the long ones
         self.longest = 0
@@ -94,7 +149,7 @@ class Noting:
         """Between transactions. What comes here is out of order, which the filter tells."""
         self.current: Streamed | None = None
         self.counts = {}
-        self.relations: list[tuple[bytes, bytes]] = []
+        self.relations = Described()
         self.end = OUTSIDE
 
     def note_all(self, payloads: Sequence[bytes]) -> None:
@@ -110,7 +165,7 @@ class Noting:
             if letter in CHANGES:
                 counts[key] = 1
             elif letter == BEGIN:
-                self.begun, self.began = payload, total
+                self.begun, self.began = payload[:HEAD], total
                 self.counts = counts = {}
             elif letter == COMMIT:
                 self.changes += sum(counts.values())
@@ -118,7 +173,7 @@ class Noting:
                 self.ends.append(int.from_bytes(payload[35:43], "big"))
                 self.passed.append(passed)
                 self.commits += 1
-                if self.relations or self.described:
+                if self.relations.bodies or self.described:
                     self.describe(passed, self.relations)
                 self.begun = b""
                 self.counts = counts = {}
@@ -126,10 +181,10 @@ class Noting:
                 self.total = total
                 self.note_other(letter, payload)
                 counts, end = self.counts, self.end
-            elif payload[-1] == 1:
+            elif payload[17:] == b"\1":
                 self.asked = number(payload[1:9])
         self.total = total
-        self.last = payloads[-1] if payloads else self.last
+        self.last = payloads[-1][:AT] if payloads else self.last
 
     def note_rows(self, oid: int, count: int, size: int) -> None:
         """Notes Inserts of a table in the transaction that is under way, of so many bytes together."""
@@ -139,19 +194,29 @@ class Noting:
 
     def note_other(self, letter: int, payload: bytes) -> None:
         if letter == RELATION:
-            self.relations.append((payload[26:30], payload[self.end - 4 :]))
+            self.note_relation(payload)
         elif letter == TRUNCATE:
-            head, oids = payload[25 : self.end - 4], payload[self.end + 1 :]
-            for at in range(0, len(oids) - 3, 4):
-                key = head + oids[at : at + 4]
-                self.counts[key] = self.counts.get(key, 0) + 1
+            self.note_truncate(payload)
         elif letter in (START, STOP, STREAM_COMMIT, ABORT):
             self.note_block(letter, payload)
+
+    def note_relation(self, payload: bytes) -> None:
+        """Keeps a Relation message until its commit. One that came before in the same words costs no more than that it came."""
+        body = payload[self.end - 4 :]
+        compared = self.compared.get(number(body[:4]))
+        self.relations.add(payload[26:30] if self.current else b"", compared if compared == body else body)
+
+    def note_truncate(self, payload: bytes) -> None:
+        count_truncates(self.counts, TRUNCATED + payload[26 : self.end - 4], payload, self.end + 1, self.is_met)
+
+    def is_met(self, oid: int) -> bool:
+        """Whether a table is known, or described by what has come."""
+        return self.remembered.is_known(oid) or oid in self.described or self.relations.has(oid)
 
     def note_block(self, letter: int, payload: bytes) -> None:
         xid = number(payload[26:30])
         if letter == START:
-            self.current = self.open.setdefault(xid, Streamed())
+            self.xid, self.current = xid, self.open.pop(xid, None) or Streamed()
             self.relations, self.counts, self.end = self.current.relations, {}, INSIDE
             self.began = self.total
         elif letter == STOP:
@@ -159,30 +224,32 @@ class Noting:
             if self.current:
                 self.current.size += self.total - self.began
                 self.current.add(self.counts)
+                if self.current.has_items():
+                    self.open[self.xid] = self.current
             self.leave()
         elif letter == STREAM_COMMIT:
             it = self.open.pop(xid, None) or Streamed()
-            self.commit((payload, it.counts, it.about, it.size), it.relations, payload[39:47])
+            self.commit((payload[:HEAD], it.counts, it.about, it.size), it.relations, payload[39:47])
         elif payload[26:30] == payload[30:34]:
             self.open.pop(xid, None)
         elif xid in self.open:
             self.open[xid].abort(payload[30:34])
 
-    def commit(self, passed: Passed, relations: list[tuple[bytes, bytes]], end: bytes) -> None:
+    def commit(self, passed: Passed, relations: Described, end: bytes) -> None:
         self.ends.append(int.from_bytes(end, "big"))
         self.passed.append(passed)
         self.commits += 1
-        if relations or self.described:
+        if relations.bodies or self.described:
             self.describe(passed, relations)
 
-    def describe(self, passed: Passed, relations: list[tuple[bytes, bytes]]) -> None:
+    def describe(self, passed: Passed, relations: Described) -> None:
         """Compares the Relation messages of tables that a commit changes with what is remembered.
 
         One of a partition comes with that of the table under whose name its rows are sent, and no change has it, as long as it is one.
         """
         changed, lsn = {number(key[-4:]): None for key in passed[1]}, final_lsn(passed[0])
-        oids = [number(body[:4]) for _, body in relations]
-        for oid, (_, body) in zip(oids, relations):
+        oids = [number(body[:4]) for _, body in relations.bodies]
+        for oid, (_, body) in zip(oids, relations.bodies):
             if oid in changed or not self.remembered.is_partition(oid):
                 self.described.setdefault(oid, []).append(body)
             if self.remembered.is_known(oid) and not (oid in changed and self.remembered.is_unpublished(oid, lsn)):
@@ -195,7 +262,7 @@ class Noting:
                 self.compare(oid, self.described.pop(oid), lsn)
         for oid in oids:
             del self.described.get(oid, [])[:-1]
-        relations.clear()
+        self.relations = Described()
 
     def compare(self, oid: int, bodies: Sequence[bytes], lsn: int) -> None:
         """Compares the Relation messages of a table in one commit, one after the other."""
@@ -213,7 +280,7 @@ class Noting:
         progress = self.progress
         if self.total != self.shown:
             self.shown = self.total
-            progress.sent_to = last[9:17] if last[0] == 0x77 else last[1:9]
+            progress.sent_to = last[9:17] if last[:1] == b"w" else last[1:9]
             progress.last_message = time.time()
         progress.passed_changes = self.changes + sum(self.counts.values())
         progress.passed_commits = self.commits
@@ -256,10 +323,23 @@ class Noting:
     def largest(self) -> tuple[int, int]:
         """The xid of the largest transaction that isn't confirmed, and how many bytes of it were passed on."""
         sizes = {xid_of(it[0]): it[3] for it in self.passed}
-        sizes |= {xid: it.size + (self.total - self.began if it is self.current else 0) for xid, it in self.open.items()}
+        sizes |= {xid: it.size for xid, it in self.open.items()}
+        if self.current:
+            sizes[self.xid] = self.current.size + self.total - self.began
         if self.begun:
             sizes[xid_of(self.begun)] = self.total - self.began
         return max(sizes.items(), key=lambda it: it[1], default=(0, 0))
+
+
+def count_truncates(counts: dict[bytes, int], head: bytes, payload: bytes, first: int, is_met: Callable[[int], bool]) -> None:
+    """Counts a TRUNCATE, whose OIDs begin at `first`, for each table that is met elsewhere, and for all others together: these are as many
+    as anybody sends."""
+    for at in range(first, len(payload) - 3, 4 * AT_ONCE):
+        some = payload[at : at + 4 * AT_ONCE]
+        oids = struct.unpack_from(f">{len(some) // 4}I", some)
+        for oid, count in collections.Counter(oids).items():
+            key = head + (oid.to_bytes(4, "big") if is_met(oid) else UNKNOWN)
+            counts[key] = counts.get(key, 0) + count
 
 
 def number(text: bytes) -> int:
@@ -286,25 +366,30 @@ def changes_text(counts: dict[bytes, int], remembered: Remembered) -> str:
     tables: collections.Counter[int] = collections.Counter()
     for key, count in counts.items():
         tables[number(key[-4:])] += count
+    others = tables.pop(number(UNKNOWN), 0)
     parts = [f"{counted(count, 'change')} of {remembered.text_of(oid)}" for oid, count in tables.most_common(NAMED)]
     if len(tables) > NAMED:
         parts.append(f"and of {counted(len(tables) - NAMED, 'table')} more")
+    if others:
+        parts.append(f"{counted(others, 'TRUNCATE')} of tables that aren't known")
     return ", ".join(parts) or "no changes"
 
 
 def relation_of(body: bytes) -> Relation | None:
     """A Relation message from its OID on; None where it is none, which the filter tells."""
     try:
-        namespace, name, rest = body[4:].split(b"\0", 2)
-        identity, count = struct.unpack_from(">cH", rest)
-        columns, rest = [], rest[3:]
+        namespace = body.index(b"\0", 4)
+        name = body.index(b"\0", namespace + 1)
+        identity, count = struct.unpack_from(">cH", body, name + 1)
+        columns, at = [], name + 4
+        # (what is left is never copied: there may be as many columns as an Int16 counts)
         for _ in range(count):
-            key = rest[0] == 1
-            column, rest = rest[1:].split(b"\0", 1)
-            type_oid, modifier = struct.unpack_from(">Ii", rest)
-            columns.append(Column(column.decode(), type_oid, modifier, key))
-            rest = rest[8:]
+            end = body.index(b"\0", at + 1)
+            type_oid, modifier = struct.unpack_from(">Ii", body, end + 1)
+            columns.append(Column(body[at + 1 : end].decode(), type_oid, modifier, body[at] == 1))
+            at = end + 9
         shape = Shape(identity.decode(), tuple(columns))
-        return Relation(number(body[:4]), namespace.decode() or "pg_catalog", name.decode(), shape)
+        schema = body[4:namespace].decode() or "pg_catalog"
+        return Relation(number(body[:4]), schema, body[namespace + 1 : name].decode(), shape)
     except (ValueError, IndexError, struct.error):
         return None

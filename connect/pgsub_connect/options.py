@@ -47,6 +47,7 @@ class Options:
     mode: int = 0o600
     record: str | None = None
     append: bool = False
+    overwrite: bool = False
     bytes: int = LONGEST
     start: int = 0
     seconds: float | None = None

@@ -7,6 +7,7 @@ import os
 from collections.abc import Callable, Iterator, Sequence
 
 from .errors import FileError, UsageError
+from .owning import real
 from .resting import own_name, remove_files
 from .snapshots import COPYING, NEW, OF_FILE, meant, remove, sync_folder
 
@@ -58,7 +59,7 @@ def check_meant(store: str) -> None:
 def check_into(store: str, into: str, is_earlier: Callable[[str], bool], what: str, option: str = "--into") -> None:
     """Rejects a file to write that is there and isn't an earlier one, or is one of the store's files. An option names it."""
     check_apart(store, [(option, into)], [])
-    folder = os.path.dirname(os.path.realpath(into))
+    folder = os.path.dirname(real(into))
     if not os.path.isdir(folder):
         raise FileError(f"{option} {into}: there is no folder {folder}")
     if not os.path.lexists(meant(into)):
@@ -81,9 +82,9 @@ def placed(into: str, mode: int) -> Iterator[str]:
         remove_files(new)
         os.close(os.open(new, os.O_WRONLY | os.O_CREAT | os.O_EXCL | os.O_CLOEXEC, 0o600))
         yield new
-        os.chmod(new, mode)
-        file = os.open(new, os.O_RDONLY)
+        file = os.open(new, os.O_RDONLY | os.O_NOFOLLOW | os.O_CLOEXEC)
         try:
+            os.fchmod(file, mode)
             os.fsync(file)
         finally:
             os.close(file)

@@ -4,8 +4,8 @@ from __future__ import annotations
 
 import contextlib
 import ctypes
-import functools
 import ipaddress
+import mmap
 import os
 import re
 import select
@@ -19,10 +19,13 @@ import psycopg
 from psycopg import pq
 from psycopg.conninfo import conninfo_to_dict, make_conninfo
 
-from . import log
-from .errors import ServerError, Unconnected
+from . import trust
+from .errors import ServerError, Unconnected, WrongAnswer, understood
+from .libpq import BYTES_AT, LIBPQ, typed
+from .notices import Notices
+from .results import Rows
+from .texts import said_text, shortened
 
-LIBPQ = ctypes.PyDLL("libpq.so.5") if pq.__impl__ == "python" else None
 # After how many seconds each, at most, a host is given up, and a command that takes no time at the server.
 CONNECT_LIMIT = 10.0
 QUICK = 60.0
@@ -30,31 +33,28 @@ QUICK = 60.0
 PRIMARY = 140000
 # The limits that a DSN can give for a host: libpq knows none below two seconds, and takes 0 for none at all.
 LEAST_LIMIT, MOST_LIMIT = 2.0, 3600.0
+# After how many rows that have come already it is looked for the end, which costs more than a row.
+ROWS_UNSEEN = 256
 # How long a wait may go on before it looks whether the end was asked for, in seconds.
 TICK = 0.5
 DONE = (pq.ExecStatus.EMPTY_QUERY, pq.ExecStatus.COMMAND_OK, pq.ExecStatus.TUPLES_OK)
 ROWS = (pq.ExecStatus.TUPLES_OK,)
 COPY_OUT = (pq.ExecStatus.COPY_OUT,)
 COPY_BOTH = (pq.ExecStatus.COPY_BOTH,)
-COPIES = (pq.ExecStatus.COPY_OUT, pq.ExecStatus.COPY_BOTH)
+COPIES = (pq.ExecStatus.COPY_OUT, pq.ExecStatus.COPY_BOTH, pq.ExecStatus.COPY_IN)
 # libpq's PQERRORS_DEFAULT and PQERRORS_VERBOSE, and what a verbose error adds: a code, and a last line with a place in its source.
 DEFAULT, VERBOSE = 1, 2
 CODE, PLACE_IN_SOURCE = re.compile(r":  ([0-9A-Z]{5}): "), re.compile(r"\n[^\n]*\.c:\d+$", re.M)
 # What a DSN goes before. A lost peer is noticed within about a minute.
 DEFAULTS = {"keepalives_idle": "30", "keepalives_interval": "10", "keepalives_count": "3", "tcp_user_timeout": "60000"}
 
+# How many bytes are dropped at a time.
+DRAINED = 1 << 20
 # What PQgetCopyData returns after the last message, and for an error.
 ENDED, FAILED = -1, -2
 
 
-def typed(call: Any, gives: Any, *takes: Any) -> Any:
-    """A call by ctypes with its types. Without these it takes twice as long."""
-    if call:
-        call.restype, call.argtypes = gives, takes
-    return call
-
-
-# libpq's own calls, where psycopg makes them by ctypes too, and Python's own to make bytes of a place in memory.
+# libpq's own calls, where psycopg makes them by ctypes too.
 GET_COPY_DATA = typed(LIBPQ and LIBPQ.PQgetCopyData, ctypes.c_int, ctypes.c_void_p, ctypes.c_void_p, ctypes.c_int)
 FREE = typed(LIBPQ and LIBPQ.PQfreemem, None, ctypes.c_void_p)
 CONSUME_INPUT = typed(LIBPQ and LIBPQ.PQconsumeInput, ctypes.c_int, ctypes.c_void_p)
@@ -62,12 +62,14 @@ PUT_COPY_DATA = typed(
     LIBPQ and LIBPQ.PQputCopyData, ctypes.c_int, ctypes.c_void_p, ctypes.c_char_p, ctypes.c_int
 )
 FLUSH = typed(LIBPQ and LIBPQ.PQflush, ctypes.c_int, ctypes.c_void_p)
-BYTES_AT = typed(ctypes.pythonapi["PyBytes_FromStringAndSize"], ctypes.py_object, ctypes.c_void_p, ctypes.c_ssize_t)
+PLACE_OF = typed(ctypes.pythonapi["PyBytes_AsString"], ctypes.c_void_p, ctypes.py_object)
+MADVISE = typed(
+    ctypes.CDLL(None).madvise, ctypes.c_int, ctypes.c_void_p, ctypes.c_size_t, ctypes.c_int
+)
+# In pieces of how many bytes a longer message is moved, and how long the system's pages are.
+MOVED, PAGE = 1 << 20, mmap.PAGESIZE
 # A call of libpq that psycopg lacks.
 GSS_IN_USE: Any = getattr(LIBPQ, "PQgssEncInUse", None)
-
-# Where the server looks up the publications of a session. (Its texts may be in another language.)
-LOADS_PUBLICATIONS = b"LoadPublications"
 
 Check = Callable[[], None]
 
@@ -177,7 +179,8 @@ class Connection:
         self.raw = self.connected(settings)
         # what the server has said of publications whose changes it leaves out, since the caller looked last
         self.left_out: list[str] = []
-        self.raw.notice_handler = None if quiet else functools.partial(tell_notice, self.left_out)
+        self.notices = Notices(self.left_out)
+        self.raw.notice_handler = None if quiet else self.notices.hear
         self.number = self.raw.socket
         self.wire = wire_of(self.raw)
 
@@ -204,7 +207,9 @@ class Connection:
         raise together(errors)
 
     def connect_to(self, settings: dict[str, str]) -> pq.abc.PGconn:
-        """Connects to one address without blocking."""
+        """Connects to one address without blocking. How it is protected is settled before, and
+        judged after."""
+        settings = trust.OWN.guarded(settings)
         raw = pq.PGconn.connect_start(make_conninfo(**{name: it for name, it in settings.items() if it}).encode())
         set_verbosity(raw, VERBOSE)
         until = time.monotonic() + self.limit
@@ -218,7 +223,9 @@ class Connection:
                 reads = polled == pq.PollingStatus.READING
                 select.select([raw.socket] if reads else [], [] if reads else [raw.socket], [], TICK)
             if raw.status != pq.ConnStatus.OK:
-                raise connection_error(raw, where(settings))
+                raise trust.OWN.explained(connection_error(raw, where(settings)))
+            self.protection = trust.protection_of(raw, is_by_gssapi(raw) or False)
+            trust.OWN.judge(self.protection)
             set_verbosity(raw, DEFAULT)
             raw.nonblocking = 1
         except BaseException:
@@ -227,25 +234,36 @@ class Connection:
         return raw
 
     def error(self) -> str:
-        return self.raw.error_message.decode(errors="replace").strip()
+        return said_text(self.raw.error_message)
 
     def wait(self, until: float = float("inf")) -> None:
-        """Waits until something has come, and reads it. A signal is heard meanwhile."""
-        try:
-            while not select.select([self.number], [self.number] if self.unsent else [], [], TICK)[0]:
+        """Waits until something has come, and reads it. A signal is heard meanwhile, and the limit
+        holds, whatever comes."""
+        has_come = False
+        while not has_come:
+            try:
                 self.check()
-                if self.unsent:
-                    self.flush()
                 if time.monotonic() > until:
                     raise ServerError("the server didn't answer in time")
-                # (what TLS has read already doesn't wake select)
-                self.consume()
-                if not self.raw.is_busy():
-                    return
-        except BaseException:
+                writes = [self.number] if self.unsent else []
+                has_come = bool(select.select([self.number], writes, [], TICK)[0])
+                if self.unsent:
+                    self.flush()
+            except BaseException:
+                self.cancel()
+                raise
+            # (what TLS has read already doesn't wake select)
+            self.consume()
+            if not self.raw.is_busy():
+                return
+
+    def look(self, until: float) -> None:
+        """Looks whether the end was asked for, and for the limit, where nothing is waited for since
+        it has come already."""
+        self.check()
+        if time.monotonic() > until:
             self.cancel()
-            raise
-        self.consume()
+            raise ServerError("the server didn't end its answer in time")
 
     def cancel(self) -> None:
         """Asks the server to end the command that runs, which it else goes on with after the connection is closed."""
@@ -266,44 +284,76 @@ class Connection:
         """The last result of the command that runs, or the one with which it begins to copy."""
         last = None
         while result := self.next_result(until):
+            self.look(until)
             last = result
             if last.status in COPIES:
                 break
         return last
 
-    def execute(self, command: str, wanted: tuple[pq.ExecStatus, ...], limit: float = float("inf")) -> pq.abc.PGresult:
-        """Runs a command and returns its result. `limit`: after how many seconds without one the connection is given up."""
+    def execute(
+        self, command: str, wanted: tuple[pq.ExecStatus, ...], limit: float = float("inf")
+    ) -> Rows:
+        """Runs a command and returns its rows, or begins its copy. `limit`: after how many seconds
+        the connection is given up."""
+        found, last = Rows(), None
         try:
-            self.raw.send_query(command.encode())
-            self.flush()
-            result = self.last_result(time.monotonic() + limit)
+            last = self.answer(command, time.monotonic() + limit, found)
         except psycopg.OperationalError as error:
-            raise ServerError(str(error)) from None
-        if result is None or result.status not in wanted:
-            raise self.error_of(result)
-        return result
+            raise ServerError(shortened(str(error))) from None
+        except WrongAnswer:
+            self.cancel()
+            raise
+        if last is None or last.status not in wanted:
+            raise self.unwanted(command, last)
+        return found
+
+    def answer(self, command: str, until: float, found: Rows) -> pq.abc.PGresult | None:
+        """The last result of a command, or the one with which it begins to copy. Rows are read one
+        by one."""
+        self.raw.send_query(command.encode())
+        self.raw.set_single_row_mode()
+        self.flush()
+        last = None
+        while result := self.next_result(until + found.seconds()):
+            is_row = result.status == pq.ExecStatus.SINGLE_TUPLE
+            if not is_row or len(found.rows) % ROWS_UNSEEN == 0:
+                self.look(until + found.seconds())
+            if is_row:
+                found.add(result)
+                continue
+            last = result
+            if last.status in COPIES:
+                break
+        return last
+
+    def unwanted(self, command: str, result: pq.abc.PGresult | None) -> ServerError:
+        """The error of a command with another result than it may have. Where the server names none,
+        that is its fault."""
+        if result is None or result.error_message or self.raw.error_message:
+            return self.error_of(result)
+        kind = pq.ExecStatus(result.status).name
+        text = f"the server's answer to {command.partition(' ')[0]} isn't one of PostgreSQL"
+        return WrongAnswer(f"{text}: {kind}")
 
     def error_of(self, result: pq.abc.PGresult | None) -> ServerError:
         if result is None:
             return ServerError(self.error())
-        said = result.error_message.decode(errors="replace").strip()
-        sqlstate = result.error_field(pq.DiagnosticField.SQLSTATE)
-        return ServerError(said or self.error(), sqlstate.decode() if sqlstate else "")
+        sqlstate = result.error_field(pq.DiagnosticField.SQLSTATE) or b""
+        text = said_text(result.error_message) or self.error()
+        return ServerError(text, sqlstate.decode(errors="replace"))
 
     def run(self, command: str, wanted: tuple[pq.ExecStatus, ...] = DONE, limit: float = float("inf")) -> None:
         self.execute(command, wanted, limit)
 
     def rows(self, command: str, limit: float = float("inf")) -> list[list[str | None]]:
         """Runs a query, and returns its rows as lists of texts, None for null."""
-        result = self.execute(command, ROWS, limit)
-        width = range(result.nfields)
-        values = [[result.get_value(row, it) for it in width] for row in range(result.ntuples)]
-        return [[None if it is None else it.decode() for it in row] for row in values]
+        return self.execute(command, ROWS, limit).rows
 
     def value(self, command: str, limit: float = float("inf")) -> str | None:
         """The first value of a query's first row, None where there is no row."""
         rows = self.rows(command, limit)
-        return rows[0][0] if rows else None
+        with understood("one value"):
+            return rows[0][0] if rows else None
 
     def text(self, command: str) -> str:
         """The first value of a query's first row, which is there and takes no time."""
@@ -311,7 +361,7 @@ class Connection:
 
     def parameter(self, name: str) -> str:
         value = self.raw.parameter_status(name.encode())
-        return value.decode() if value else "unknown"
+        return said_text(value) if value else "unknown"
 
     def version(self) -> int:
         """The server's version as a number: 150018 is 15.18."""
@@ -324,19 +374,11 @@ class Connection:
         """The process at the server."""
         return self.raw.backend_pid
 
-    def is_encrypted(self) -> bool:
-        return bool(self.raw.ssl_in_use)
-
     def is_wrapped(self) -> bool:
         """Whether bytes of the server may have been read without having come yet: where they are encrypted, by TLS or GSSAPI."""
         if self.raw.ssl_in_use or self.raw.host.startswith((b"/", b"@")):
             return bool(self.raw.ssl_in_use)
-        pointer = getattr(self.raw, "pgconn_ptr", None)
-        return GSS_IN_USE is None or pointer is None or bool(GSS_IN_USE(ctypes.c_void_p(pointer)))
-
-    def is_local(self) -> bool:
-        """Whether the server is reached by a socket of this machine."""
-        return self.raw.host.startswith((b"/", b"@")) or self.raw.host in (b"localhost", b"127.0.0.1", b"::1")
+        return is_by_gssapi(self.raw) is not False
 
     def used_password(self) -> bool:
         return bool(self.raw.used_password)
@@ -359,7 +401,7 @@ class Connection:
             try:
                 length, payload = take(1)
             except psycopg.OperationalError as error:
-                raise ServerError(str(error)) from None
+                raise ServerError(shortened(str(error))) from None
             if length == 0:
                 self.wait()
             elif length < 0:
@@ -387,7 +429,7 @@ class Connection:
         try:
             length, payload = self.raw.get_copy_data(1)
         except psycopg.OperationalError as error:
-            raise ServerError(str(error)) from None
+            raise ServerError(shortened(str(error))) from None
         if length > 0:
             whole = payload.obj
             return whole if isinstance(whole, bytes) else bytes(payload)
@@ -430,9 +472,10 @@ class Connection:
         self.note_left(self.wire.flush())
 
     def note_left(self, left: int) -> None:
-        """Notes what libpq says of sending: whether something waits, or that it failed."""
+        """Notes what libpq says of sending: whether something waits, or that it failed. What ended
+        the stream before says why."""
         if left < 0:
-            raise ServerError(self.error())
+            raise self.broken or ServerError(self.error())
         self.unsent = left > 0
 
     def end_copy(self) -> None:
@@ -444,7 +487,20 @@ class Connection:
                 select.select([], [self.number], [], 1.0)
                 self.flush()
 
+    def drain(self, seconds: float) -> None:
+        """Drops what still comes of a stream of CopyData whose end was asked for, for so many seconds at most."""
+        until = time.monotonic() + seconds
+        with contextlib.suppress(psycopg.OperationalError, ServerError):
+            while (left := until - time.monotonic()) > 0:
+                if select.select([self.number], [], [], left)[0]:
+                    self.consume()
+                while (found := self.payloads(DRAINED, DRAINED))[0]:
+                    pass
+                if found[1] is None:
+                    return
+
     def close(self) -> None:
+        self.notices.end()
         self.wire = Slow(self.raw)
         self.raw.finish()
 
@@ -488,7 +544,8 @@ class Quick:
             if length <= 0:
                 break
             payload = buffer.value
-            found.append(BYTES_AT(payload, length))
+            is_long = length >= MOVED
+            found.append(moved(payload or 0, length) if is_long else BYTES_AT(payload, length))
             FREE(payload)
             room -= length if length < long else room
         return found, length
@@ -499,6 +556,20 @@ class Quick:
 
     def flush(self) -> int:
         return int(FLUSH(self.pointer))
+
+
+def moved(place: int, length: int) -> bytes:
+    """The bytes at a place in memory whose owner only frees it afterwards. The system gets it back
+    piece by piece meanwhile: else a long row would be there once more."""
+    whole: bytes = BYTES_AT(None, length)
+    to = PLACE_OF(whole)
+    for at in range(0, length, MOVED):
+        size = min(MOVED, length - at)
+        ctypes.memmove(to + at, place + at, size)
+        first, last = -(-(place + at) // PAGE) * PAGE, (place + at + size) // PAGE * PAGE
+        if last > first:
+            MADVISE(first, last - first, mmap.MADV_DONTNEED)
+    return whole
 
 
 class Slow:
@@ -549,6 +620,14 @@ def wire_of(raw: pq.abc.PGconn) -> Wire:
     return Quick(pointer)
 
 
+def is_by_gssapi(raw: pq.abc.PGconn) -> bool | None:
+    """Whether a connection is encrypted by GSSAPI, None where that can't be told."""
+    pointer = getattr(raw, "pgconn_ptr", None)
+    if GSS_IN_USE is None or pointer is None:
+        return None
+    return bool(GSS_IN_USE(ctypes.c_void_p(pointer)))
+
+
 def set_verbosity(raw: pq.abc.PGconn, verbosity: int) -> None:
     """Sets how much libpq's errors say, by the one call of libpq that psycopg lacks.
 
@@ -571,7 +650,7 @@ def together(errors: list[ServerError]) -> ServerError:
 
 def connection_error(raw: pq.abc.PGconn, host: str) -> Unconnected:
     """The error of a connection that wasn't made. A verbose one has the SQLSTATE, which libpq gives in no other way."""
-    said = raw.error_message.decode(errors="replace").strip()
+    said = said_text(raw.error_message)
     found = CODE.search(said)
     text = CODE.sub(":  ", PLACE_IN_SOURCE.sub("", said)) or f"{host}: can't connect"
     return Unconnected(text, found[1] if found else "28P01" if raw.needs_password else "")
@@ -586,9 +665,3 @@ def cancel_by(handle: pq.abc.PGcancel) -> None:
     with contextlib.suppress(psycopg.Error):
         handle.cancel()
 
-
-def tell_notice(left_out: list[str], result: pq.abc.PGresult) -> None:
-    """Passes on a notice or warning of the server, and keeps one of pgoutput that a publication isn't there at this place in the log."""
-    log.info(f"server: {result.error_message.decode(errors='replace').strip()}")
-    if result.error_field(pq.DiagnosticField.SOURCE_FUNCTION) == LOADS_PUBLICATIONS:
-        left_out.append((result.error_field(pq.DiagnosticField.MESSAGE_PRIMARY) or b"").decode(errors="replace"))

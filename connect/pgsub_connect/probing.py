@@ -5,14 +5,14 @@ from __future__ import annotations
 import argparse
 import calendar
 import dataclasses
-import json
 import re
 import sys
 import time
+from collections.abc import Callable
 from typing import TYPE_CHECKING, Any
 
-from . import log
-from .texts import counted
+from . import jsontexts, log
+from .texts import counted, shortened
 
 if TYPE_CHECKING:
     from .options import Options
@@ -21,7 +21,8 @@ ABOUT = """\
 tell how a follower with --status-file is, as a probe does
 
 It prints one line. The exit status is 0 where all is well; 1 where the follower has ended or failed, shows no sign of life, has lost its
-slot, is further behind than --max-lag (or it isn't known how far), or, with --strict, has found what may have made the copy wrong;
+slot, is further behind than --max-lag (or it isn't known how far), has set a table of `rows.db` aside, or, with --strict, has found what
+may have made the copy wrong;
 2 for a usage error; 3 where there is no such file, or it isn't a status file."""
 FINE, BAD, NO_FILE = 0, 1, 3
 SECONDS = {"s": 1.0, "min": 60.0, "h": 3600.0, "d": 86400.0}
@@ -29,6 +30,11 @@ BYTES = {"B": 1, "kB": 1 << 10, "MB": 1 << 20, "GB": 1 << 30, "TB": 1 << 40}
 LAG = re.compile(rf"(\d+(?:\.\d+)?)({'|'.join([*SECONDS, *BYTES])})")
 TIME = re.compile(rf"(\d+(?:\.\d+)?)({'|'.join(SECONDS)})?")
 SIZE = re.compile(rf"(\d+)({'|'.join(BYTES)})?")
+# Of which kind the fields are that are looked at.
+KINDS: dict[str, Callable[[Any], object]] = {
+    "lag_bytes": jsontexts.whole_of, "lag_seconds": jsontexts.number_of, "found": jsontexts.object_of,
+    **dict.fromkeys(("position", "wal_status", "tables_error", "last_error"), jsontexts.text_of),
+}
 # states in which nothing follows any more
 ENDED = ("stopped", "failed")
 
@@ -75,10 +81,12 @@ def add_options(parser: argparse.ArgumentParser) -> None:
 
 def read(path: str) -> dict[str, Any]:
     """The object of a status file. A ValueError says that it isn't one."""
-    with open(path, encoding="utf-8") as file:
-        status = json.load(file)
-    if not isinstance(status, dict) or not isinstance(status.get("state"), str) or "heartbeat" not in status:
-        raise ValueError
+    status = jsontexts.object_of(jsontexts.parsed(jsontexts.read_plain(path)))
+    for name, kind in KINDS.items():
+        if status.get(name) is not None:
+            kind(status[name])
+    for name in ("state", "heartbeat"):
+        jsontexts.text_of(status.get(name))
     return status
 
 
@@ -104,6 +112,8 @@ def faults(status: dict[str, Any], age: float, options: Options) -> list[str]:
         wrong.append("the slot is lost")
     if status.get("tables_error"):
         wrong.append("the tables don't follow any more")
+    if aside := status.get("tables_aside"):
+        wrong.append(f"set aside in the tables, `pgsub-connect add` them: {', '.join(sorted(aside))}")
     if options.strict and status.get("found"):
         wrong.append(f"found: {', '.join(sorted(status['found']))}")
     return list(dict.fromkeys(wrong))
@@ -119,7 +129,7 @@ def text_of(status: dict[str, Any], age: float, wrong: list[str]) -> str:
         parts.append(f"at {status['position']}")
     parts.append(f"heartbeat {age:.0f} s ago")
     if wrong and status.get("last_error"):
-        parts.append(f"last error: {status['last_error']}")
+        parts.append(f"last error: {shortened(status['last_error'])}")
     return log.escaped(f"{'; '.join(wrong) if wrong else 'ok'} ({', '.join(map(str, parts))})".replace("\n", " "))
 
 
@@ -133,7 +143,7 @@ def run(options: Options) -> int:
         text = text_of(status, age, wrong)
     except OSError as error:
         text, code = f"{path}: {error.strerror}", NO_FILE
-    except (ValueError, TypeError):
+    except (ValueError, OverflowError):
         text, code = f"{path}: not a status file", NO_FILE
     else:
         code = BAD if wrong else FINE

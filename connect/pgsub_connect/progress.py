@@ -5,9 +5,10 @@ from __future__ import annotations
 import os
 import time
 
-from . import VERSION
+from . import VERSION, trust
 from .checkpoint import Counted
 from .lag import Lag
+from .server import waits_for
 from .texts import lsn_text
 
 # What a follower may be at.
@@ -23,6 +24,8 @@ class Slot:
     def __init__(self) -> None:
         self.wal_status = ""
         self.safe_wal_size: int | None = None
+        # when that was told, by the clock that runs evenly
+        self.told = 0.0
 
 
 class Progress:
@@ -49,16 +52,19 @@ class Progress:
         self.adding: dict[str, str] = {}
         self.lag, self.slot = Lag(), Slot()
         self.last_message: float | None = None
+        # whether nothing of the session is read just now, so that it matters more what becomes of the slot
+        self.is_unread = False
         # of the session's server: when it was started, whether it was a standby then, and whether it was promoted since
         self.server_started = 0
         self.is_standby = self.was_promoted = False
         # the session's name at the server, and whether commits there may wait for it
         self.name, self.is_waited_for = "", False
-        # of the feed: how many bytes its segments have, None where there is no feed, and the LSN of each reader; and what ended the
-        # tables that follow it
+        # of the feed: how many bytes its segments have, None where there is no feed, and the LSN of each reader; what ended the
+        # tables that follow it, and which of them are set aside, and why
         self.feed_bytes: int | None = None
         self.readers: dict[str, int] = {}
         self.tables_error = ""
+        self.tables_aside: dict[str, str] = {}
         # what `pgsub --version` says
         self.program = ""
         self.heartbeat = time.time()
@@ -70,6 +76,11 @@ class Progress:
     def note_confirmed(self, confirmed: int, position: int) -> None:
         self.confirmed, self.position = confirmed, position
         self.lag.confirmed = confirmed
+
+    def note_standbys(self, standbys: str) -> bool:
+        """Notes what was just read of a server's synchronous_standby_names. Returns whether commits may wait."""
+        self.is_waited_for = self.is_waited_for or bool(standbys) and waits_for(standbys, self.name)
+        return self.is_waited_for
 
     def note_server(self, version: int, timeline: int) -> None:
         self.version, self.timeline = version, timeline
@@ -122,8 +133,10 @@ class Progress:
             "feed_bytes": self.feed_bytes,
             "readers": self.shown_readers() or None,
             "tables_error": self.tables_error or None,
+            "tables_aside": self.tables_aside or None,
             "server_version": self.version or None,
             "timeline": self.timeline or None,
+            **trust.OWN.shown(),
             "connector_version": VERSION,
             "program_version": self.program or None,
             "pid": os.getpid(),

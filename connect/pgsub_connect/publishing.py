@@ -3,9 +3,9 @@
 from __future__ import annotations
 
 import dataclasses
-from collections.abc import Iterable
+from collections.abc import Iterable, Sequence
 
-from .errors import ServerError
+from .errors import ServerError, understood
 from .postgres import Connection
 from .texts import identifier, literal
 
@@ -28,6 +28,15 @@ class Column:
 
 
 @dataclasses.dataclass
+class Leaves:
+    """The partitions of a table without any below them: the names for SQL of those whose changes are in the log, and the OIDs of others."""
+
+    logged: list[str]
+    unlogged: list[int]
+    foreign: list[int]
+
+
+@dataclasses.dataclass
 class Table:
     """A published table, and the rows of it that are published."""
 
@@ -39,6 +48,8 @@ class Table:
     row_filter: str | None
     listed: list[int] | None
     columns: list[Column] = dataclasses.field(default_factory=list)
+    # where some of its partitions are unlogged or foreign, which no change is sent of
+    leaves: Leaves | None = None
 
     def text(self) -> str:
         return f"{self.namespace}.{self.name}"
@@ -52,10 +63,22 @@ class Table:
         return f"COPY (SELECT {names} {self.source()}) TO STDOUT"
 
     def source(self) -> str:
-        """The part of a query that says which rows are published."""
+        """The part of a query that says which rows are published: none of a partition whose changes are in no log."""
+        if self.leaves and self.leaves.foreign:
+            return f"FROM ({self.logged_rows(self.leaves.logged)}) AS logged"
+        conditions = [self.row_filter] if self.row_filter else []
+        if self.leaves:
+            unlogged = ", ".join(map(str, self.leaves.unlogged))
+            conditions = [*(f"({it})" for it in conditions), f"tableoid NOT IN ({unlogged})"]
         only = "" if self.kind == "p" else "ONLY "
-        where = f" WHERE {self.row_filter}" if self.row_filter else ""
+        where = f" WHERE {' AND '.join(conditions)}" if conditions else ""
         return f"FROM {only}{self.sql_name()}{where}"
+
+    def logged_rows(self, leaves: list[str]) -> str:
+        """The rows of some leaves, each read by itself: by way of the root the foreign ones would be read all the same."""
+        names = ", ".join(identifier(column.name) for column in self.columns)
+        where = f" WHERE {self.row_filter}" if self.row_filter else ""
+        return " UNION ALL ".join(f"SELECT {names} FROM ONLY {it}{where}" for it in leaves or [self.sql_name()])
 
 
 def published_tables(connection: Connection, publications: Iterable[str]) -> list[Table]:
@@ -72,6 +95,7 @@ def published_tables(connection: Connection, publications: Iterable[str]) -> lis
     return tables
 
 
+@understood("published tables")
 def tables_of(connection: Connection, publication: str) -> list[Table]:
     """The tables of one publication, but for leaves whose changes no log has. Column lists and row filters came with 15."""
     fine = connection.version() >= FINE
@@ -91,9 +115,38 @@ def tables_of(connection: Connection, publication: str) -> list[Table]:
         numbers = [int(it) for it in attributes.split(",")] if attributes else None
         tables.append(Table(int(oid), namespace, name, kind, identity, where, numbers))
     put_columns(connection, tables)
+    put_leaves(connection, tables)
     return tables
 
 
+@understood("partitions")
+def put_leaves(connection: Connection, tables: list[Table]) -> None:
+    """Gives partitioned tables their leaves, where some of these are unlogged or foreign. (pg_partition_tree would wait for locks.)"""
+    roots = {it.oid: it for it in tables if it.kind == "p"}
+    if not roots:
+        return
+    rows = connection.rows(
+        "WITH RECURSIVE t (root, oid) AS ("
+        f" SELECT c.oid, c.oid FROM pg_catalog.pg_class c WHERE c.oid IN ({', '.join(map(str, roots))})"
+        " UNION SELECT t.root, i.inhrelid FROM t JOIN pg_catalog.pg_inherits i ON i.inhparent = t.oid)"
+        " SELECT t.root, c.oid, n.nspname, c.relname, c.relkind, c.relpersistence FROM t JOIN pg_catalog.pg_class c ON c.oid = t.oid"
+        " JOIN pg_catalog.pg_namespace n ON n.oid = c.relnamespace WHERE c.relkind <> 'p' ORDER BY 1, 2"
+    )
+    found: dict[int, Leaves] = {}
+    for root, oid, namespace, name, kind, persistence in rows:
+        leaves = found.setdefault(int(root or 0), Leaves([], [], []))
+        if kind == "f":
+            leaves.foreign.append(int(oid or 0))
+        elif persistence != "p":
+            leaves.unlogged.append(int(oid or 0))
+        else:
+            leaves.logged.append(f"{identifier(namespace or '')}.{identifier(name or '')}")
+    for table in roots.values():
+        of_root = found.get(table.oid)
+        table.leaves = of_root if of_root and (of_root.unlogged or of_root.foreign) else None
+
+
+@understood("partitions")
 def below_roots(connection: Connection, oids: Iterable[int]) -> set[int]:
     """Those that are sent as a partitioned table above them that another publication has, with publish_via_partition_root."""
     known = set(oids)
@@ -107,6 +160,18 @@ def below_roots(connection: Connection, oids: Iterable[int]) -> set[int]:
     return {int(oid or 0) for oid, above in rows if int(above or 0) in known}
 
 
+def with_cure(error: ServerError, publications: Sequence[str]) -> ServerError:
+    """The error with which the server ended a session, with what to do where it may be that of different column lists: it reads its log by
+    the catalog of that time, so it says so again once they are equal."""
+    if error.sqlstate != DIFFERENT_LISTS or len(publications) < 2:
+        return error
+    return ServerError(
+        f"{error}\nWhere publications had different column lists of a table, if for a moment: give them the same, follow by one alone with"
+        f" `--publication {publications[0]} --until now`, then by all again, and `pgsub-connect refresh` copies anew what the others have",
+        DIFFERENT_LISTS,
+    )
+
+
 def united(tables: list[Table]) -> Table:
     """A table that several publications have: a row is sent where one of the filters says so, and there may be one list alone."""
     first = tables[0]
@@ -114,7 +179,8 @@ def united(tables: list[Table]) -> Table:
     if any(table.columns != first.columns for table in tables):
         # (as the server says it once its changes are sent)
         raise ServerError(
-            f"cannot use different column lists for table {first.text()} in different publications", DIFFERENT_LISTS
+            f"cannot use different column lists for table {first.text()} in different publications: give it the same in each",
+            DIFFERENT_LISTS,
         )
     row_filter = None if None in filters else " OR ".join(f"({it})" for it in filters if it is not None)
     return dataclasses.replace(first, row_filter=filters[0] if len(filters) == 1 else row_filter)
@@ -147,6 +213,7 @@ def put_columns(connection: Connection, tables: list[Table]) -> None:
             table.columns.append(Column(name or "", int(type_oid or 0), int(modifier or 0), key == "t", int(number or 0)))
 
 
+@understood("the files of tables")
 def stored_in(connection: Connection, tables: list[Table]) -> dict[int, str | None]:
     """Which file each table's rows are in now. TRUNCATE and an ALTER TABLE that writes all rows anew change it."""
     oids = ", ".join(str(table.oid) for table in tables)
@@ -185,6 +252,7 @@ def are_so_named(connection: Connection, tables: list[Table]) -> bool:
     )
 
 
+@understood("the sizes of tables")
 def sizes_of(connection: Connection, tables: list[Table]) -> dict[int, int]:
     """How many bytes the files of each table have, with those of its partitions."""
     oids = ", ".join(str(table.oid) for table in tables)
@@ -198,6 +266,7 @@ def sizes_of(connection: Connection, tables: list[Table]) -> dict[int, int]:
     return {int(oid or 0): int(size or 0) for oid, size in rows}
 
 
+@understood("the sizes of tables")
 def estimated_rows(connection: Connection, tables: list[Table]) -> int | None:
     """How many rows the tables have by the server's statistics; None where it has none of them."""
     oids = ", ".join(str(table.oid) for table in tables)

@@ -5,15 +5,16 @@ from __future__ import annotations
 import dataclasses
 import os
 import select
+import stat
 import struct
 import time
 from typing import TYPE_CHECKING
 
 from . import log
-from .errors import Stopped, UsageError
+from .errors import FileError, Stopped, UsageError
 from .filtering import COPY_DONE, header
 from .postgres import COPY_BOTH, Connection
-from .server import STREAMS, log_end, settle, settle_for_slot, tell_plain_text, tell_version_1, unsettle_for_slot
+from .server import STREAMS, log_end, settle, settle_for_slot, tell_version_1, unsettle_for_slot
 from .texts import counted, identifier, lsn_text, replication_literal
 
 if TYPE_CHECKING:
@@ -21,15 +22,17 @@ if TYPE_CHECKING:
 
 LONGEST = 64 << 20
 EPOCH = 946684800
+# How each recording of this program begins.
+BEGUN = f"# recorded by {log.PROGRAM} at "
+HEAD = BEGUN.encode()
 
 
 class Recording:
     """A file to which sessions are added. What would make it longer than allowed is left out, with all that follows."""
 
-    def __init__(self, path: str, append: bool, limit: int, mode: int = 0o600) -> None:
-        flags = os.O_WRONLY | os.O_CREAT | os.O_CLOEXEC | (os.O_APPEND if append else os.O_TRUNC)
+    def __init__(self, path: str, append: bool, limit: int, mode: int = 0o600, overwrites: bool = False) -> None:
         # (the file is open as long as the program runs)
-        self.out = open(os.open(path, flags, mode), "a" if append else "w", encoding="ascii")  # noqa: SIM115
+        self.out = open(opened(path, append, mode, overwrites), "a" if append else "w", encoding="ascii")  # noqa: SIM115
         self.path = path
         self.written = self.out.tell() if self.out.seekable() else 0
         self.limit = limit
@@ -54,7 +57,7 @@ class Recording:
             self.write_line("--")
         words = [word for word in ("streaming", "binary", "messages") if getattr(options, word, False)]
         names = ", ".join(options.publication)
-        self.write_line(f"# recorded by {log.PROGRAM} at {time.strftime('%Y-%m-%d %H:%M:%S UTC', time.gmtime())}")
+        self.write_line(f"{BEGUN}{time.strftime('%Y-%m-%d %H:%M:%S UTC', time.gmtime())}")
         self.write_line(f"# PostgreSQL {connection.parameter('server_version')}, slot {options.slot}, publication {names}")
         self.write_line(f"# protocol version {options.proto}{''.join(f', {it}' for it in words)}, from {lsn_text(start)}")
 
@@ -63,6 +66,25 @@ class Recording:
 
     def close(self) -> None:
         self.out.close()
+
+
+def opened(path: str, append: bool, mode: int, overwrites: bool) -> int:
+    """Opens a file for a recording; a FileError says that it has something else, which stays unless it is to be written over. A pipe or
+    a terminal has nothing."""
+    is_file = not os.path.exists(path) or os.path.isfile(path)
+    file = os.open(path, (os.O_RDWR if is_file else os.O_WRONLY) | os.O_CREAT | os.O_CLOEXEC | (os.O_APPEND if append else 0), mode)
+    try:
+        if stat.S_ISREG(os.fstat(file).st_mode):
+            head = os.pread(file, len(HEAD), 0) if is_file else b""
+            if head not in (b"", HEAD) and not overwrites:
+                what = f"isn't a recording of {log.PROGRAM}"
+                raise FileError(f"{path} is there and {what}: name another file, or say --overwrite to `record`")
+            if not append:
+                os.ftruncate(file, 0)
+        return file
+    except BaseException:
+        os.close(file)
+        raise
 
 
 class Aside:
@@ -104,16 +126,18 @@ class Progress:
     asks: bool = False
 
     def note(self, payload: bytes) -> None:
-        """Notes a payload: XLogData (`w`) or a keepalive (`k`)."""
+        """Notes a payload: XLogData (`w`) or a keepalive (`k`). One that is too short is recorded as
+        any other."""
         self.payloads += 1
         if payload[:1] == b"k":
-            end = struct.unpack_from(">Q", payload, 1)[0]
+            end = int.from_bytes(payload[1:9], "big")
             self.server_end, self.reached = max(self.server_end, end), max(self.reached, end)
-            self.asks = self.asks or payload[17] == 1
+            self.asks = self.asks or payload[17:18] == b"\1"
         elif payload[:1] == b"w":
-            self.server_end = max(self.server_end, struct.unpack_from(">Q", payload, 9)[0])
+            self.server_end = max(self.server_end, int.from_bytes(payload[9:17], "big"))
             if payload[25:26] in (b"C", b"c"):
-                self.commit_end = struct.unpack_from(">Q", payload, 35 if payload[25:26] == b"C" else 39)[0]
+                at = 35 if payload[25:26] == b"C" else 39
+                self.commit_end = int.from_bytes(payload[at : at + 8], "big")
                 self.reached = max(self.reached, self.commit_end)
                 self.commits += 1
 
@@ -140,7 +164,6 @@ class Recorder:
         options = self.options
         self.connection = connection = Connection(options.dsn, replication=True, name=options.slot, check=self.check_stop)
         settle(connection)
-        tell_plain_text(connection)
         if connection.version() < STREAMS:
             for name in ("streaming", "binary", "messages"):
                 if getattr(options, name):

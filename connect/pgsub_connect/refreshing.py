@@ -19,6 +19,7 @@ from typing import TYPE_CHECKING, NamedTuple
 from . import log, requesting
 from .catalog import Catalog, read_catalog
 from .differences import PUBLICATION, VALUES
+from .doubting import resolved
 from .dropping import ask_terminal, read_known
 from .errors import FileError
 from .making import names_of
@@ -89,7 +90,7 @@ def run(options: Options, check: Check) -> int:
     remembered = Remembered(options.store, options.mode)
     if remembered.catalog is None:
         raise FileError(f"{remembered.path}: there is no such file yet: the next session makes it")
-    told = compared(remembered, read_now(options, check))
+    told = compared(remembered, read_now(options, check, remembered.catalog))
     for it in told:
         print(it.line(), flush=True)
     tables = {it.oid: it.table for it in told if it.what in (MISSING, CHANGED)}
@@ -107,10 +108,10 @@ def run(options: Options, check: Check) -> int:
     return requesting.add(options, tables, check, extra)
 
 
-def read_now(options: Options, check: Check) -> Catalog:
+def read_now(options: Options, check: Check, before: Catalog) -> Catalog:
     connection = Connection(options.dsn, name=f"{options.slot} tables", check=check)
     try:
         settle(connection)
-        return read_catalog(connection, options.publication)
+        return resolved(connection, before, read_catalog(connection, options.publication))
     finally:
         connection.close()

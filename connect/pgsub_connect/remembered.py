@@ -1,7 +1,8 @@
 """What is remembered of the publications that are followed, in a file beside the store, and what was found by it.
 
-The file is `STORE.tables`, one object of JSON. It is replaced as a whole: written to a new file, which gets the name once the disk
-has it. So a reader (`pgsub-connect names`) may look at it at any time.
+The file is `STORE.tables`. Its first line is an object of JSON. It is replaced as a whole: written to a new file, which gets the name once
+the disk has it. What Relation messages said since may follow, a line of JSON for each time that it was put on the disk: so that costs by what
+is new, and not by all tables. A last line that isn't complete was never synced. So a reader (`pgsub-connect names`) may look at it at any time.
 
 As long as nothing was copied it has the first three fields alone.
 
@@ -9,11 +10,13 @@ As long as nothing was copied it has the first three fields alone.
 |---|---|
 | `format` | 1 |
 | `made` | the publications that were made for this store, with their OIDs |
+| `database` | the OID of the database that is followed, and its name at the last session |
 | `feed` | the folder of the feed that has all commits of the store up to its position, "" where none has |
-| `lsn`, `highest` | when the server was looked at last: nothing that was committed above that LSN was seen, nor an OID above that one |
+| `lsn`, `highest`, `running` | when the server was looked at last: nothing that was committed above that LSN was seen, nor an OID above that one; and the first transaction that may have run then |
 | `followed`, `publications` | the names that are followed, and the options of those that were there |
 | `tables`, `partitions`, `types` | what the server had then, changed by what Relation messages said since |
 | `attached` | by the OID of a partition: which transaction has attached it |
+| `unlogged`, `toast` | the OIDs of tables and partitions whose changes are in no log; by OID: what keeps long values |
 | `sent` | by OID: the last Relation message of a change, and the LSN of its commit |
 | `names` | which OID each name has, since when, and which OIDs had it before |
 | `found` | by kind: the LSN at which the first was found, the texts with what each is about, and how many more there were |
@@ -37,10 +40,14 @@ from .catalog import Catalog, Column, Part, Partition, Publication, Shape, Table
 from .differences import NAMES, differences, gone, shape_differences
 from .errors import FileError, Passing
 from .found import NOTHING, About, Found, about_of
-from .texts import lsn_text, parse_lsn
+from .owning import succeed
+from .tables_form import check_said, noted_in, read_lines
+from .texts import lsn_text, parse_lsn, shortened
 
 FORMAT = 1
 NEW = ".new"
+# How many bytes may follow the first line before the file is replaced, where that line is shorter.
+LEAST = 1 << 16
 
 
 @dataclasses.dataclass(frozen=True)
@@ -54,6 +61,10 @@ class Relation:
 
     def text(self) -> str:
         return f"{self.namespace}.{self.name} ({self.oid})"
+
+
+# One of a change, and the LSN of its commit.
+Noted = tuple[Relation, int]
 
 
 @dataclasses.dataclass(frozen=True)
@@ -74,10 +85,14 @@ class Name:
 
 
 class Remembered:
-    """The file. `is_urgent`: it says what has to be on the disk before anything more is confirmed; `is_changed`: anything new."""
+    """The file. `is_urgent`: it says what has to be on the disk before anything more is confirmed; `is_changed`: anything new;
+    `is_other`: anything but what Relation messages said, which are `noted` until they are on the disk."""
 
     def __init__(self, store: str, mode: int = 0o600) -> None:
         self.path, self.mode = store + ".tables", mode
+        # the length of the file's first line, 0 where it is to be replaced, and which file it is, with its length
+        self.first = 0
+        self.file = (0, 0)
         self.forget()
         with contextlib.suppress(FileNotFoundError):
             self.read()
@@ -88,6 +103,8 @@ class Remembered:
         self.made: dict[str, int] = {}
         # the folder of the store's feed
         self.feed = ""
+        # the OID and the name of the database; None where they weren't noted yet
+        self.database: tuple[int, str] | None = None
         self.sent: dict[int, Sent] = {}
         self.names: dict[tuple[str, str], Name] = {}
         # the name that an OID has
@@ -103,7 +120,8 @@ class Remembered:
         self.partial: set[int] = set()
         self.unwanted: set[int] = set()
         self.news: list[str] = []
-        self.is_urgent = self.is_changed = False
+        self.noted: list[Noted] = []
+        self.is_urgent = self.is_changed = self.is_other = False
 
     def publications(self) -> list[str]:
         """The names of those that are followed."""
@@ -152,13 +170,17 @@ class Remembered:
             if copied is not None:
                 self.sent[oid] = Sent(copied, table.shape)
             self.rename(table.namespace, table.name, oid, catalog.lsn)
-        self.is_urgent = self.is_changed = True
+        self.touch()
+
+    def touch(self) -> None:
+        """Something is new that has to be on the disk before anything more is confirmed."""
+        self.is_urgent = self.is_changed = self.is_other = True
 
     def note_made(self, made: dict[str, int]) -> None:
         """Notes publications that were made for this store, with their OIDs."""
         if made:
             self.made = {**self.made, **made}
-            self.is_urgent = self.is_changed = True
+            self.touch()
 
     def note_feed(self, folder: str) -> None:
         """Notes durably which folder has the store's feed, "" where it has none any more."""
@@ -196,7 +218,7 @@ class Remembered:
         # (without these two the next look only sees less harmless news)
         if dataclasses.replace(before, lsn=now.lsn, highest=now.highest) != now:
             self.is_urgent = True
-        self.is_changed = True
+        self.is_changed = self.is_other = True
         self.catalog = now
         return harmless
 
@@ -225,7 +247,7 @@ class Remembered:
         name = self.names.setdefault(key, Name(oid, lsn, []))
         name.before = [it for it in name.before if it != oid]
         name.oid, name.since, self.held[oid] = oid, lsn, key
-        self.is_urgent = self.is_changed = True
+        self.touch()
         return names_text(key, oid, name.before[-1]) if name.before else ""
 
     def name_new(self, namespace: str, table: str, oid: int, lsn: int) -> None:
@@ -241,14 +263,21 @@ class Remembered:
         if name.oid == oid or oid in name.before:
             return ""
         name.before.append(oid)
-        self.is_urgent = self.is_changed = True
+        self.touch()
         return names_text((namespace, table), name.oid, oid)
 
     def note(self, relation: Relation, lsn: int, last: int) -> None:
         """Takes a Relation message of a change into account. `last`: up to which commit those of this OID are known."""
-        oid, sent, catalog = relation.oid, self.sent.get(relation.oid), self.catalog
-        if catalog is None or lsn <= last:
+        if self.catalog is None or lsn <= last:
             return
+        is_other = self.is_other
+        self.take(relation, lsn, self.catalog)
+        # (whatever it changed, it changes again where it is read)
+        self.is_other = is_other
+        self.noted.append((relation, lsn))
+
+    def take(self, relation: Relation, lsn: int, catalog: Catalog) -> None:
+        oid, sent = relation.oid, self.sent.get(relation.oid)
         table = catalog.tables.get(oid)
         # What led to what was there at the last look is told by that. Before, each message is one step after the other.
         before = table.shape if table is not None and lsn > catalog.lsn else sent.shape if sent else None
@@ -282,13 +311,13 @@ class Remembered:
         """Notes what was found, and what it is about. Returns false where it was known."""
         if self.told.get(text, -1) >= lsn:
             return False
-        found = self.found.setdefault(kind, Found(lsn, {}))
+        text, found = shortened(text), self.found.setdefault(kind, Found(lsn, {}))
         if text in found.texts:
             self.mended.pop(text, None)
             return False
         found.add(text, about)
         self.news.append(f"{kind} at {lsn_text(lsn)}: {text}")
-        self.is_urgent = self.is_changed = True
+        self.touch()
         return True
 
     def take_news(self) -> list[str]:
@@ -304,7 +333,7 @@ class Remembered:
         """Forgets what was found of these kinds."""
         for kind in [it for it in self.found if it in kinds or "all" in kinds]:
             del self.found[kind]
-            self.is_urgent = self.is_changed = True
+            self.touch()
 
     def want(self, oids: Iterable[int], unwanted: Iterable[int] = ()) -> None:
         """Notes durably that the rows of tables are to be added, anew where that was refused, and that those of others are to go."""
@@ -418,23 +447,30 @@ class Remembered:
         if key := self.held.get(oid):
             self.release(key)
             self.names[key].before.remove(oid)
-        self.is_changed = True
+        self.is_changed = self.is_other = True
 
     def replaced(self, relation: Relation, lsn: int) -> None:
         """Notes that a table's rows are those of a commit with this LSN: a Relation message up to there tells nothing new."""
         self.sent[relation.oid] = Sent(lsn, relation.shape)
-        self.is_changed = True
+        self.is_changed = self.is_other = True
+
+    def note_database(self, oid: int, name: str) -> str:
+        """Notes the database that is followed. Returns what is to be told of it, where its name was another one."""
+        before, self.database = self.database, (oid, name)
+        self.is_changed = self.is_changed or before != self.database
+        return f"the database {before[1]} was renamed: it is {name} now" if before and before[1] != name else ""
 
     def read(self) -> None:
         try:
-            with open(self.path, encoding="utf-8") as file:
-                text = file.read()
+            said, more = read_lines(self.path)
+            if said.get("format") == FORMAT:
+                check_said(said)
+            self.restore(said)
+            self.follow(more)
         except FileNotFoundError:
             raise
-        except (OSError, UnicodeDecodeError) as error:
-            raise FileError(f"{self.path}: {getattr(error, 'strerror', None) or 'not a file of tables of this program'}") from None
-        try:
-            self.restore(json.loads(text))
+        except OSError as error:
+            raise FileError(f"{self.path}: {error.strerror}") from None
         except (ValueError, TypeError, KeyError, AttributeError):
             raise FileError(
                 f"{self.path}: not a file of tables of this program, or a torn one. Remove it, and what the server has then is"
@@ -451,6 +487,9 @@ class Remembered:
             # (nothing was copied yet)
             return
         self.catalog = catalog_of(said)
+        # (an earlier version of this program noted no OID)
+        if database := said.get("database"):
+            self.database = (int(database[0]), str(database[1]))
         self.sent = {
             int(oid): Sent(parse_lsn(lsn), shape_of(*shape) if shape else None) for oid, (lsn, shape) in said["sent"].items()
         }
@@ -468,6 +507,21 @@ class Remembered:
         self.unwanted = {int(oid) for oid in said.get("unwanted", [])}
         self.partial = {int(oid) for oid in said.get("partial", [])}
 
+    def follow(self, lines: list[bytes]) -> None:
+        """Takes what Relation messages said since the first line. Each line was synced before the next one, so only the last may be torn."""
+        for at, line in enumerate(lines):
+            try:
+                noted = [noted_of(it) for it in noted_in(line)]
+            except ValueError:
+                if at + 1 < len(lines):
+                    raise
+                return
+            for relation, lsn in noted:
+                self.note(relation, lsn, -1)
+        # (the next one is written whole, and what was found is told at each start)
+        self.noted, self.news = [], []
+        self.is_urgent = self.is_changed = self.is_other = False
+
     def written(self) -> dict[str, Any]:
         if self.catalog is None:
             return {"format": FORMAT, "made": self.made, "feed": self.feed}
@@ -475,6 +529,7 @@ class Remembered:
             "format": FORMAT,
             "made": self.made,
             "feed": self.feed,
+            "database": self.database,
             **catalog_written(self.catalog),
             "sent": {oid: [lsn_text(it.lsn), it.shape and [it.shape.identity, it.shape.columns]] for oid, it in self.sent.items()},
             "names": [[*key, it.oid, lsn_text(it.since), it.before] for key, it in sorted(self.names.items())],
@@ -491,15 +546,33 @@ class Remembered:
             "told": {text: lsn_text(lsn) for text, lsn in self.told.items()},
         }
 
+    def put(self) -> None:
+        """Puts what is new on the disk, before this returns: behind what the file has, where that is right and doesn't grow too long."""
+        line = json_text([noted_written(*it) for it in self.noted])
+        inode, length = self.file
+        if self.is_other or not self.first or length + len(line) - self.first > max(self.first, LEAST):
+            self.save()
+            return
+        self.first, first = 0, self.first
+        try:
+            if not append(self.path, line, inode, length):
+                self.save()
+                return
+        except OSError as error:
+            raise Passing(f"{self.path}: {error.strerror}") from None
+        self.first, self.file, self.noted, self.is_urgent = first, (inode, length + len(line)), [], False
+
     def save(self) -> None:
         """Replaces the file. The disk has it before this returns."""
+        self.first = 0
         if self.catalog is None and not (self.made or self.feed):
-            self.is_urgent = self.is_changed = False
+            self.is_urgent = self.is_changed = self.is_other = False
             self.remove_file()
             return
-        text = json.dumps(self.written(), ensure_ascii=False, separators=(",", ":")) + "\n"
-        replace_file(self.path, text.encode(), self.mode)
-        self.is_urgent = self.is_changed = False
+        text = json_text(self.written())
+        inode = replace_file(self.path, text, self.mode)
+        self.first, self.file, self.noted = len(text), (inode, len(text)), []
+        self.is_urgent = self.is_changed = self.is_other = False
 
     def begin_anew(self) -> None:
         """Forgets all but the publications that were made, as where the store is made anew."""
@@ -555,17 +628,41 @@ def names_text(key: tuple[str, str], oid: int, before: int) -> str:
     return f"{'.'.join(key)} is table {oid} now, and was {before} before: rows of both have this name here"
 
 
-def replace_file(path: str, content: bytes, mode: int = 0o600) -> None:
-    """Replaces a file durably: whoever reads it finds the old or the new one as a whole."""
+def json_text(it: object) -> bytes:
+    return (json.dumps(it, ensure_ascii=False, separators=(",", ":")) + "\n").encode()
+
+
+def append(path: str, content: bytes, inode: int, length: int) -> bool:
+    """Adds to a file durably, unless it is gone, another one, or has another length. Returns whether it did."""
+    try:
+        number = os.open(path, os.O_WRONLY | os.O_APPEND | os.O_CLOEXEC | os.O_NOFOLLOW)
+    except FileNotFoundError:
+        return False
+    with open(number, "wb", buffering=0) as file:
+        there = os.fstat(number)
+        if (there.st_ino, there.st_size) != (inode, length):
+            return False
+        while content:
+            content = content[file.write(content) or 0 :]
+        os.fsync(number)
+    return True
+
+
+def replace_file(path: str, content: bytes, mode: int = 0o600) -> int:
+    """Replaces a file durably: whoever reads it finds the old or the new one as a whole. Returns the number of its inode."""
     new = path + NEW
     try:
         with contextlib.suppress(FileNotFoundError):
             os.unlink(new)
         number = os.open(new, os.O_WRONLY | os.O_CREAT | os.O_EXCL | os.O_CLOEXEC, mode)
+        # (whatever the umask leaves of it)
+        os.fchmod(number, mode)
         with open(number, "wb") as file:
             file.write(content)
             file.flush()
+            succeed(number, path)
             os.fsync(number)
+            inode = os.fstat(number).st_ino
         os.replace(new, path)
         folder = os.open(os.path.dirname(os.path.abspath(path)), os.O_RDONLY | os.O_DIRECTORY)
         try:
@@ -576,36 +673,61 @@ def replace_file(path: str, content: bytes, mode: int = 0o600) -> None:
         with contextlib.suppress(OSError):
             os.unlink(new)
         raise Passing(f"{path}: {error.strerror}") from None
+    return inode
+
+
+def noted_written(relation: Relation, lsn: int) -> list[Any]:
+    shape = relation.shape
+    return [lsn_text(lsn), relation.oid, relation.namespace, relation.name, shape.identity, shape.columns]
+
+
+def noted_of(said: list[Any]) -> Noted:
+    """A Relation message that was noted, and the LSN of its commit."""
+    lsn, oid, namespace, name, identity, columns = said
+    return Relation(int(oid), str(namespace), str(name), shape_of(identity, columns)), parse_lsn(lsn)
 
 
 def catalog_written(catalog: Catalog) -> dict[str, Any]:
+    relations: list[Table | Partition] = [*catalog.tables.values(), *catalog.partitions.values()]
     return {
         "followed": catalog.names,
         "lsn": lsn_text(catalog.lsn),
         "highest": catalog.highest,
+        "running": catalog.running,
         "publications": {name: dataclasses.asdict(it) for name, it in catalog.publications.items()},
         "tables": [
             {
                 "oid": it.oid, "schema": it.namespace, "name": it.name, "kind": it.kind, "identity": it.shape.identity,
                 "columns": it.shape.columns, "parts": {name: part[:3] for name, part in it.parts.items()},
                 "since": {name: part.since for name, part in it.parts.items()}, "node": it.node, "altered": it.altered,
+                "primary": it.primary,
             }
             for it in catalog.tables.values()
         ],
         "partitions": [[it.oid, it.parent, it.name, it.leaf, it.node] for it in catalog.partitions.values()],
         "attached": {it.oid: it.since for it in catalog.partitions.values()},
+        "unlogged": sorted({it.oid for it in relations if not it.logged}),
+        "toast": {it.oid: it.toast for it in relations if it.toast},
         "types": catalog.types,
     }
 
 
 def catalog_of(said: dict[str, Any]) -> Catalog:
     publications = {name: publication_of(it) for name, it in said["publications"].items()}
-    tables = {it["oid"]: table_of(it) for it in said["tables"]}
     attached = {str(oid): str(since) for oid, since in said.get("attached", {}).items()}
-    partitions = {it[0]: partition_of(*it, since=attached.get(str(it[0]), "")) for it in said["partitions"]}
+    # (an earlier version of this program didn't keep these two, nor what ran)
+    unlogged = {int(oid) for oid in said.get("unlogged", [])}
+    toast = {int(oid): int(it) for oid, it in said.get("toast", {}).items()}
+    tables = {
+        it["oid"]: dataclasses.replace(table_of(it), logged=it["oid"] not in unlogged, toast=toast.get(it["oid"], 0)) for it in said["tables"]
+    }
+    partitions = {
+        it[0]: partition_of(*it, since=attached.get(str(it[0]), ""), logged=it[0] not in unlogged, toast=toast.get(it[0], 0))
+        for it in said["partitions"]
+    }
     types = {int(oid): {str(part): str(text) for part, text in it.items()} for oid, it in said["types"].items()}
     names = tuple(str(it) for it in said["followed"])
-    return Catalog(names, parse_lsn(said["lsn"]), int(said["highest"]), publications, tables, partitions, types)
+    return Catalog(names, parse_lsn(said["lsn"]), int(said["highest"]), publications, tables, partitions, types, int(said.get("running", 0)))
 
 
 def publication_of(said: dict[str, Any]) -> Publication:
@@ -616,13 +738,16 @@ def publication_of(said: dict[str, Any]) -> Publication:
     )
 
 
-def partition_of(oid: int, parent: int, name: str, leaf: bool, node: int = 0, *, since: str) -> Partition:
+def partition_of(
+    oid: int, parent: int, name: str, leaf: bool, node: int = 0, *, since: str, logged: bool, toast: int
+) -> Partition:
     """A partition; an earlier version of this program didn't keep the number of its file, nor who has attached it."""
-    return Partition(int(oid), int(parent), str(name), bool(leaf), node=int(node), since=since)
+    return Partition(int(oid), int(parent), str(name), bool(leaf), node=int(node), since=since, logged=logged, toast=toast)
 
 
 def table_of(said: dict[str, Any]) -> Table:
-    """A table; an earlier version of this program didn't keep when its columns were altered, nor by what publications have it."""
+    """A table; an earlier version of this program didn't keep when its columns were altered, nor by what publications have it,
+    nor its primary key."""
     since = {name: tuple(str(it) for it in entries) for name, entries in said.get("since", {}).items() if entries is not None}
     parts = {
         name: Part(row_filter, None if listed is None else tuple(listed), bool(whole), since.get(name))
@@ -632,6 +757,7 @@ def table_of(said: dict[str, Any]) -> Table:
     return Table(
         int(said["oid"]), str(said["schema"]), str(said["name"]), str(said["kind"]), shape, parts,
         node=int(said.get("node", 0)), altered=str(said.get("altered", "")),
+        primary=tuple(str(it) for it in said.get("primary", ())),
     )
 
 

@@ -201,9 +201,9 @@ class Repairing:
         self.ends_session = True
         self.watch.show()
 
-    def give_up(self, why: str, lasts: bool) -> None:
-        """Lets the stream go. `lasts`: another try would end in the same way."""
+    def give_up(self, why: str, lasts: bool, delays: bool = False) -> None:
+        """Lets the stream go. `lasts`: another try would end in the same way; `delays`: commits had to wait for it."""
         log.warning(f"no row is repaired: {why}")
         assert self.hold.into
-        self.snapshots.reject(self.hold.into, why, lasts)
+        self.snapshots.reject(self.hold.into, why, lasts, delays)
         self.hold.end()

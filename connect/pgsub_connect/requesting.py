@@ -8,6 +8,7 @@ from __future__ import annotations
 
 import contextlib
 import os
+import stat
 import time
 from collections.abc import Mapping
 from types import MappingProxyType
@@ -100,6 +101,9 @@ def noted(options: Options, adds: list[int], removes: list[int]) -> bool:
     """Notes what is wanted where nobody follows. Returns false where somebody does by now."""
     try:
         with locked(options.store + ".connector"):
+            # (the follower may have been told another mode)
+            with contextlib.suppress(FileNotFoundError):
+                options.mode = stat.S_IMODE(os.stat(options.store + ".tables").st_mode)
             Remembered(options.store, options.mode).want(adds, removes)
     except Passing:
         return False

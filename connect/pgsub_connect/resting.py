@@ -17,6 +17,8 @@ from typing import Any
 from . import log
 from .checkpoint import has_name
 from .errors import FileError, Passing
+from .jsontexts import Unreadable, object_of, parsed, read_plain
+from .owning import give, real
 from .postgres import Check
 from .snapshots import LOG, NEW, OF_FILE, copy, fold, part_of, remove
 
@@ -58,7 +60,7 @@ def at_rest(store: str, beside: str, check: Check) -> Iterator[tuple[str, bool]]
         stack.callback(remove_files, copied)
         try:
             for suffix in (LOG, ""):
-                copy(os.path.realpath(store) + suffix, copied + suffix, 0o600, check)
+                copy(real(store) + suffix, copied + suffix, 0o600, check)
         except OSError as error:
             # (a write that fails names no file)
             error.filename = error.filename or beside
@@ -89,7 +91,7 @@ def check_there(store: str) -> None:
 def has_log(store: str) -> bool:
     """Whether a killed program has left rows that aren't in the file yet. (The log is beside the file, whatever links to that.)"""
     try:
-        return os.stat(os.path.realpath(store) + LOG).st_size > 0
+        return os.stat(real(store) + LOG).st_size > 0
     except FileNotFoundError:
         return False
 
@@ -98,11 +100,14 @@ def locked_checkpoint(store: str) -> int | None:
     """An open file that keeps connectors from starting on this store. None where one is at work, or its filter."""
     path = store + ".connector"
     try:
-        file = os.open(path, os.O_RDONLY | os.O_CLOEXEC)
+        file = os.open(path, os.O_RDONLY | os.O_NONBLOCK | os.O_CLOEXEC)
     except FileNotFoundError:
         # (nobody has followed into it: a snapshot, or what was made of a recording)
         return os.open(os.devnull, os.O_RDONLY | os.O_CLOEXEC)
     except OSError as error:
+        if error.errno == errno.EACCES and os.stat(path).st_uid != os.geteuid():
+            # (of another account, whose files may be read: the lock of the store's own file is what is left)
+            return os.open(os.devnull, os.O_RDONLY | os.O_CLOEXEC)
         raise FileError(f"{path}: {error.strerror}") from None
     try:
         fcntl.flock(file, fcntl.LOCK_EX | fcntl.LOCK_NB)
@@ -161,10 +166,9 @@ def put_request(store: str, request: str, into: str, check: Check, **more: objec
     try:
         fcntl.flock(file, fcntl.LOCK_EX)
         os.write(file, json.dumps({"into": into, **more}).encode())
-        if os.getuid() == 0:
+        if os.geteuid() == 0:
             # (so that a follower of another account may answer)
-            owner = os.stat(store)
-            os.chown(written, owner.st_uid, owner.st_gid)
+            give(file, os.stat(real(store)))
         if link_request(store, written, request, check):
             return os.dup(file)
         return None
@@ -199,12 +203,14 @@ def wait_for_copy(store: str, request: str, into: str, check: Check) -> bool:
         # (an empty one is being written)
         if not os.path.exists(request) or found.get("into", into) != into:
             if os.path.exists(into):
+                check_copied(into)
                 return True
             raise Passing(f"{request}: the request is gone, and the copy isn't there")
         if "error" in found:
             raise Passing(f"{store}: its follower couldn't copy it: {found['error']}")
         if "copied" in found:
             # (the stream stays held)
+            check_copied(into)
             return True
         if not is_followed(store):
             remove(request)
@@ -214,6 +220,12 @@ def wait_for_copy(store: str, request: str, into: str, check: Check) -> bool:
             raise Passing(f"{store}: its follower hasn't begun to copy it in {PATIENCE:.0f} seconds")
         check()
         time.sleep(LOOK)
+
+
+def check_copied(into: str) -> None:
+    """Rejects what isn't the follower's copy, but a link to some other file."""
+    if os.path.islink(into):
+        raise FileError(f"{into}: a link in the place of a copy: the store's folder has to be its account's alone")
 
 
 def is_followed(store: str) -> bool:
@@ -226,11 +238,9 @@ def is_followed(store: str) -> bool:
 def read_request(path: str) -> dict[str, Any]:
     """A request's fields; none where there is no request, or one that is being written."""
     try:
-        with open(path, encoding="utf-8") as file:
-            found = json.load(file)
-    except (OSError, ValueError):
+        return object_of(parsed(read_plain(path, follows=False)))
+    except (OSError, Unreadable):
         return {}
-    return found if isinstance(found, dict) else {}
 
 
 def own_files(path: str) -> re.Pattern[str]:

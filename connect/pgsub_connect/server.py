@@ -6,7 +6,7 @@ import dataclasses
 import re
 
 from . import log
-from .errors import IN_USE, ServerError, Unfit
+from .errors import IN_USE, ServerError, Unfit, understood
 from .postgres import QUICK, Connection
 from .texts import literal, parse_lsn
 
@@ -47,6 +47,8 @@ class Server:
     is_standby: bool
     # when it was started, in microseconds since 1970; 0 where it doesn't say
     started: int = 0
+    # of the database, whose name may change; 0 where it doesn't say
+    database_oid: int = 0
 
 
 def settle(connection: Connection) -> None:
@@ -72,17 +74,25 @@ def unsettle_for_slot(connection: Connection) -> None:
         connection.run("RESET logical_decoding_work_mem", limit=QUICK)
 
 
-def tell_plain_text(connection: Connection) -> None:
-    """Warns of a connection that others on the way can read."""
-    if not connection.is_encrypted() and not connection.is_local():
-        log.warning("the connection isn't encrypted: sslmode=verify-full makes it so, and checks the server's name")
-
-
+@understood("itself")
 def identify(connection: Connection) -> Server:
     """Asks a replication connection whose it is."""
     system, timeline, log_end, database = (it or "" for it in connection.rows("IDENTIFY_SYSTEM", QUICK)[0])
     standby = connection.value("SELECT pg_catalog.pg_is_in_recovery()", QUICK) == "t"
-    return Server(system, int(timeline), parse_lsn(log_end), database, standby, postmaster_start(connection))
+    return Server(system, int(timeline), parse_lsn(log_end), database, standby, postmaster_start(connection), database_oid(connection))
+
+
+def database_oid(connection: Connection) -> int:
+    """The OID of the connection's database, which stays when that is renamed."""
+    query = "SELECT d.oid FROM pg_catalog.pg_database d WHERE d.datname = pg_catalog.current_database()"
+    return int(connection.value(query, QUICK) or 0)
+
+
+def is_same_database(name: str, noted: tuple[int, str] | None, server: Server) -> bool:
+    """Whether a database is the one that has this name in a checkpoint, or this OID where that was noted."""
+    if noted and noted[0] and server.database_oid:
+        return noted[0] == server.database_oid
+    return name == server.database
 
 
 def tell_version_1() -> None:
@@ -90,6 +100,7 @@ def tell_version_1() -> None:
     log.info("the server has version 1 of the protocol alone: large transactions come whole")
 
 
+@understood("its timelines")
 def left_at(connection: Connection, timeline: int, before: int) -> int | None:
     """The LSN at which the server's timeline left another one; None where it doesn't come from that one."""
     history = connection.rows(f"TIMELINE_HISTORY {timeline}", QUICK)[0][1] or ""
@@ -100,6 +111,7 @@ def left_at(connection: Connection, timeline: int, before: int) -> int | None:
     return None
 
 
+@understood("a slot")
 def slot_position(connection: Connection, slot: str) -> int | None:
     """The LSN from which the slot sends; None where there is no such slot."""
     two_phase = "s.two_phase" if connection.version() >= STREAMS else "false"
@@ -128,6 +140,7 @@ def is_lost(connection: Connection, slot: str) -> bool:
     ) == "lost"
 
 
+@understood("wal_sender_timeout")
 def sender_timeout(connection: Connection) -> float | None:
     """After how many seconds of silence the server gives a session up; None for never."""
     text = connection.value("SHOW wal_sender_timeout", QUICK) or "0"
@@ -159,12 +172,14 @@ def exact_end(end: int, flushed: int, segment: int) -> int:
     return flushed if flushed % PAGE == 0 and end == flushed + head else end
 
 
+@understood("the end of its log")
 def log_end(connection: Connection) -> int:
     """Where the server's log ends now; of a standby, how far it is replayed."""
     end, flushed, segment = connection.rows(f"SELECT {END}", QUICK)[0]
     return exact_end(parse_lsn(end or "0/0"), parse_lsn(flushed or "0/0"), int(segment or 0))
 
 
+@understood("its start")
 def postmaster_start(connection: Connection) -> int:
     """When the server was started, in microseconds since 1970. A server that runs on loses nothing, whatever becomes of its timeline."""
     text = connection.value(

@@ -11,7 +11,7 @@ from collections.abc import Iterable, Iterator
 from typing import Protocol
 
 from .digests import Plan, Queries, Summing, Sums, chunks_for, fields_in, fields_of, text_of
-from .errors import Unfit
+from .errors import Unfit, understood
 from .meeting import Source
 from .messages import unescaped
 from .postgres import Check
@@ -156,9 +156,10 @@ class Sides:
     def sums(self, plan: Plan) -> Sums:
         """Those of the server."""
         sums = Sums(plan.chunks)
-        for row in self.source.plain.rows(Queries(plan, self.source.encoding).sums()):
-            chunk, rows, first, second = (int(it or 0) for it in row)
-            sums.set(chunk, rows, first, second)
+        with understood("the sums of a table"):
+            for row in self.source.plain.rows(Queries(plan, self.source.encoding).sums()):
+                chunk, rows, first, second = (int(it or 0) for it in row)
+                sums.set(chunk, rows, first, second)
         return sums
 
     def differing(self, plan: Plan, chunks: list[int]) -> Iterator[Difference]:
@@ -169,9 +170,10 @@ class Sides:
         """The server's rows in some chunks, in the order of their keys."""
         wanted = set(chunks)
         query = Queries(plan, self.source.encoding).texts(chunks if len(chunks) <= NAMED else [])
-        for lines in self.source.plain.copied_blocks(query, BLOCK):
-            for line in lines:
-                text = line[:-1] if b"\\" not in line else unescaped(line[:-1])
-                key = plan.key_text(fields_in(text), text) if plan.key else text
-                if len(wanted) <= NAMED or plan.chunk_of(key) in wanted:
-                    yield key, text, 1
+        with understood(f"the rows of {plan.table.text()}"):
+            for lines in self.source.plain.copied_blocks(query, BLOCK):
+                for line in lines:
+                    text = line[:-1] if b"\\" not in line else unescaped(line[:-1])
+                    key = plan.key_text(fields_in(text), text) if plan.key else text
+                    if len(wanted) <= NAMED or plan.chunk_of(key) in wanted:
+                        yield key, text, 1

@@ -58,7 +58,8 @@ def full_text(options: Options, xid: int, size: int) -> str:
     which = f"transaction {xid} had {size} bytes so far, and" if size else "the open transactions had more than"
     allowed = f"{options.max_buffered} may be buffered of all that are open"
     wanted = 2 * max(options.max_buffered, size)
-    return f"{which} {allowed}: give --max-buffered {wanted}, and memory for it"
+    more = "how much more comes until the commit isn't known, so that may be too little"
+    return f"{which} {allowed}: give --max-buffered {wanted} at least, and memory for it; {more}"
 
 
 def frame_text(options: Options, longest: int) -> str:

@@ -8,7 +8,7 @@ from __future__ import annotations
 
 from . import log
 from .checkpoint import Checkpoint
-from .noting import BEGIN, CHANGES, COMMIT, TRUNCATE, changes_text, final_lsn, xid_of
+from .noting import BEGIN, CHANGES, COMMIT, OUTSIDE, TRUNCATE, TRUNCATED, changes_text, count_truncates, final_lsn, xid_of
 from .progress import Progress
 from .remembered import Remembered
 from .texts import lsn_text
@@ -72,9 +72,7 @@ class Skipping:
         if letter in CHANGES:
             self.counts[payload[25:30]] = self.counts.get(payload[25:30], 0) + 1
         elif letter == TRUNCATE:
-            for at in range(31, len(payload) - 3, 4):
-                key = payload[25:26] + payload[at : at + 4]
-                self.counts[key] = self.counts.get(key, 0) + 1
+            count_truncates(self.counts, TRUNCATED, payload, OUTSIDE + 1, self.remembered.is_known)
 
     def finish(self) -> None:
         """The commit is complete."""

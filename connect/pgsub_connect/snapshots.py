@@ -3,7 +3,6 @@
 from __future__ import annotations
 
 import contextlib
-import json
 import os
 import sqlite3
 import threading
@@ -14,8 +13,10 @@ from collections.abc import Callable
 from typing import Any
 
 from . import log
-from .errors import Stopped
+from .errors import FileError, Stopped
+from .gating import too_large_to_copy
 from .holding import LONGEST, Hold, read_locked, write_request
+from .owning import real
 from .texts import lsn_text, parse_lsn
 
 LOG = "-wal"
@@ -51,6 +52,8 @@ class Snapshots:
         # of the follower: whether large transactions come while they run, and an LSN that nothing that was passed on is above
         self.is_streaming: Callable[[], bool] = lambda: False
         self.reached: Callable[[], int] = lambda: 0
+        # whether commits at the server wait for the follower, whose synchronous_standby_names are these now, where they are told
+        self.delays_commits: Callable[[str], bool] = lambda standbys: False
         # whether a request waits for a session of whole transactions
         self.wants_whole = False
 
@@ -83,13 +86,19 @@ class Snapshots:
 
     def read_request(self, position: int) -> str | None:
         """The file that a request names, None where there is none, or the stream is to be held first."""
-        asked, is_alive = self.asked_now() or ({}, False)
-        into = asked.get("into") if "error" not in asked else None
-        if not isinstance(into, str):
+        asked, is_alive = read_locked(self.request) or ({}, False)
+        if "into" not in asked or "error" in asked:
             return None
-        into = os.path.abspath(into)
+        into = path_of(asked["into"])
+        if into is None:
+            self.answer("", "it names no file")
+            return None
         if "add" in asked:
             self.answer(into, self.adds(asked))
+            return None
+        if "tables" in asked:
+            # (it was let go while whoever asks wrote that)
+            self.reject(into, "the stream went on before the changes came", False)
             return None
         folders = {os.path.realpath(os.path.dirname(it)) for it in (into, os.path.abspath(self.store))}
         if len(folders) > 1 or os.path.lexists(into):
@@ -103,30 +112,30 @@ class Snapshots:
             self.begin_hold(into, asked, is_alive, position)
         return None
 
-    def asked_now(self) -> tuple[dict[str, Any], bool] | None:
-        """What the request says, and whether whoever asks is alive. One of somebody else isn't heard."""
-        try:
-            if os.stat(self.request).st_uid not in (os.getuid(), 0):
-                return None
-        except OSError:
-            return None
-        return read_locked(self.request)
-
     def begin_hold(self, into: str, asked: dict[str, Any], is_alive: bool, position: int) -> None:
         """Holds the stream for whoever will tell an LSN within some seconds."""
-        seconds, keeps = asked["hold"], "repair" in asked
-        if not is_alive or not isinstance(seconds, (int, float)) or not 0 < seconds <= LONGEST:
+        seconds, keeps, delays = asked["hold"], "repair" in asked, self.delays_commits(str(asked.get("standbys", "")))
+        maker = asked["maker"] if delays and type(asked.get("maker")) is int else 0
+        if not is_alive or type(seconds) not in (int, float) or not 0 < seconds <= LONGEST:
             # (who asks holds a lock as long as it is alive)
             remove(self.request)
+        elif delays and (why := self.obstacle(maker)):
+            self.answer(into, why)
         elif keeps and self.is_streaming():
             self.wants_whole = True
         else:
-            self.hold.begin(into, seconds, keeps)
+            self.hold.begin(into, seconds, keeps, maker)
             write_request(self.request, into=into, hold=seconds, held=lsn_text(position), **({"repair": True} if keeps else {}))
+
+    def obstacle(self, maker: int) -> str:
+        """Why the stream can't be held while commits wait for the follower, "" where it can."""
+        if not maker:
+            return "commits at the server wait for the follower, and whoever asks is of an older version"
+        return too_large_to_copy(self.store)
 
     def look_after(self, into: str) -> None:
         """Goes on up to the LSN that is told now, or lets the stream go where nobody waits for it any more."""
-        hold, found = self.hold, self.asked_now()
+        hold, found = self.hold, read_locked(self.request)
         if hold.is_sent:
             # (the changes are on their way, whoever has asked)
             return
@@ -145,14 +154,15 @@ class Snapshots:
             with contextlib.suppress(ValueError):
                 self.go(into, parse_lsn(str(asked["point"])))
         elif hold.is_copied and isinstance(asked.get("tables"), list):
-            hold.tables = [it for it in asked["tables"] if isinstance(it, int)]
+            hold.tables = [it for it in asked["tables"] if type(it) is int]
         elif hold.point is None and time.monotonic() > hold.until:
             self.answer(into, "the LSN at which to copy it wasn't told in time")
             hold.end()
 
     def go(self, into: str, point: int) -> None:
-        """Goes on up to an LSN. One at which rows are repaired has to be above all that was passed on."""
-        if self.hold.keeps and point <= (reached := self.reached()):
+        """Goes on up to an LSN. It has to be above all that was passed on, where it may not be, or rows are repaired."""
+        reached = self.reached() if self.hold.keeps else self.hold.gate or 0
+        if point <= reached:
             self.answer(into, f"its slot is at {lsn_text(point)}, and the stream at {lsn_text(reached)}: is it of a standby behind?")
             self.hold.end()
         else:
@@ -164,13 +174,13 @@ class Snapshots:
             if error is None:
                 os.unlink(self.request)
             else:
-                with open(self.request, "w", encoding="utf-8") as file:
-                    json.dump({"into": into, "error": error}, file)
+                write_request(self.request, into=into, error=error)
 
-    def reject(self, into: str, why: str, lasts: bool) -> None:
-        """Tells whoever waits for a request still that nothing comes of it, nor of another one if that `lasts`."""
+    def reject(self, into: str, why: str, lasts: bool, delays: bool = False) -> None:
+        """Tells whoever waits for a request still that nothing comes of it, nor of another one if that `lasts`. `delays`: commits had to
+        wait for it."""
         if self.is_waited_for(into, False):
-            write_request(self.request, into=into, error=why, lasts=lasts)
+            write_request(self.request, into=into, error=why, lasts=lasts, delays=delays)
 
     def take(self, position: int, tick: Callable[[], None]) -> None:
         """Copies the files of a store at rest, and has a thread make one file of them. `tick` is called between parts.
@@ -183,21 +193,26 @@ class Snapshots:
             self.hold.is_copied = True
         else:
             self.hold.end()
-        path = into or meant(self.path or "")
+        path = into or self.path or ""
         assert path
         if into is None:
             self.asked = False
             self.next = time.monotonic() + self.every
             self.last = position
-        new = path + NEW
         try:
+            path = into or meant(path)
+            new = path + NEW
             for suffix in OF_FILE:
                 remove(new + suffix)
             for suffix in (LOG, ""):
                 # (the log is beside the file, whatever links to that)
-                copy(os.path.realpath(self.store) + suffix, new + suffix, self.mode, tick)
+                copy(real(self.store) + suffix, new + suffix, self.mode, tick)
         except OSError as error:
             self.fail(path, into, f"{error.strerror}")
+            return
+        except FileError as error:
+            # (of a link that somebody else has put there)
+            self.fail(path, into, str(error))
             return
         except Stopped:
             self.fail(path, into, "the follower is about to end")
@@ -237,8 +252,8 @@ class Snapshots:
 
     def is_waited_for(self, into: str, is_locked: bool) -> bool:
         """Whether a request is there still. One whose lock has gone goes too."""
-        asked, is_alive = self.asked_now() or ({"into": ""}, False)
-        if os.path.abspath(str(asked.get("into", into))) != into:
+        asked, is_alive = read_locked(self.request) or ({"into": ""}, False)
+        if path_of(asked.get("into", into)) != into:
             return False
         if is_locked and not is_alive:
             remove(self.request)
@@ -264,9 +279,22 @@ class Snapshots:
             self.finishing.join()
 
 
+def path_of(said: object) -> str | None:
+    """The path of a file that a request names; None where what it says is none."""
+    if not isinstance(said, str) or "\0" in said:
+        return None
+    try:
+        return os.path.abspath(os.fsdecode(os.fsencode(said)))
+    except UnicodeEncodeError:
+        return None
+
+
 def meant(path: str) -> str:
-    """The file that a name means: the one that a link leads to, also where that isn't there yet."""
-    return os.path.realpath(path) if os.path.islink(path) else path
+    """The file that a name means: the one that a link leads to, also where that isn't there yet.
+
+    A FileError names a link of another account, also one to a folder on the way."""
+    found = real(path)
+    return found if os.path.islink(path) else path
 
 
 def part_of(store: str) -> str:

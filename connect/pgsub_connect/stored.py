@@ -65,10 +65,7 @@ def choose(stored: dict[int, Relation], remembered: Remembered, position: int) -
         older = ", ".join(str(it.oid) for it in relations if it is not last and it.oid in stored)
         if older:
             log.warning(f"{last.text()}: another table had this name before, {older}: its rows are left out")
-        if last.shape.columns:
-            chosen.append(last)
-        else:
-            log.warning(f"{last.text()}: the table has no columns, and is left out")
+        chosen.append(last)
     return chosen
 
 

@@ -2,6 +2,9 @@
 
 from __future__ import annotations
 
+# How many characters of a text of somebody else are kept, wherever it is shown.
+LONGEST = 2000
+
 
 def parse_lsn(text: str) -> int:
     """The LSN that a text as `16/B374D848` is. A ValueError says that it is none."""
@@ -41,3 +44,16 @@ def is_utf_8(text: str) -> bool:
     except UnicodeEncodeError:
         return False
     return True
+
+
+def shortened(text: str) -> str:
+    """A text of somebody else as it is shown: its beginning where it is long."""
+    return text if len(text) <= LONGEST else f"{text[:LONGEST]}.. ({len(text)} characters)"
+
+
+def said_text(said: bytes) -> str:
+    """What a server has said, as it is shown."""
+    # (what isn't shown isn't decoded)
+    text = said[: 4 * LONGEST].decode(errors="replace").strip()
+    is_whole = len(said) <= 4 * LONGEST and len(text) <= LONGEST
+    return text if is_whole else f"{text[:LONGEST]}.. ({len(said)} bytes)"

@@ -14,21 +14,24 @@ import hashlib
 import itertools
 import json
 import sqlite3
-from collections.abc import Callable, Collection, Iterator
+import time
+from collections.abc import Callable, Collection, Iterable, Iterator, Mapping
 from typing import TYPE_CHECKING
 
 from . import log, requesting
 from .checkpoint import Known
 from .digests import Field, Fields, NotText, Plan, Sums, fields_in
 from .dropping import read_known
-from .errors import FileError, Passing, Stopped, Unfit, Unrepaired
+from .errors import Delayed, FileError, Passing, Stopped, Unfit, Unrepaired
+from .gating import CURE, TABLE
 from .making import names_of
 from .meeting import Request, Source
 from .mending import Changes, Mender
-from .postgres import Check
-from .publishing import Table
+from .postgres import Check, parameters
+from .publishing import Table, sizes_of
 from .remembered import Remembered
 from .resting import check_there, is_followed
+from .server import waits_for
 from .sides import Copy, Group, Sides
 from .texts import counted, lsn_text
 from .values import Malformed
@@ -37,8 +40,12 @@ if TYPE_CHECKING:
     from .options import Options
 
 EQUAL, DIFFERENT = 0, 1
+# How often tables are compared once more that others have truncated, altered or locked meanwhile.
+AGAIN = 1
 # How much of a value is shown.
 SHOWN = 300
+# How often a repair is tried for which commits have to wait, and after how many seconds each.
+TRIES, PAUSE = 3, 2.0
 
 
 def shown(field: Field) -> str | None:
@@ -139,38 +146,94 @@ def run(options: Options, check: Check) -> int:
 
 
 def verify(options: Options, check: Check) -> int:
-    different = compare(options, check)
-    if not different or not options.repair:
-        return DIFFERENT if different else EQUAL
+    found = Compared()
+    compare(options, lambda it: it.chosen(options.table), found, check)
+    for _ in range(AGAIN):
+        if found.left:
+            log.info(f"compared once more: {found.names()}")
+            compare(options, among(list(found.left)), found, check)
+    status = DIFFERENT if found.different else EQUAL
+    if found.different and options.repair:
+        status = repaired(options, found, check)
+    return found.ended(status)
+
+
+class Compared:
+    """What comparisons have found. `left`: by OID the tables that weren't compared, and why."""
+
+    def __init__(self) -> None:
+        self.different: list[Table] = []
+        self.left: dict[int, str] = {}
+
+    def names(self) -> str:
+        return names_of(list(self.left.values()))
+
+    def ended(self, status: int) -> int:
+        """The exit status: where not all was compared it isn't that of equal tables."""
+        if self.left and status == EQUAL:
+            raise Passing(f"not compared: {self.names()}: compare later, or the others by --table")
+        if self.left:
+            log.warning(f"not compared: {self.names()}")
+        return status
+
+
+def left_of(chosen: Iterable[Table], why: Mapping[int, str]) -> dict[int, str]:
+    """Those of chosen tables that can't be compared now, in words."""
+    return {it.oid: f"{it.text()} was {why[it.oid]} meanwhile" for it in chosen if it.oid in why}
+
+
+def among(oids: Collection[int]) -> Callable[[Source], list[Table]]:
+    return lambda source: [it for it in source.tables if it.oid in oids]
+
+
+def repaired(options: Options, found: Compared, check: Check) -> int:
     try:
-        left = repair(options, {it.oid for it in different}, check)
+        left = repair(options, found, check)
     except Unrepaired as error:
         log.error(str(error))
         return DIFFERENT
     return requesting.add(options, {it.oid: it.text() for it in left}, check) if left else EQUAL
 
 
-def compare(options: Options, check: Check) -> list[Table]:
-    """Compares, and tells what differs. Returns the tables that do."""
-    with met(options, lambda it: it.chosen(options.table), check) as (sides, tables, _, point):
+def compare(options: Options, choose: Callable[[Source], list[Table]], found: Compared, check: Check) -> None:
+    """Compares, and tells what differs."""
+    with met(options, choose, check) as (sides, chosen, _, point):
+        found.left = left_of(chosen, sides.source.left)
+        tables = [it for it in chosen if it.oid not in found.left]
         tell_left(sides)
         verifier = Verifier(options, sides)
         is_equal = verifier.run(tables)
     text = f"{counted(len(tables), 'table')}, {counted(verifier.rows, 'row')} on the server at {lsn_text(point)}"
     log.info(f"{text}: {'equal' if is_equal else 'the copy differs'}")
-    return verifier.different
+    found.different += verifier.different
 
 
-def repair(options: Options, oids: Collection[int], check: Check) -> list[Table]:
+def repair(options: Options, found: Compared, check: Check) -> list[Table]:
+    """Repairs, at another try where commits had to wait for too long."""
+    for _ in range(TRIES - 1):
+        try:
+            return repair_once(options, found, check)
+        except Delayed as error:
+            log.warning(f"{error}: it is tried again")
+            pause(PAUSE, check)
+    return repair_once(options, found, check)
+
+
+def pause(seconds: float, check: Check) -> None:
+    until = time.monotonic() + seconds
+    while time.monotonic() < until:
+        check()
+        time.sleep(0.1)
+
+
+def repair_once(options: Options, found: Compared, check: Check) -> list[Table]:
     """Compares tables once more, while the stream is held, and has the changes passed on. Returns those that are to be copied anew."""
-
-    def choose(source: Source) -> list[Table]:
-        return [it for it in source.tables if it.oid in oids]
-
-    with met(options, choose, check, repairs=True) as (sides, tables, request, point):
+    with met(options, among([it.oid for it in found.different]), check, repairs=True) as (sides, chosen, request, point):
+        left = left_of(chosen, sides.source.left)
+        found.left.update(left)
         with contextlib.closing(Changes(request.changes(), options.store)) as changes:
-            mender = Mender(sides, changes)
-            mender.run(tables)
+            mender = Mender(sides, changes, bool(Remembered(options.store).feed))
+            mender.run([it for it in chosen if it.oid not in left])
         if mender.written:
             request.pass_on(list(mender.written))
             log.info(f"repaired at {lsn_text(point)}: {mender.text()}")
@@ -193,9 +256,24 @@ def met(options: Options, choose: Callable[[Source], list[Table]], check: Check,
             raise request.ended()
         source = stack.enter_context(contextlib.closing(Source(options, known, check)))
         tables = settled(choose(source), known, Remembered(options.store).partial)
+        if repairs:
+            check_sizes(options, source, tables)
         point = meet(request, source, options.hold)
         copy = stack.enter_context(contextlib.closing(Copy(request.copied(), options.store, point, check)))
         yield Sides(source, copy), tables, request, point
+
+
+def check_sizes(options: Options, source: Source, tables: list[Table]) -> None:
+    """Rejects a repair for which commits at the server would wait for too long, before any does."""
+    name = parameters(options.dsn).get("application_name") or options.slot
+    if not waits_for(source.standbys(), name):
+        return
+    size = sum(sizes_of(source.plain, tables).values())
+    if size > TABLE:
+        raise Unrepaired(
+            f"{names_of([it.text() for it in tables])}: {size} bytes would be compared while commits"
+            f" at the server wait for the follower, so no row is repaired: {CURE}"
+        )
 
 
 def settled(tables: list[Table], known: Known, partial: Collection[int] = ()) -> list[Table]:
@@ -207,15 +285,15 @@ def settled(tables: list[Table], known: Known, partial: Collection[int] = ()) ->
 
 def meet(request: Request, source: Source, seconds: float) -> int:
     """Has the server seen, and the copy taken, at one LSN, which is returned. The stream is held until that is known."""
-    request.hold()
+    request.hold(source.maker(), source.standbys())
     point, snapshot = source.make_slot(seconds)
     request.tell(point)
-    source.see(snapshot)
+    source.see(snapshot, leaves=True)
     return point
 
 
 def tell_left(sides: Sides) -> None:
     """Tells which rows of the copy aren't compared."""
-    if left := sides.copy.left(sides.source.tables):
+    if left := [it for it in sides.copy.left(sides.source.tables) if it.oid not in sides.source.left]:
         names = names_of([it.text() for it in left])
         log.info(f"the copy has rows of {counted(len(left), 'table')} that the publications don't have now: {names}")

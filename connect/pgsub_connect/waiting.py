@@ -6,7 +6,7 @@ import time
 from collections.abc import Callable
 
 from . import log
-from .errors import ServerError
+from .errors import ServerError, understood
 from .postgres import Check, Connection
 
 # After how many seconds it is told first, and again.
@@ -28,6 +28,7 @@ def for_how_long(seconds: str | None) -> str:
     return f" for {seconds} s" if seconds else ""
 
 
+@understood("transactions")
 def running_texts(connection: Connection) -> list[str]:
     """The oldest transactions that write. When one of another role began, only a role may see that reads all statistics."""
     rows = connection.rows(RUNNING)
@@ -36,6 +37,7 @@ def running_texts(connection: Connection) -> list[str]:
     ]
 
 
+@understood("transactions")
 def prepared_texts(connection: Connection) -> list[str]:
     """The oldest prepared transactions, of any database."""
     rows = connection.rows(PREPARED)
@@ -55,6 +57,7 @@ def slot_text(connection: Connection) -> str:
     return f"the slot waits for {what_is_waited_for(connection)}"
 
 
+@understood("locks")
 def what_blocks(connection: Connection, pid: int) -> str:
     """Who has the locks for which another process of the server waits; "" where it waits for none."""
     rows = connection.rows(

@@ -6,15 +6,17 @@ import time
 from typing import TYPE_CHECKING
 
 from . import log
-from .catalog import ACTIONS, Catalog, read_catalog
+from .catalog import Catalog, read_catalog
 from .checkpoint import MISSING, Checkpoint
 from .differences import NAMES
+from .doubting import resolved
 from .errors import Passing, ServerError, Unfit
 from .missing import texts_of
 from .postgres import QUICK, Check, Connection
 from .progress import Progress
 from .remembered import Remembered
 from .server import settle
+from .telling import warnings
 
 if TYPE_CHECKING:
     from .options import Options
@@ -22,6 +24,8 @@ if TYPE_CHECKING:
 # After how many seconds the file is written where nothing in it is urgent, the publications are looked at again, and that is tried
 # again where it failed; and after how many they are looked at where no message says that anything has changed.
 LATER, LOOK, AGAIN, AT_LEAST = 60.0, 1.0, 10.0, 600.0
+# At most a part in so many of the time is spent to tell the progress what was found, where that takes more than so many seconds.
+PART, LITTLE = 20, 0.005
 # For how many milliseconds a look waits for a lock. From 16 on the server opens each table for it.
 PATIENCE = 500
 LOCK_TIMEOUT = "55P03"
@@ -36,6 +40,8 @@ class Watch:
         # when the publications were looked at last
         self.looked = time.monotonic()
         self.is_told = self.is_hindered = False
+        # whether the progress has all that was found, and when it may be told again: that takes longer, the more there is
+        self.is_shown, self.next_show = True, 0.0
 
     def begin(self) -> None:
         """Accepts what is to be accepted, and tells what else was found up to now."""
@@ -70,11 +76,14 @@ class Watch:
 
     def show(self) -> None:
         """Tells the progress what was found, and ends the following where it is to be strict."""
+        began = time.monotonic()
         self.progress.found = {kind: "; ".join(self.texts_of(kind)) for kind in self.checkpoint.findings()}
         lasting = {kind: text for kind in self.checkpoint.findings() if (text := "; ".join(self.lasting_of(kind)))}
         if lasting and self.options.strict:
             texts = "\n".join(f"{kind}: {text}" for kind, text in lasting.items())
             raise Unfit(f"the copy may be wrong (copy anew, or take it as it is by --accept KIND)\n{texts}")
+        took = time.monotonic() - began
+        self.is_shown, self.next_show = True, began + (PART * took if took > LITTLE else 0.0)
 
     def compare(self, connection: Connection, position: int) -> bool:
         """Compares what the server has with what is remembered. Returns false where a lock of somebody else is in the way."""
@@ -82,6 +91,7 @@ class Watch:
         try:
             connection.run(f"SET lock_timeout = {PATIENCE}", limit=QUICK)
             now = read_catalog(connection, self.options.publication)
+            now = resolved(connection, remembered.catalog, now) if remembered.catalog else now
             connection.run("SET lock_timeout = 0", limit=QUICK)
         except ServerError as error:
             if error.sqlstate != LOCK_TIMEOUT:
@@ -91,7 +101,7 @@ class Watch:
             self.tell_hindered(error)
             return False
         self.looked, self.is_hindered = time.monotonic(), False
-        self.tell_actions(now)
+        self.tell_once(connection, now)
         if remembered.catalog is None:
             remembered.begin(now)
             log.info(f"{remembered.path} remembers the publications as they are now: what was changed before isn't found")
@@ -102,12 +112,11 @@ class Watch:
         self.keep()
         return True
 
-    def tell_actions(self, now: Catalog) -> None:
-        """Tells once in a run which publications leave out changes: the copy lacks them from the beginning, so it is no finding."""
-        for name, publication in now.publications.items() if not self.is_told else ():
-            missing = [f"{word}s" for word in ACTIONS if word not in publication.actions]
-            if missing and name not in self.remembered.made:
-                log.warning(f"publication {name} has no {' and no '.join(missing)}: these changes are missing in the copy")
+    def tell_once(self, connection: Connection, now: Catalog) -> None:
+        """Tells once in a run what no finding will tell."""
+        if not self.is_told:
+            for text in warnings(connection, now, self.remembered.made):
+                log.warning(text)
         self.is_told = True
 
     def look_again(self, check: Check, position: int) -> bool:
@@ -133,11 +142,20 @@ class Watch:
         """Puts what was found on the disk, before anything more is confirmed, and tells it."""
         if not self.remembered.is_urgent:
             return
-        self.remembered.save()
+        self.remembered.put()
         self.note_kinds()
-        for line in self.remembered.take_news():
+        news = self.remembered.take_news()
+        for line in news:
             log.warning(f"found: {line}")
-        self.show()
+        self.is_shown = self.is_shown and not news
+        if news and self.options.strict:
+            self.show()
+        self.show_later()
+
+    def show_later(self) -> None:
+        """Tells the progress what was found since it was told that last, in its time."""
+        if not self.is_shown and time.monotonic() >= self.next_show:
+            self.show()
 
     def note(self, kind: str, lsn: int, text: str) -> None:
         """Keeps what the caller has found, and ends the following with."""
@@ -152,6 +170,7 @@ class Watch:
         Much of what is altered isn't told by any message, so a long session looks now and then.
         """
         self.keep()
+        self.show_later()
         now = time.monotonic()
         wants_look = wants_look or now - self.looked >= AT_LEAST
         if wants_look and now >= self.next_look:

@@ -15,9 +15,11 @@ from . import VERSION, builds, log, probing
 from .errors import UsageError
 from .feed import awaiting, tabling
 from .feed import verifying as tables_verifying
+from .identifiers import check_lengths
 from .limits import LONGEST_FRAME, MOST_PAGES, default_buffered
 from .making import inserts_of
 from .options import Options
+from .owning import readable_by, readable_text
 from .placing import check_apart
 from .postgres import parameters
 from .recording import LONGEST
@@ -46,13 +48,13 @@ confirmed or dropped: SELECT pg_drop_replication_slot('NAME').
 """
 ENDS = """\
 exit status: 0 ended as asked; 1 the filter rejected the stream, or was killed twice in one transaction; 2 usage error; 3 a file
-can't be used; 4 the server rejected a command for good; 5 the store and the slot don't fit together, or the copy may be wrong; 6 a
-bug; 7 something is in the way only for now, such as a server that isn't there: start it again; 9 ended as asked, but changes found no
+can't be used; 4 the server rejected a command for good; 5 the store and the slot don't fit together, TLS is gone, or
+the copy may be wrong; 6 a bug; 7 something is in the way only for now, such as a server that isn't there: start it again; 9 ended as asked, but changes found no
 row in the copy
 """
 CHECKED = """\
 exit status: 0 nothing is missing, whatever is warned of; 4 something is missing, or the server rejected a command for good; 2 usage error; 3 a
-file can't be used; 6 a bug; 7 the server can't be reached for now
+file can't be used; 5 TLS was in use before, and is gone; 6 a bug; 7 the server can't be reached for now
 """
 DROPPED = """\
 exit status: 0 dropped, but for what somebody said no to; 2 usage error; 3 a file can't be used; 4 the server rejected a command for good; 5
@@ -73,7 +75,7 @@ ADDED = """\
 exit status: 0 done, or left to the next start; 1 a table is left as it was; 2 to 7 as those of `follow`
 """
 FED = """\
-exit status: 0 ended as asked; 2 usage error; 3 a file can't be used; 5 the feed lacks commits after those that the file has; 6 a bug; 7
+exit status: 0 ended as asked; 1 `tables --once`: a table is set aside; 2 usage error; 3 a file can't be used; 5 the feed lacks commits after those that the file has; 6 a bug; 7
 something is in the way only for now
 """
 SUNK = """\
@@ -87,7 +89,8 @@ ENDINGS = {
     "refresh": ADDED, "names": NAMED, "tables": FED, "sink": SUNK, "wait": FED,
 }
 TOP = os.path.dirname(os.path.dirname(os.path.dirname(os.path.realpath(__file__))))
-KINDS = ("history", "slot", "names", "publication", "values", "missing", "gap", "all")
+PLAINTEXT = "plaintext"
+KINDS = ("history", "slot", "names", "publication", "values", "missing", "gap", "all", PLAINTEXT)
 
 
 def lsn(text: str) -> int:
@@ -150,6 +153,13 @@ def add_server(parser: argparse.ArgumentParser) -> None:
     add("--mode", type=mode, default=0o600, metavar="OCTAL", help="mode of the files that are made (default: 600)")
 
 
+def add_trusting(parser: argparse.ArgumentParser) -> None:
+    """What a command may accept that connects to the server of a store."""
+    add = parser.add_argument
+    add("--accept", action="append", default=[], choices=(PLAINTEXT,),
+        help="connect without TLS although it was in use before")
+
+
 def add_following(parser: argparse.ArgumentParser) -> None:
     """Options on a store."""
     add = parser.add_argument_group("the store").add_argument
@@ -164,7 +174,8 @@ def add_following(parser: argparse.ArgumentParser) -> None:
     add("--until", type=lsn_or_now, metavar="LSN|now", help="stop once all that was committed up to this LSN, or up to now, is stored")
     add("--silence", type=seconds, default=60.0, metavar="N", help="give a server up that says nothing for N seconds (default: 60)")
     add("--strict", action="store_true", help="end with status 5 where something was found that may have made the copy wrong")
-    add("--accept", action="append", default=[], choices=KINDS, help="take what was found of this kind as it is, may be repeated")
+    add("--accept", action="append", default=[], choices=KINDS,
+        help="take what was found of this kind as it is, may be repeated; plaintext, which isn't in all: go on without TLS")
     add("--accept-gap", dest="accept", action="append_const", const="gap",
         help="go on although changes between the store and the slot may be missing")
     add("--skip", type=lsn, default=0, metavar="LSN", help="pass over the changes of the commit with this final LSN")
@@ -240,6 +251,7 @@ def add_recording(parser: argparse.ArgumentParser) -> None:
     add = parser.add_argument_group("recording").add_argument
     add("--record", metavar="FILE", help="the recording to write, a .pgx file of one session, which isn't confirmed")
     add("--append", action="store_true", help="add to the recording, after a line `--`")
+    add("--overwrite", action="store_true", help="write or add to it whatever it was before (default: a recording, or empty)")
     add_longest(add)
     add("--start", type=lsn, default=0, metavar="LSN", help="where to start (default: where the slot is)")
     add("--until", type=lsn_or_now, metavar="LSN|now", help="stop once all that was committed up to this LSN, or up to now, is recorded")
@@ -323,13 +335,13 @@ def add_refreshing(parser: argparse.ArgumentParser) -> None:
 COMMANDS: dict[str, tuple[str, Sequence[Callable[[argparse.ArgumentParser], None]]]] = {
     "follow": ("follow into a store", (add_server, add_following)),
     "record": ("only record", (add_server, add_recording)),
-    "check": ("tell what following needs of the server, and change nothing", (add_server, add_copying, add_checking)),
-    "drop": ("drop slot, publications and files", (add_server, add_dropping)),
+    "check": ("tell what following needs of the server, and change nothing", (add_server, add_trusting, add_copying, add_checking)),
+    "drop": ("drop slot, publications and files", (add_server, add_trusting, add_dropping)),
     "export": ("make ordinary tables of SQLite from the rows of a store, or of a copy of one", (add_reading, add_exporting)),
     "snapshot": ("copy a store into one file", (add_reading,)),
-    "verify": ("compare the copy of a follower that runs with its server, both at one LSN", (add_server, add_verifying)),
-    "add": ("copy tables anew beside what is followed: new ones of the publication, or any whose rows are wrong", (add_server, add_requesting)),
-    "refresh": ("tell which tables lack rows, were altered, or left the publication, and mend it", (add_server, add_refreshing)),
+    "verify": ("compare the copy of a follower that runs with its server, both at one LSN", (add_server, add_trusting, add_verifying)),
+    "add": ("copy tables anew beside what is followed: new ones of the publication, or any whose rows are wrong", (add_server, add_trusting, add_requesting)),
+    "refresh": ("tell which tables lack rows, were altered, or left the publication, and mend it", (add_server, add_trusting, add_refreshing)),
     "names": ("tell which OID each name of a table has now, and which ones had it before", (add_names,)),
     "status": (probing.ABOUT, (probing.add_options,)),
     "tables": (tabling.ABOUT, (add_tabling,)),
@@ -413,7 +425,7 @@ def check_verifying(parser: argparse.ArgumentParser, options: Options) -> None:
         if given and not options.tables:
             parser.error(f"--{name} needs --tables")
     if options.tables and options.repair:
-        parser.error("--repair is for a store: what follows its feed gets what was repaired")
+        parser.error("--repair is for a store: rows of --tables come anew by `pgsub-connect add --store STORE --table T`")
 
 
 def check_files(options: Options) -> None:
@@ -447,9 +459,13 @@ def settle_options(options: Options) -> None:
     check_files(options)
     if options.dsn_file:
         with open(options.dsn_file, encoding="utf-8", errors="surrogateescape") as file:
-            options.dsn = file.readline().strip()
+            options.dsn, readable = file.readline().strip(), readable_by(file.fileno())
     check_words(options)
-    if not options.dsn_file and {"password", "sslpassword"} & parameters(options.dsn).keys():
+    check_lengths(options)
+    has_password = {"password", "sslpassword"} & parameters(options.dsn).keys()
+    if options.dsn_file and has_password and readable:
+        log.warning(readable_text(options.dsn_file, readable))
+    if not options.dsn_file and has_password:
         log.warning("the password on the command line can be read by every account: use ~/.pgpass, PGPASSWORD or --dsn-file")
     if options.command == "verify" and options.tables:
         options.store = options.store or tables_verifying.store_of(options.tables)

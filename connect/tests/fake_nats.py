@@ -7,6 +7,7 @@ import contextlib
 import json
 import socket
 import threading
+import time
 from collections.abc import Callable
 from typing import Any, BinaryIO, NamedTuple
 
@@ -29,6 +30,10 @@ def header(headers: bytes, name: str) -> str:
     return found[0].partition(": ")[2] if found else ""
 
 
+# For how long a stream knows the ids of its messages, in seconds.
+WINDOW = 120.0
+
+
 class FakeNats:
     """The server. `stream` is what it keeps; `accepts`: after how many more messages the connection ends, None where it doesn't."""
 
@@ -37,6 +42,9 @@ class FakeNats:
         self.port = self.listening.getsockname()[1]
         self.stream: list[Kept] | None = None
         self.config: dict[str, Any] = {}
+        # by id the sequence of a message and when it came, whatever has become of it since
+        self.known: dict[str, tuple[int, float]] = {}
+        self.asked: list[str] = []
         self.last = 0
         self.info: dict[str, Any] = {"max_payload": 1000}
         self.accepts: int | None = None
@@ -100,6 +108,9 @@ class FakeNats:
         self.before()
         if self.error:
             return {"error": self.error}
+        sequence, when = self.known.get(header(headers, "Nats-Msg-Id"), (0, 0.0))
+        if sequence and time.monotonic() - when < WINDOW:
+            return {"stream": "pgsub", "seq": sequence, "duplicate": True}
         if int(header(headers, "Nats-Expected-Last-Sequence")) != self.last:
             return {"error": {"code": 400, "err_code": 10071, "description": f"wrong last sequence: {self.last}"}}
         self.add(subject, headers, data)
@@ -109,18 +120,23 @@ class FakeNats:
         assert self.stream is not None
         self.last += 1
         self.stream.append(Kept(self.last, subject, headers, data))
+        if id := self.stream[-1].id:
+            self.known[id] = self.last, time.monotonic()
 
     def ask(self, what: list[str], body: dict[str, Any]) -> dict[str, Any]:
         call = ".".join(what[:-1])
+        self.asked.append(call)
         if call == "STREAM.CREATE":
-            self.stream, self.config = [], body
+            self.stream, self.config, self.known = [], body, {}
         if self.stream is None:
             return {"error": {"code": 404, "err_code": 10059, "description": "stream not found"}}
         if call == "STREAM.PURGE":
-            self.stream.clear()
+            keep, first = body.get("keep", 0), body.get("seq", self.last + 1)
+            self.stream[:] = self.stream[len(self.stream) - keep :] if keep else [it for it in self.stream if it.sequence >= first]
         if call == "STREAM.MSG.GET":
             return self.get(body)
-        return {"config": self.config, "state": {"messages": len(self.stream), "last_seq": self.last}}
+        first = self.stream[0].sequence if self.stream else self.last + 1
+        return {"config": self.config, "state": {"messages": len(self.stream), "first_seq": first, "last_seq": self.last}}
 
     def get(self, body: dict[str, Any]) -> dict[str, Any]:
         found = [it for it in self.stream or [] if body.get("seq") == it.sequence or body.get("last_by_subj") == it.subject]

@@ -8,6 +8,7 @@ import re
 from collections.abc import Callable, Sequence
 from typing import Any
 
+from pgsub_connect.postgres import Check, never
 from pgsub_connect.sinks.redis_calls import Command, Said
 
 WRONG_TYPE = "WRONGTYPE Operation against a key holding the wrong kind of value"
@@ -146,7 +147,8 @@ class FakeCalls:
         self.server = server
         self.watched = dict[bytes, int]()
         self.queue: list[list[bytes]] | None = None
-        self.is_closed = False
+        self.is_closed = self.is_lost = False
+        self.check: Check = never
 
     def run(self, commands: Sequence[Command]) -> list[Any]:
         return [self.one([it if isinstance(it, bytes) else str(it).encode() for it in command]) for command in commands]

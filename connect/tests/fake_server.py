@@ -11,6 +11,7 @@ from unittest import mock
 
 from pgsub_connect.errors import ServerError
 from pgsub_connect.postgres import Connection
+from pgsub_connect.trust import Protection
 
 Row = list[str | None]
 Answer = list[Row] | ServerError | Callable[[str], list[Row]]
@@ -25,7 +26,6 @@ class FakeServer:
         self.commands: list[str] = []
         self.lines: list[bytes] = []
         self.opened = self.closed = 0
-        self.is_local = True
         # the connections that are open
         self.open: list[FakeConnection] = []
 
@@ -61,6 +61,7 @@ class FakeConnection:
     def __init__(self, server: FakeServer) -> None:
         self.server = server
         self.check: Callable[[], None] = lambda: None
+        self.protection = Protection()
         self.ends = os.pipe()
         server.open.append(self)
 
@@ -102,12 +103,6 @@ class FakeConnection:
 
     def consume(self) -> None:
         raise ServerError("lost")
-
-    def is_encrypted(self) -> bool:
-        return False
-
-    def is_local(self) -> bool:
-        return self.server.is_local
 
     def close(self) -> None:
         self.server.closed += 1

@@ -51,7 +51,7 @@ class RedisCase(SinkCase):
     def setUp(self) -> None:
         super().setUp()
         self.server = FakeRedis()
-        patched = mock.patch("pgsub_connect.sinks.redis_calls.Connection", lambda _: FakeCalls(self.server))
+        patched = mock.patch("pgsub_connect.sinks.redis_calls.Connection", lambda *_: FakeCalls(self.server))
         patched.start()
         self.addCleanup(patched.stop)
 

@@ -6,48 +6,57 @@ import contextlib
 import os
 import select
 import socket
+import ssl
 import struct
+import subprocess
 import threading
 import time
 from collections.abc import Iterator
 
 from pgsub_connect.errors import ServerError
 
-from .fake_server import FakeServer, Row
+from server_messages import COPY_BOTH as COPY_BOTH
+from server_messages import READY as READY
+from server_messages import answered as answered
+from server_messages import error as error
+from server_messages import message as message
 
-CANCEL = 80877102
-READY = b"Z\0\0\0\x05I"
-COPY_BOTH = b"W\0\0\0\x07\0\0\0"
+from .fake_server import FakeServer
 
-
-def message(tag: bytes, body: bytes) -> bytes:
-    return tag + struct.pack(">i", len(body) + 4) + body
-
-
-def fields(**values: str) -> bytes:
-    return b"".join(tag.encode() + text.encode() + b"\0" for tag, text in values.items()) + b"\0"
+CANCEL, WANTS_TLS = 80877102, 80877103
 
 
-def error(text: str, sqlstate: str, tag: bytes = b"E", function: str = "x") -> bytes:
-    return message(tag, fields(S="ERROR", V="ERROR", C=sqlstate, M=text, R=function))
+def wrapped(peer: socket.socket, certificate: str) -> ssl.SSLSocket:
+    """A connection after the client's wish for TLS was heard."""
+    context = ssl.SSLContext(ssl.PROTOCOL_TLS_SERVER)
+    context.load_cert_chain(certificate)
+    return context.wrap_socket(peer, server_side=True)
 
 
-def answered(rows: list[Row]) -> bytes:
-    """The messages of a query's result, in text format."""
-    width = len(rows[0]) if rows else 0
-    described = b"".join(b"c\0" + struct.pack(">ihihih", 0, 0, 25, -1, -1, 0) for _ in range(width))
-    parts = [message(b"T", struct.pack(">h", width) + described)]
-    for row in rows:
-        cells = (struct.pack(">i", -1) if it is None else struct.pack(">i", len(it.encode())) + it.encode() for it in row)
-        parts.append(message(b"D", struct.pack(">h", width) + b"".join(cells)))
-    return b"".join([*parts, message(b"C", b"SELECT 1\0")])
+def make_certificate(path: str, name: str = "127.0.0.1") -> str:
+    """Makes a file with a key and a certificate that it has signed itself, for an address. Returns
+    its path."""
+    words = ["openssl", "req", "-x509", "-newkey", "ec", "-pkeyopt", "ec_paramgen_curve:prime256v1"]
+    words += ["-nodes", "-days", "2", "-subj", f"/CN={name}", "-addext", f"subjectAltName=IP:{name}"]
+    words += ["-keyout", path + ".key", "-out", path + ".crt"]
+    subprocess.run(words, check=True, capture_output=True)
+    with open(path, "w", encoding="ascii") as file:
+        for it in (".key", ".crt"):
+            with open(path + it, encoding="ascii") as part:
+                file.write(part.read())
+    return path
 
 
 class SmallServer:
-    """Listens in a folder. `silent`: a query with this in it has no answer; `lets_in`: whether it answers those who connect;
-    `version`: which one it says that it is; `read_only`: its default_transaction_read_only."""
+    """Listens in a folder, or where `by_tcp` at a port of 127.0.0.1. `silent`: a query with this in
+    it has no answer; `lets_in`: whether it answers those who connect; `version`: which one it says
+    that it is; `read_only`: its default_transaction_read_only; `certificate`: the file of
+    certificate and key by which it has TLS; `asks`: whether it asks for passwords in clear text."""
 
-    def __init__(self, folder: str, brain: FakeServer, *, port: int = 5432, standby: bool = False, refusal: bytes = b"") -> None:
+    def __init__(
+        self, folder: str, brain: FakeServer, *, port: int = 5432, standby: bool = False,
+        refusal: bytes = b"", by_tcp: bool = False,
+    ) -> None:
         self.folder, self.brain, self.port, self.standby, self.refusal = folder, brain, port, standby, refusal
         self.silent, self.lets_in, self.version, self.read_only = "", True, "15.18", "off"
         # what a session sends once it copies, and what it was told then: when, and the payload
@@ -57,9 +66,14 @@ class SmallServer:
         self.statuses: list[tuple[float, bytes]] = []
         self.sessions = self.canceled = 0
         self.answers_asking = True
-        self.listener = socket.socket(socket.AF_UNIX)
+        self.certificate, self.asks = "", False
+        # each password that came, and whether others on the way could read it
+        self.passwords: list[tuple[str, bool]] = []
+        self.listener = socket.socket(socket.AF_INET if by_tcp else socket.AF_UNIX)
         self.path = f"{folder}/.s.PGSQL.{port}"
-        self.listener.bind(self.path)
+        self.listener.bind(("127.0.0.1", 0) if by_tcp else self.path)
+        if by_tcp:
+            self.folder, self.port = self.listener.getsockname()
         self.listener.listen(50)
         # (a pipe, whose end wakes all that wait)
         self.ended, (self.woken, self.wake) = False, os.pipe()
@@ -99,8 +113,13 @@ class SmallServer:
                 self.begin(self.serve, self.listener.accept()[0])
 
     def serve(self, peer: socket.socket) -> None:
-        with peer, contextlib.suppress(OSError, EOFError):
+        with contextlib.ExitStack() as closing, contextlib.suppress(OSError, EOFError):
+            closing.callback(lambda: peer.close())
             length, code = struct.unpack(">ii", self.read(peer, 8))
+            if code == WANTS_TLS:
+                peer.sendall(b"S" if self.certificate else b"N")
+                peer = wrapped(peer, self.certificate) if self.certificate else peer
+                length, code = struct.unpack(">ii", self.read(peer, 8))
             self.read(peer, length - 8)
             if code == CANCEL:
                 self.canceled += 1
@@ -110,6 +129,11 @@ class SmallServer:
             if self.refusal:
                 peer.sendall(self.refusal)
                 return
+            if self.asks:
+                peer.sendall(message(b"R", struct.pack(">i", 3)))
+                head = self.read(peer, 5)
+                password = self.read(peer, struct.unpack(">i", head[1:])[0] - 4)[:-1].decode()
+                self.passwords.append((password, not isinstance(peer, ssl.SSLSocket)))
             said = {"server_version": self.version, "client_encoding": "UTF8", "default_transaction_read_only": self.read_only}
             said["in_hot_standby"] = "on" if self.standby else "off"
             peer.sendall(message(b"R", bytes(4)))
@@ -130,7 +154,8 @@ class SmallServer:
     def read(self, peer: socket.socket, size: int) -> bytes:
         found = b""
         while len(found) < size:
-            self.wait_for(peer)
+            if not (isinstance(peer, ssl.SSLSocket) and peer.pending()):
+                self.wait_for(peer)
             piece = peer.recv(size - len(found))
             if not piece:
                 raise EOFError

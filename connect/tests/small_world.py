@@ -193,8 +193,14 @@ class WorldSource:
         self.tables = [it for it in self.tables if it.oid == oid]
         return self.tables[0] if self.tables else None
 
-    def make_slot(self, seconds: float) -> tuple[int, str]:
-        self.check()
+    def maker(self) -> int:
+        return 4711
+
+    def standbys(self) -> str:
+        return ""
+
+    def make_slot(self, seconds: float, check_end: Check | None = None) -> tuple[int, str]:
+        (check_end or self.check)()
         self.hook("make_slot")
         point, self.lines = self.world.slot()
         return point, "snapshot"

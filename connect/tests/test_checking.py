@@ -15,6 +15,7 @@ from pgsub_connect.errors import ServerError, UsageError
 from pgsub_connect.facts import Facts, Publication, Role, Slot, TableFacts, server_facts, slot_facts, source_wanted
 from pgsub_connect.making import Wanted
 from pgsub_connect.options import Options
+from pgsub_connect.trust import Protection
 from pgsub_connect.words import arguments
 from tests.fake_server import FakeServer, connection_to
 
@@ -76,7 +77,7 @@ class Judging(unittest.TestCase):
         self.expect(WARNING, "idle_replication_slot_timeout", "off for 3600 s", with_setting(idle_replication_slot_timeout="3600"))
         self.expect(OK, "idle_replication_slot_timeout", "no limit", with_setting(idle_replication_slot_timeout="0"))
         self.expect(WARNING, "wal_sender_timeout", "1000 ms", with_setting(wal_sender_timeout="1000"))
-        self.expect(OK, "wal_sender_timeout", "no limit", with_setting(wal_sender_timeout="0"))
+        self.expect(WARNING, "wal_sender_timeout", "no limit", with_setting(wal_sender_timeout="0"))
         self.expect(WARNING, "encoding", "SQL_ASCII", with_setting(server_encoding="SQL_ASCII"))
         self.expect(ERROR, "standby", "needs 16", changed(is_standby=True))
         self.expect(WARNING, "standby", "a copy waits", changed(is_standby=True, version=170000))
@@ -90,11 +91,20 @@ class Judging(unittest.TestCase):
 
     def test_tls(self) -> None:
         self.expect(OK, "tls", "this machine", well())
-        self.expect(WARNING, "tls", "verify-full", changed(is_local=False))
-        self.expect(OK, "tls", "in use", changed(is_local=False, is_encrypted=True))
+        for protection, level, text in (
+            (Protection("plain", (), False), WARNING, "can be read on the way; sslmode=verify-full"),
+            (Protection("plain"), OK, "not in use, to a server on this machine"),
+            (Protection("tls", (), False), WARNING, "verified: nothing, so anybody may be the server; sslmode"),
+            (Protection("tls", ("authority",), False), WARNING, "in use, verified: authority; sslmode=verify-full checks"),
+            (Protection("tls", ("authority", "name"), False), OK, "in use, verified: authority, name"),
+            (Protection("tls", ("channel binding",), False), OK, "in use, verified: channel binding"),
+        ):
+            self.expect(level, "tls", text, changed(protection=protection))
 
     def test_role(self) -> None:
         self.expect(ERROR, "role", "ALTER ROLE f REPLICATION", changed(role=Role("f")))
+        self.expect(ERROR, "role", "or GRANT rds_replication TO f", changed(role=Role("f"), replicators="rds_replication"))
+        self.expect(OK, "role", "since the server has let it", changed(role=Role("f"), has_replicated=True))
 
     def test_making(self) -> None:
         missing = [Publication("pgsub", is_there=False)]
@@ -222,6 +232,25 @@ class Printing(unittest.TestCase):
 
     def test_warnings_are_no_error(self) -> None:
         self.assertEqual(self.printed(with_setting(max_slot_wal_keep_size="-1"))[0], 0)
+
+
+class Members(unittest.TestCase):
+    """A role that may replicate as a member of its provider's role, without the attribute."""
+
+    def setUp(self) -> None:
+        self.server = Asking().server(150018)
+        self.server.answer("pg_settings", [["wal_level", "logical"], ["max_replication_slots", "10"], ["max_wal_senders", "10"]])
+        self.server.answer("pg_roles", [["f", "f", "f", "f"]])
+        self.server.answer("'rds_replication'", [["rds_replication"]])
+
+    def test_the_server_is_asked_by_trying(self) -> None:
+        with mock.patch.object(facts, "Connection", self.server.connect):
+            found = facts.all_facts("", "pgsub", Wanted(["pgsub"]), lambda: None)
+        self.assertEqual((found.has_replicated, found.replicators), (True, "rds_replication"))
+        self.assertEqual([it.level for it in results(found, Purpose()) if it.name == "role"], [OK])
+
+    def test_a_copy_begins_where_the_server_lets_it(self) -> None:
+        checking.require(connection_to(self.server), Options(), copies=True)
 
 
 class Connecting(unittest.TestCase):

@@ -12,9 +12,11 @@ from unittest import mock
 
 from pgsub_connect import checkpoint as known_of
 from pgsub_connect.checkpoint import MISSING, SIZE, Checkpoint, Counted, Known, check_gap
+from pgsub_connect.checkpoint_lines import line_of
 from pgsub_connect.dropping import locked, read_known
 from pgsub_connect.errors import FileError, Passing, Stopped, Unfit
 from pgsub_connect.resting import locked_checkpoint
+from pgsub_connect.words import KINDS
 
 from .fake_server import Quiet
 
@@ -61,9 +63,14 @@ class FileCase(Quiet):
         self.store = self.make_folder() + "/copy.db"
 
     def open(self) -> Checkpoint:
-        checkpoint = Checkpoint(self.store, 0o640)
+        checkpoint = Checkpoint(self.store)
         self.addCleanup(os.close, checkpoint.file)
         return checkpoint
+
+    def open_again(self) -> Checkpoint:
+        """As another run, while the first one has it still."""
+        with mock.patch.object(Checkpoint, "lock"):
+            return self.open()
 
     def content(self) -> bytes:
         with open(self.store + ".connector", "rb") as file:
@@ -78,8 +85,9 @@ class File(FileCase):
         checkpoint = self.open()
         checkpoint.write(True, **dataclasses.asdict(fields))
         self.assertEqual(checkpoint.read(), fields)
-        self.assertEqual((len(self.content()), self.content()[-1:]), (2 * SIZE, b"\n"))
-        self.assertEqual(os.stat(self.store + ".connector").st_mode & 0o777, 0o640)
+        self.assertEqual((len(self.content()), self.content()[-1:]), (SIZE, b"\n"))
+        checkpoint.write(True, position=6)
+        self.assertEqual((checkpoint.read().position, len(self.content())), (6, 2 * SIZE))
 
     def test_a_new_one(self) -> None:
         self.assertEqual(self.open().known, Known())
@@ -91,10 +99,50 @@ class File(FileCase):
             with self.assertRaises(FileError, msg=repr(content)):
                 self.open()
 
+    def test_fields_of_another_kind(self) -> None:
+        """They have the right checksum, or are of the version that had none."""
+        for fields in (
+            '{"phase":"old"}', '{"phase":1}', '{"system":7}', '{"slot":null}', '{"timeline":true}', '{"confirmed":-1}', '{"position":1.0}',
+            '{"position":1e999}', '{"position":NaN}', '{"position":18446744073709551616}', '{"found":[]}', '{"found":{"values":5}}',
+            '{"found":{"values":"x"}}', '{"skipped":"5"}', '{"adding":{"x":5}}', '{"adding":{"5":"x"}}', '{"adding":{"99999999999":1}}',
+            '{"other":1}', '{"encrypted":1}', "5", "[]", "null", "[" * 5000 + "]" * 5000, '{"position":' + "9" * 5000 + "}",
+        ):
+            for content in (line_of(1, fields, None), fields.encode()):
+                with open(self.store + ".connector", "wb") as file:
+                    file.write(content + b"\n")
+                with self.assertRaises(FileError, msg=repr(content)):
+                    self.open()
+                with self.assertRaises(FileError, msg=repr(content)):
+                    read_known(self.store + ".connector")
+
+    def test_a_later_version(self) -> None:
+        with mock.patch("pgsub_connect.checkpoint_lines.VERSION", 3):
+            self.open().write(True, position=5)
+        with self.assertRaisesRegex(FileError, r"of another version of this program \(3\)"):
+            self.open_again()
+
     def test_too_long(self) -> None:
         with self.assertRaisesRegex(FileError, "too long"):
             self.open().write(True, database="x" * SIZE)
         self.assertEqual(self.content(), b"")
+
+    def test_room_for_every_name_and_finding(self) -> None:
+        """The longest names that a server has, all findings, and many tables that are being added."""
+        most = (1 << 64) - 1
+        self.assertLessEqual({*KINDS} - {"all", "plaintext"}, {*known_of.KINDS})
+        for database in ("\u0431" * 31, "\x01" * 63, '"' * 63):
+            checkpoint = self.open_again()
+            checkpoint.put(True, Known(known_of.FOLLOWING, str(most), database, "s" * 63, (1 << 32) - 1, most), None)
+            for kind in known_of.KINDS:
+                checkpoint.note_found(kind, most)
+            count = 0
+            while checkpoint.has_room_for(count + 4000000000):
+                checkpoint.write_adding({**checkpoint.adding(), count + 4000000000: most})
+                count += 1
+            self.assertGreater(count, 50)
+            checkpoint.put(True, dataclasses.replace(checkpoint.known, confirmed=most, position=most, skipped="FFFFFFFF/FFFFFFFF"),
+                           Counted(most, most, most, most, (1 << 32) - 1, (most, most)))
+            self.assertEqual(self.open_again().known, checkpoint.known)
 
     def test_a_full_disk_passes(self) -> None:
         checkpoint = self.open()
@@ -106,13 +154,14 @@ class File(FileCase):
         checkpoint, text = self.open(), 'a","confirmed":5,"position":5,"'
         checkpoint.write(True, database=text, slot=text, confirmed=5, position=5)
         changes: tuple[tuple[int, int, dict[str, Any]], ...] = (
-            (7, 6, {}), (8, 8, {"found": {"values": text}}), (9, 8, {}), (9, 9, {"adding": {"7": 5}}), (90, 80, {}),
+            (7, 6, {}), (8, 8, {"found": {text: "0/5"}}), (9, 8, {}), (9, 9, {"adding": {"7": 5}}), (90, 80, {}),
         )
         for confirmed, position, fields in changes:
             checkpoint.write(False, **fields)
             checkpoint.note(confirmed, position)
             self.assertEqual((checkpoint.known.confirmed, checkpoint.known.position), (confirmed, position))
-            self.assertEqual((checkpoint.read(), self.content()[:SIZE].strip()), (checkpoint.known, known_of.encoded(checkpoint.known)))
+            line = line_of(checkpoint.number, known_of.spelled(checkpoint.known), checkpoint.counted)
+            self.assertEqual((checkpoint.read(), line in self.content()), (checkpoint.known, True))
 
     def test_a_note_that_cant_be_written(self) -> None:
         checkpoint = self.open()
@@ -184,7 +233,7 @@ class File(FileCase):
             begin()
             before, calls = len(os.listdir("/proc/self/fd")), iter(checks)
             with mock.patch("time.sleep"):
-                checkpoint = Checkpoint(self.store, 0o640, lambda calls=calls: next(calls, lambda: None)())  # type: ignore[misc]
+                checkpoint = Checkpoint(self.store, lambda calls=calls: next(calls, lambda: None)())  # type: ignore[misc]
             self.assertTrue(os.path.samestat(os.stat(path), os.fstat(checkpoint.file)))
             self.assertIsNone(locked_checkpoint(self.store))
             self.assertEqual((files, len(os.listdir("/proc/self/fd"))), ([], before))
@@ -219,25 +268,21 @@ class File(FileCase):
 
 
 class Counts(FileCase):
-    """The second line: changes that found no row."""
+    """Changes that found no row."""
 
     def reopened(self) -> Counted | None:
         """What another run reads."""
         return self.open_again().counted
-
-    def open_again(self) -> Checkpoint:
-        with mock.patch.object(Checkpoint, "lock"):
-            return self.open()
 
     def test_what_is_written_is_read(self) -> None:
         most = (1 << 64) - 1
         checkpoint = self.open()
         for counted in (Counted(1, 2), Counted(most, most, most, most, (1 << 32) - 1, (most, most))):
             checkpoint.put(True, Known(known_of.FOLLOWING), counted)
-            self.assertEqual((self.reopened(), len(self.content())), (counted, 2 * SIZE))
+            self.assertEqual(self.reopened(), counted)
 
-    def test_an_older_file_has_no_such_line(self) -> None:
-        for content in (b"", b'{"phase":"following","position":1280}'.ljust(SIZE - 1) + b"\n"):
+    def test_an_older_file_counts_none(self) -> None:
+        for content in (b"", b'{"phase":"following","position":1280}'.ljust(511) + b"\n"):
             with open(self.store + ".connector", "wb") as file:
                 file.write(content)
             checkpoint = self.open_again()
@@ -246,26 +291,11 @@ class Counts(FileCase):
             self.assertFalse(checkpoint.begin_counting(0x600, False))
             self.assertEqual(self.reopened(), Counted(0x600, 0x600))
 
-    def test_an_earlier_version_reads_the_first_line(self) -> None:
-        checkpoint = self.open()
-        checkpoint.begin_counting(5, False)
-        checkpoint.note_missing(3, 8, 1, 9)
-        checkpoint.write(True, slot="pgsub")
-        self.assertEqual(read_known(self.store + ".connector"), Known(slot="pgsub", position=9))
-
-    def test_what_an_earlier_version_stores_meanwhile(self) -> None:
-        checkpoint = self.open()
-        checkpoint.begin_counting(5, False)
-        os.pwrite(checkpoint.file, b'{"position":9}'.ljust(SIZE - 1) + b"\n", 0)
-        again = self.open_again()
-        self.assertTrue(again.begin_counting(9, False))
-        self.assertEqual((self.reopened(), again.known.position), (Counted(5, 9, gap=(5, 9)), 9))
-
     def test_torn_or_foreign(self) -> None:
         for content in (b"x", b"[]", b"5", b"null", b"{}", b'{"since":1}', b'{"since":1,"upto":"2"}', b'{"since":1,"upto":2,"gap":[1]}',
                         b'{"since":1,"upto":2,"gap":5}', b'{"since":1,"upto":2,"other":3}'):
             with open(self.store + ".connector", "wb") as file:
-                file.write(b"{}".ljust(SIZE - 1) + b"\n" + content)
+                file.write(b"{}".ljust(511) + b"\n" + content)
             with self.assertRaises(FileError, msg=repr(content)):
                 self.open_again()
 

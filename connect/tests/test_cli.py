@@ -32,10 +32,10 @@ class Modes(Quiet):
             store = f"{self.make_folder()}/copy.db"
             options = arguments(["follow", "--store", store, "--mode", word])
             settle_options(options)
-            os.close(Checkpoint(store, options.mode).file)
+            os.close(Checkpoint(store).file)
             replace_file(f"{store}.tables", b"", options.mode)
-            for name in ("connector", "tables"):
-                self.assertEqual(stat.S_IMODE(os.stat(f"{store}.{name}").st_mode), mode, name)
+            for name, wanted in (("connector", 0o600), ("tables", mode)):
+                self.assertEqual(stat.S_IMODE(os.stat(f"{store}.{name}").st_mode), wanted, name)
 
 
 class Signalled(Quiet):
@@ -169,6 +169,18 @@ class Words(Quiet):
         os.chdir(os.path.join(folder, word))
         self.refused("^--feed .*a\udcff/feed: that isn't UTF-8$", "follow", "--store", "copy.db", "--feed", "feed")
         self.assertEqual(os.listdir(), [])
+
+    def test_names_that_the_server_would_cut(self) -> None:
+        """Each is told before any server is asked: it would say that another one isn't there."""
+        self.addCleanup(os.umask, os.umask(0o022))
+        store = self.make_folder() + "/copy.db"
+        for option, name in (("--publication", "p" * 70), ("--publication", "\u0416" * 32), ("--slot", "s" * 64)):
+            length = len(name.encode())
+            for command in (("follow", "--store", store), ("record", "--record", store), ("check",)):
+                self.refused(f"^{option} {name}: it has {length} bytes, and a name has at most 63", *command, option, name)
+        for name, keyless in (("p" * 63, "refuse"), ("\u0416" * 31, "refuse"), ("p" * 55, "inserts")):
+            settle_options(arguments(["check", "--publication", name, "--keyless", keyless]))
+        self.refused("_inserts: it has 64 bytes", "check", "--publication", "p" * 56, "--keyless", "inserts")
 
     def test_files_that_are_opened_here(self) -> None:
         self.addCleanup(os.umask, os.umask(0o022))

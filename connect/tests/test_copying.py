@@ -181,12 +181,6 @@ class Locks(Copying):
 
 
 class Sent(Copying):
-    def test_plain_text_is_warned_of_before_rows_are_read(self) -> None:
-        self.server.is_local = False
-        self.copier().run()
-        warnings = [it for it in self.said if "the connection isn't encrypted" in it]
-        self.assertEqual((len(warnings), self.said[0]), (1, warnings[0]))
-
     def test_transactions(self) -> None:
         self.copier().run()
         rows = inserts(self.server.lines, InsertHeads(STOCK, 0))
@@ -539,6 +533,33 @@ class Ends(Copying):
                 self.server.answer("ALTER_REPLICATION_SLOT", ServerError("it is active for PID 7", "55006"))
                 self.copier().run()
                 self.assertEqual(set(self.server.told("ALTER_REPL")), {'ALTER_REPLICATION_SLOT "pgsub" (FAILOVER false)'} if told else set())
+
+    def test_a_slot_is_looked_at_while_a_filter_opens_its_store(self) -> None:
+        self.server.server_version = 180000
+        self.patch(copying, "LOOK", 0.0)
+        self.server.answer("SELECT s.wal_status", [["reserved"]])
+        looks, start = list[int](), FakeFilter.start
+
+        def slow(fake: FakeFilter, check: Callable[[], None]) -> int:
+            before = len(self.server.told("ALTER_REPL"))
+            check()
+            looks.append(len(self.server.told("ALTER_REPL")) - before)
+            return start(fake, check)
+
+        self.patch(FakeFilter, "start", slow)
+        self.copier().run()
+        self.assertEqual(set(looks), {1})
+
+    def test_how_often_depends_on_when_it_is_ended(self) -> None:
+        for said, often, warned in ((None, copying.LOOK, False), ("0", copying.LOOK, False), ("86400", copying.LOOK, False), ("30", 10.0, False), ("3", 1.0, True)):
+            with self.subTest(said):
+                self.setUp()
+                self.server.server_version = 170000 if said is None else 180000
+                self.server.answer("idle_replication_slot_timeout')::", [[said]])
+                copier = self.copier()
+                copier.run()
+                self.assertEqual(copier.look, often)
+                self.assertEqual(any("any pause may lose the slot" in it for it in self.said), warned)
 
     def test_a_slot_is_looked_at_now_and_then(self) -> None:
         self.server.answer("SELECT s.wal_status", [["reserved"]])

@@ -4,6 +4,7 @@ from __future__ import annotations
 
 import dataclasses
 import unittest
+from collections.abc import Sequence
 
 from pgsub_connect.catalog import Catalog, Part, Partition, Publication, Table, note_since, ways_to
 from pgsub_connect.differences import NAMES, PUBLICATION, VALUES, Difference, differences, shape_differences
@@ -62,6 +63,20 @@ UPDATES, ONLY = (dataclasses.replace(INSERTS, actions=it) for it in (("insert", 
 def altered(table: Table, node: int, by: str) -> Table:
     """A table whose rows are in this file, and whose columns these transactions have made."""
     return dataclasses.replace(table, node=node, altered=by)
+
+
+def kept_at(table: Table, toast: int, node: int, by: str) -> Table:
+    """So it is, and has its long values at a place of its own."""
+    return dataclasses.replace(altered(table, node, by), toast=toast)
+
+
+def unlogged(partition: Partition) -> Partition:
+    return dataclasses.replace(partition, logged=False)
+
+
+def shown(catalog: Catalog, kept: Sequence[int] = (), fresh: Sequence[int] = ()) -> Catalog:
+    """A reading with what the rows have told."""
+    return dataclasses.replace(catalog, kept=frozenset(kept), fresh=frozenset(fresh))
 
 
 # what it is, what was there, what is there, the kinds of what is said, a word of the first text
@@ -172,6 +187,25 @@ CASES: list[Case] = [
      [PUBLICATION] * 3, "the root's name"),
     ("not via root", a_catalog(ROOT, publication=VIA_ROOT, partitions=TREE), a_catalog(a_table(11, "p1"), partitions=TREE),
      [PUBLICATION] * 3, "their own names"),
+    # partitions that had no rows when they were attached
+    ("attached without rows", a_catalog(ROOT, partitions=TREE), shown(a_catalog(ROOT, partitions=(*TREE, NEW)), fresh=[12]), [""],
+     "partition public.p2 (12) of public.root (10) is new"),
+    ("attached without rows, under its own name", a_catalog(partitions=TREE), shown(a_catalog(a_table(12, "p2"), partitions=(*TREE, NEW)), fresh=[12]),
+     [""], "table public.p2 (12) is new"),
+    # what is in no log
+    ("unlogged now", a_catalog(ROOT, partitions=FILES), a_catalog(ROOT, partitions=(*FILES[:2], unlogged(ANEW[2]))), [PUBLICATION],
+     "partition public.p2 (12) of public.root (10) is unlogged now"),
+    ("unlogged still", a_catalog(ROOT, partitions=(*FILES[:2], unlogged(FILES[2]))), a_catalog(ROOT, partitions=(*FILES[:2], unlogged(ANEW[2]))), [], ""),
+    ("logged again", a_catalog(ROOT, partitions=(*FILES[:2], unlogged(FILES[2]))), a_catalog(ROOT, partitions=(*FILES[:2], ANEW[2])),
+     [PUBLICATION], "public.p2 (12) of public.root (10) was unlogged, and isn't any more"),
+    ("a new one that is unlogged", a_catalog(ROOT, partitions=TREE), a_catalog(ROOT, partitions=(*TREE, unlogged(NEW))), [""], "aren't in the copy"),
+    ("unlogged now, under its own name", a_catalog(a_table(11, "p1"), partitions=TREE),
+     a_catalog(dataclasses.replace(a_table(11, "p1"), logged=False), partitions=(TREE[0], unlogged(TREE[1]))), [PUBLICATION],
+     "table public.p1 (11) is unlogged now"),
+    ("logged again, under its own name", a_catalog(dataclasses.replace(a_table(11, "p1"), logged=False), partitions=(TREE[0], unlogged(TREE[1]))),
+     a_catalog(a_table(11, "p1"), partitions=TREE), [PUBLICATION], "table public.p1 (11) was unlogged"),
+    ("a new one that is unlogged, under its own name", a_catalog(partitions=TREE),
+     a_catalog(dataclasses.replace(a_table(12, "p2"), logged=False), partitions=(*TREE, unlogged(NEW))), [""], "aren't in the copy"),
     # types
     ("a label renamed", a_catalog(types={500: MOOD}), a_catalog(types={500: {**MOOD, "501": "blue"}}), [VALUES], "sad became blue"),
     ("a label added", a_catalog(types={500: MOOD}), a_catalog(types={500: {**MOOD, "503": "great"}}), [], ""),
@@ -196,6 +230,11 @@ CASES: list[Case] = [
      [VALUES], "another type"),
     ("values of partitions computed anew", a_catalog(altered(ROOT, 0, "700"), partitions=FILES),
      a_catalog(altered(ROOT, 0, "800"), partitions=ANEW), [VALUES], "public.root (10) was written anew"),
+    ("another place for long values", a_catalog(kept_at(T, 5, 1, "700")), a_catalog(kept_at(T, 6, 2, "800")), [VALUES], "public.t (1) was written anew"),
+    ("the same place for them", a_catalog(kept_at(T, 5, 1, "700")), a_catalog(kept_at(T, 5, 2, "800")), [], ""),
+    ("a place that wasn't known", a_catalog(altered(T, 1, "700")), a_catalog(kept_at(T, 5, 2, "800")), [VALUES], "public.t (1) was written anew"),
+    ("rows that have told it", a_catalog(altered(T, 1, "700")), shown(a_catalog(altered(T, 2, "800")), kept=[1]), [], ""),
+    ("rows of another table", a_catalog(altered(T, 1, "700")), shown(a_catalog(altered(T, 2, "800")), kept=[2]), [VALUES], "public.t (1)"),
     ("columns of a root altered", a_catalog(altered(ROOT, 0, "700"), partitions=FILES),
      a_catalog(altered(ROOT, 0, "800"), partitions=FILES), [], ""),
     ("a key", a_catalog(T), a_catalog(a_table(1, "t", a_shape([ID, (1, "name", 25, -1)]))), [VALUES], "id, name"),

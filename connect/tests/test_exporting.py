@@ -3,6 +3,7 @@
 from __future__ import annotations
 
 import contextlib
+import dataclasses
 import os
 import sqlite3
 import stat
@@ -27,6 +28,7 @@ TYPES = {
     "int2": 21, "int4": 23, "int8": 20, "bool": 16, "bytea": 17, "float4": 700, "float8": 701, "numeric": 1700, "date": 1082,
     "odd": 99999,
 }
+OTHERS = ((0, "a", 23, -1), (1, "b", 25, -1), (0, "c", 23, -1))
 
 
 class Case(StoreCase):
@@ -149,6 +151,44 @@ class Keys(Case):
         for name in "fn":
             self.assertEqual(self.info(name), [("x", 0), ("b", 0), ("a", 0)])
 
+    def remember(self, *primary: str) -> None:
+        """The server has this primary key of a table with REPLICA IDENTITY FULL, and of one whose
+        identity is an index of b."""
+        remembered = Remembered(self.path)
+        tables = [a_table(oid, name, a_shape(OTHERS, name)) for oid, name in enumerate("fi", 1)]
+        remembered.begin(a_catalog(*(dataclasses.replace(it, primary=primary) for it in tables)))
+        remembered.save()
+        for it in tables:
+            self.store.table(it.oid, it.name, OTHERS, letter=it.name)
+
+    def test_primary_where_the_identity_is_another(self) -> None:
+        self.remember("c", "a")
+        for oid in (1, 2):
+            self.store.row(oid, "1", "x", "1", key=None)
+            self.store.row(oid, "1", "y", "2", key=None)
+        self.assertEqual(self.export(), [])
+        for name in "fi":
+            self.assertEqual(self.info(name), [("a", 1), ("b", 0), ("c", 2)])
+            self.assertEqual(self.rows(f"SELECT * FROM {name}"), [(1, "x", 1), (1, "y", 2)])
+
+    def test_primary_that_doesnt_fit(self) -> None:
+        """The catalog is newer, and has a column that the rows lack, or one that is null in them,
+        or rows have equal keys."""
+        self.remember("a", "new")
+        told = self.export()
+        self.assertRegex(told[0], "public.f .1.: the stream doesn't have new of the primary key")
+        self.assertEqual(self.info("f"), [("a", 0), ("b", 0), ("c", 0)])
+        self.assertEqual(self.info("i"), [("a", 0), ("b", 1), ("c", 0)])
+        for other in (None, "1"):
+            os.unlink(self.into)
+            self.store.base.executescript("DELETE FROM rel; DELETE FROM held")
+            self.remember("c")
+            self.store.row(1, "1", "x", "1", key=None)
+            self.store.row(1, "2", "x", other, key=None)
+            self.assertRegex(self.export()[0], "public.f .1.: rows have null in the key, or equal")
+            self.assertEqual(self.info("f"), [("a", 0), ("b", 0), ("c", 0)])
+            self.assertEqual(self.rows("SELECT a FROM f ORDER BY 1"), [(1,), (2,)])
+
     def test_equal_rows(self) -> None:
         self.store.table(1, "t", letter="f")
         self.store.row(1, "1", "a", key=None, copies=3)
@@ -215,8 +255,8 @@ class Names(Case):
         self.assertEqual(
             names,
             {
-                1: "T", 2: "t 2", 3: "a.b", 4: "a.b 4", 5: "_sqlite_stat1", 6: "pgsub_position 6", 7: "PGSUB_TABLES 7",
-                8: "pgsub_old 8", 9: "t 2 9",
+                1: "T", 2: "t 2", 3: "a.b", 4: "a.b 4", 5: "_sqlite_stat1", 6: "_pgsub_position", 7: "_PGSUB_TABLES",
+                8: "_pgsub_old", 9: "t 2 9",
             },
         )
         for oid, name in names.items():
@@ -235,8 +275,10 @@ class Names(Case):
     def test_without_columns(self) -> None:
         self.store.table(1, "t", [], letter="f")
         self.store.row(1, key=None, copies=2)
-        self.assertEqual(self.export(), ["warning: public.t (1): the table has no columns, and is left out"])
-        self.assertEqual(self.tables(), [])
+        self.assertEqual(self.export(), [])
+        self.assertEqual(self.rows("SELECT * FROM t"), [(None,), (None,)])
+        self.export(text=True)
+        self.assertEqual(self.rows("SELECT pgsub_none FROM t"), [(None,), (None,)])
 
 
 class SeveralOfOneName(Case):

@@ -6,6 +6,7 @@ import contextlib
 import os
 import pickle
 import random
+import shutil
 import signal
 import sqlite3
 import time
@@ -331,11 +332,29 @@ class Back(FollowingCase):
         self.assertEqual(truncated, 0x1E00)
         for at in range(0, self.feed.at + 1, 0x300):
             if at < truncated:
-                with self.assertRaisesRegex(Unfit, r"truncates public.keyed \(1\)"):
+                with self.assertRaisesRegex(Unfit, r"truncates public.keyed \(1\).*: make a new file by --into, without --base$"):
                     self.copied(at)
             else:
                 self.assertEqual(read(self.copied(at)), (at, history.rows[at]), hex(at))
         self.assertEqual(read(self.into)[0], self.feed.at)
+
+    def test_a_truncation_in_a_feed_that_begins_later(self) -> None:
+        self.feed.commit(0x100, [insert("1", "a", of=KEYED)])
+        self.options.at = 0x100
+        self.run_it()
+        self.feed.end()
+        self.feed.commit(0x200, [insert("2", "b", of=KEYED)])
+        self.feed.commit(0x300, [truncate(of=KEYED)])
+        shutil.copyfile(self.into, self.folder / "base.db")
+        self.options.at = None
+        self.run_it()
+        next(it for it in sorted(self.path.iterdir()) if len(it.name) == 16).unlink()
+        with self.assertRaisesRegex(Unfit, "make a new file by --into, with --base, an export or tables of 0/200 or before$"):
+            self.copied(0x200)
+        new = Options(command="tables", feed=str(self.path), base=str(self.folder / "base.db"), into=f"{self.folder}/new.db", once=True, at=0x200)
+        with logged():
+            self.assertEqual(tabling.run(new, never), 0)
+        self.assertEqual(read(new.into)[1][0], Counter([(1, "a"), (2, "b")]))
 
     def test_there_and_back(self) -> None:
         self.feed.commit(0x100, [insert("1", "a", of=KEYED)])

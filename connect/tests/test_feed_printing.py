@@ -1,4 +1,4 @@
-"""What `pgsub-feed` prints: an example of each operation in each format, and the SQL that takes commits back."""
+"""What `pgsub-feed` prints: an example of each operation in each format."""
 
 from __future__ import annotations
 
@@ -10,12 +10,12 @@ from collections.abc import Sequence
 from typing import Any
 from unittest import mock
 
-from feed_text import UNSENT, About, Column, Line, lsn_text
+from feed_text import UNSENT, About, Column, Line
 from pgsub_connect.cli import UNFIT, USAGE
 from pgsub_connect.feed.identifying import index_text
 from pgsub_connect.feed.printing import main
 
-from .feeds import ID, NAME, STOCK, FeedCase, delete, insert, table, truncate, update
+from .feeds import ID, STOCK, FeedCase, delete, insert, table, truncate, update
 from .vectors import logged
 
 MANY = table(
@@ -52,10 +52,15 @@ DEBEZIUM = {
 }
 
 
+class Terminal(io.TextIOWrapper):
+    def isatty(self) -> bool:
+        return True
+
+
 class PrintingCase(FeedCase):
-    def print(self, *words: str, status: int = 0) -> str:
+    def print(self, *words: str, status: int = 0, terminal: bool = False) -> str:
         out = io.BytesIO()
-        text = io.TextIOWrapper(out)
+        text = Terminal(out) if terminal else io.TextIOWrapper(out)
         with mock.patch.object(sys, "stdout", text), mock.patch("pgsub_connect.feed.printing.stop_by_signals"):
             self.assertEqual(main(["--feed", str(self.path), *words]), status)
         text.flush()
@@ -91,6 +96,43 @@ class Formats(PrintingCase):
         self.assertEqual(ops, ["c", "c", "d", "t", "x"])
         self.assertEqual([json.loads(line)["table"] for line in self.print("--table", "s.many").splitlines()], ["many"])
         self.assertEqual(len(self.print("--to", "0/100").splitlines()), 1)
+
+    def test_chosen_by_quoted_names(self) -> None:
+        odd = table(3, 'Mixed "Case.t%', schema="s2")
+        self.feed.commit(0x25504200, [insert("1", "a", of=odd)])
+        for name in ('s2."Mixed ""Case.t%"', '"s2"."Mixed ""Case.t%"', 's2.Mixed "Case.t%'):
+            with self.subTest(name):
+                found = self.print("--from", "0/25504168", "--table", name).splitlines()
+                self.assertEqual([json.loads(line)["table"] for line in found], [odd.table])
+        self.assertEqual(len(self.print("--to", "0/100", "--table", '"stock"').splitlines()), 1)
+
+    def test_names_that_no_table_has(self) -> None:
+        several: list[list[str]] = [[], ["--format", "debezium"], ["--to", "0/100"]]
+        for words in several:
+            with logged() as told:
+                self.print("--from", "0/0", "--table", "stock", "--table", "Stock", *words)
+            self.assertRegex(told[-1], "warning: --table Stock: no commit has changed such a table so far")
+        with logged() as told:
+            self.assertEqual(self.print("--undo", "0/0", "0/100", "--table", "stoc", status=UNFIT), "")
+        self.assertRegex(told[0], "--table stoc: no commit after 0/0 up to 0/100 has such a table")
+
+    def test_control_characters(self) -> None:
+        """What JSON leaves as it is, and terminals take for commands."""
+        self.feed.commit(0x25504200, [insert("1", "\x1b[1m\x7f\x80\x9b1m\x9f\xa0")])
+        for form in ("objects", "debezium", "bulk"):
+            text = self.print("--from", "0/25504168", "--format", form)
+            self.assertIn(r'"\u001b[1m\u007f\u0080\u009b1m\u009f' + "\xa0", text)
+            self.assertEqual(json.loads(text.splitlines()[-1])["name" if form == "bulk" else "after"], (
+                "\x1b[1m\x7f\x80\x9b1m\x9f\xa0" if form == "bulk" else {"id": 1, "name": "\x1b[1m\x7f\x80\x9b1m\x9f\xa0"}
+            ))
+
+    def test_control_characters_of_lines(self) -> None:
+        """The feed's own lines are as they are, but on a terminal."""
+        self.feed.commit(0x25504200, [insert("1", "\x9b1m\x7f")])
+        words = ("--from", "0/25504168", "--format", "lines")
+        plain = self.print(*words)
+        self.assertIn('"\x9b1m\x7f"', plain)
+        self.assertEqual(self.print(*words, terminal=True), plain.replace("\x9b", r"\u009b").replace("\x7f", r"\u007f"))
 
     def test_an_lsn_that_no_commit_ends_at(self) -> None:
         with logged():
@@ -174,95 +216,3 @@ class BulkLines(PrintingCase):
         with logged() as told:
             self.print("--format", "bulk", status=UNFIT)
         self.assertRegex(told[0], "80000000/0: the LSN is above the greatest version")
-
-
-def own(name: str) -> str:
-    oid = f"'\"public\".\"{name}\"'::pg_catalog.regclass"
-    return f"(tableoid = {oid} OR tableoid IN (SELECT relid FROM pg_catalog.pg_partition_tree({oid})))"
-
-
-def shown(**values: str) -> str:
-    """That columns are printed so."""
-    return " AND ".join(f"pg_catalog.format('%s', \"{name}\") = {value}" for name, value in values.items())
-
-
-class Undoing(PrintingCase):
-    def undone(self, *lines: Line, status: int = 0) -> list[str]:
-        """The statements that take these back."""
-        self.feed.commit(0x100, [])
-        self.feed.commit(0x200, lines)
-        text = self.print("--undo", "0/100", "0/200", status=status)
-        return [it.partition("BEGIN ")[2].partition("; GET DIAGNOSTICS")[0] for it in text.split("DO ")[1:]]
-
-    def test_of_a_key(self) -> None:
-        first, second, escaped = """"id" = '1' AND """, """"id" = '2' AND """, r"E'b\\'"
-        there = "RAISE EXCEPTION '%', '0/200:3, public.stock: there is a row with this key by now'"
-        self.assertEqual(
-            self.undone(
-                insert("1", None), update(["1", "o'x"], ["1", "b\\"]), update(["1", "b"], ["2", "b"]), delete("1", "a"),
-                update(["1", "a"], ["1", "a"]),
-            ),
-            [
-                f"""IF EXISTS (SELECT FROM "public"."stock" WHERE "id" = '1') THEN {there}; END IF; """
-                'INSERT INTO "public"."stock" ("id", "name") OVERRIDING SYSTEM VALUE VALUES (\'1\', \'a\')',
-                f"""UPDATE "public"."stock" SET "id" = '1' WHERE {second}{shown(id="'2'", name="'b'")} AND {own("stock")}""",
-                f"""UPDATE "public"."stock" SET "name" = 'o''x' WHERE {first}{shown(id="'1'", name=escaped)} AND {own("stock")}""",
-                f"""DELETE FROM "public"."stock" WHERE {first}{shown(id="'1'")} AND "name" IS NULL AND {own("stock")}""",
-            ],
-        )
-
-    def test_without_a_key(self) -> None:
-        bag = table(3, "bag", letter="f")
-        where = '(tableoid, ctid) = (SELECT tableoid, ctid FROM "public"."bag" WHERE '
-        self.assertEqual(
-            self.undone(insert("1", "a", of=bag), delete("1", None, of=bag), update(["1", "a"], ["1", "b"], of=bag)),
-            [
-                f"""UPDATE "public"."bag" SET "name" = 'a' WHERE {where}{shown(id="'1'", name="'b'")} AND {own("bag")} LIMIT 1)""",
-                'INSERT INTO "public"."bag" ("id", "name") OVERRIDING SYSTEM VALUE VALUES (\'1\', NULL)',
-                f"""DELETE FROM "public"."bag" WHERE {where}{shown(id="'1'", name="'a'")} AND {own("bag")} LIMIT 1)""",
-            ],
-        )
-
-    def test_a_key_of_a_type_of_users(self) -> None:
-        of = table(4, "moods", columns=[Column("mood", 16384, -1, True), ID])
-        key, printed = """"id" = '1' AND """, shown(mood="'sad'", id="'1'")
-        self.assertEqual(self.undone(insert("sad", "1", of=of)), [f'DELETE FROM "public"."moods" WHERE {key}{printed} AND {own("moods")}'])
-
-    def test_characters_that_others_may_change(self) -> None:
-        for cell, constant in (("a\r\nb", r"E'a\x0d\x0ab'"), ("\t\\t'", r"E'\x09\\t'''"), ("\x7fE", r"E'\x7fE'"), ("E ä", "'E ä'")):
-            self.feed.commit(self.feed.at + 0x100, [delete("1", cell)])
-            text = self.print("--undo", lsn_text(self.feed.at - 0x100), lsn_text(self.feed.at))
-            self.assertIn(f"VALUES ('1', {constant});", text)
-
-    def test_a_statement_has_to_change_one_row(self) -> None:
-        self.feed.commit(0x100, [insert("1", "a")])
-        text = self.print("--undo", "0/0", "0/100")
-        raised = "IF changed <> 1 THEN RAISE EXCEPTION '%', '0/100:0, public.stock: the row is another one by now'; END IF; END $pgsub$;\n"
-        self.assertIn(f"; GET DIAGNOSTICS changed = ROW_COUNT; {raised}", text)
-
-    def test_what_cant_be(self) -> None:
-        with logged() as told:
-            self.assertEqual(self.undone(truncate(), status=UNFIT), [])
-        self.assertRegex(told[0], r"0/200 truncates public.stock \(1\)")
-        wrong = (("0/200", "no commit ends up to 0/300 after 0/200"), ("0/150", "no commit ends at 0/150"))
-        for begin, text in wrong:
-            with logged() as told:
-                self.print("--undo", begin, "0/300", status=UNFIT)
-            self.assertRegex(told[0], text)
-
-    def test_a_change_that_found_no_row(self) -> None:
-        with logged() as told:
-            self.assertEqual(len(self.undone(Line(STOCK, "x", ["7", None], None, "K"), insert("1", "a"))), 1)
-        self.assertRegex(told[0], r"0/200:0: a change of public.stock \(1\) isn't taken back")
-
-    def test_the_last_commit_first(self) -> None:
-        for end in (0x100, 0x200, 0x300):
-            self.feed.commit(end, [insert(str(end), "a"), insert(str(end + 1), "b")])
-        text = self.print("--undo", "0/0", "0/200")
-        self.assertEqual([it.split("'")[0] for it in text.split('WHERE "id" = \'')[1:]], ["513", "512", "257", "256"])
-
-    def test_tags(self) -> None:
-        self.feed.commit(0x100, [insert("1", "$pgsub$"), insert("2", NAME.name)])
-        text = self.print("--undo", "0/0", "0/100")
-        self.assertEqual((text.count("DO $pgsub1$ "), text.count(" $pgsub1$;"), text.count("DO $pgsub$ ")), (1, 1, 1))
-        self.assertTrue(text.startswith("BEGIN;\nSET LOCAL client_encoding = 'UTF8';\nSET LOCAL search_path = '';\n") and text.endswith("COMMIT;\n"))

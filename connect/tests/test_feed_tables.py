@@ -44,10 +44,10 @@ class TablesCase(FeedCase):
     def options(self, **more: Any) -> Options:
         return Options(command="tables", feed=str(self.path), into=self.into, once=True, **more)
 
-    def run_it(self, **more: Any) -> list[str]:
+    def run_it(self, status: int = 0, **more: Any) -> list[str]:
         """Takes what is there, and returns what is told beside the last line."""
         with logged() as told:
-            self.assertEqual(tabling.run(self.options(**more), never), 0)
+            self.assertEqual(tabling.run(self.options(**more), never), status)
         self.assertEqual(sorted(it for it in os.listdir(self.folder) if it.startswith("rows")), ["rows.db"])
         return told[:-1]
 
@@ -61,9 +61,13 @@ class TablesCase(FeedCase):
         self.run_it()
         return self.rows(f'SELECT * FROM "{of}" ORDER BY 1')
 
+    def asides(self) -> list[Any]:
+        """The tables that are set aside, the LSN since when, and why."""
+        return self.rows("SELECT schema || '.' || \"table\", since, why FROM pgsub_aside ORDER BY oid")
+
     def tables(self) -> list[str]:
         found = self.rows("SELECT name FROM sqlite_schema WHERE type = 'table' ORDER BY 1")
-        return [name for (name,) in found if name not in ("pgsub_position", "pgsub_tables", "pgsub_relations", "pgsub_feed")]
+        return [name for (name,) in found if name not in ("pgsub_position", "pgsub_tables", "pgsub_relations", "pgsub_feed", "pgsub_aside")]
 
 
 class Changes(TablesCase):
@@ -119,22 +123,14 @@ class Changes(TablesCase):
         self.assertEqual(self.after(insert("1", "a", of=odd), insert("1", "b", of=odd), delete("1", "a", of=odd)), [(1, "b")])
         worse = table(oid=2, name="worse", columns=[Column("rowid", 23), Column("OID", 25), Column("_rowid_", 25)], letter="f")
         self.take(insert("1", "a", "b", of=worse))
-        with self.assertRaisesRegex(Unfit, r"public.worse \(2\): a table without a key whose columns"):
-            self.run_it()
+        self.run_it(1)
+        self.assertRegex(self.asides()[0][2], "^a table without a key whose columns have the names")
+        self.assertEqual(self.tables(), ["stock"])
 
     def test_without_columns(self) -> None:
         none = table(columns=[], letter="f")
         self.take(insert(of=none), insert(of=none), delete(of=none))
         self.assertEqual(self.after(insert("1", "a", of=table(letter="f"))), [(None, None), (1, "a")])
-
-    def test_a_row_is_gone(self) -> None:
-        self.after(insert("1", "a"))
-        with contextlib.closing(sqlite3.connect(self.into, isolation_level=None)) as base:
-            base.execute("DELETE FROM stock")
-        self.take(delete("1", "a"))
-        with self.assertRaisesRegex(Unfit, "a row that the feed changes isn't in table stock"):
-            self.run_it()
-        self.assertEqual(self.rows("SELECT lsn FROM pgsub_position"), [("0/100",)])
 
 
 class Types(TablesCase):
@@ -164,8 +160,9 @@ class Types(TablesCase):
             self.feed.at = self.at = 0
             self.feed.begin()
             self.take(insert("1", cell, of=table(columns=[Column("a", 23), Column("b", oid)], letter="f")))
-            with self.assertRaisesRegex(Unfit, r": the column b has a value that isn't one of its type"):
-                self.run_it()
+            os.unlink(self.into)
+            self.run_it(1)
+            self.assertRegex(self.asides()[0][2], "^the column b has a value that isn't one of its type")
 
 
 class Shapes(TablesCase):
@@ -198,8 +195,6 @@ class Shapes(TablesCase):
         self.assertEqual(self.altered(Column("id", 25, -1, True), NAME), [("1", "a"), ("2", "b")])
         self.assertEqual(self.altered(Column("id", 701, -1, True), NAME), [(1.0, "a"), (2.0, "b")])
         self.assertEqual([type(it[0]) for it in self.altered(ID, NAME)], [int, int])
-        with self.assertRaisesRegex(Unfit, "the column name has a value that isn't one of its type, 'a'"):
-            self.altered(ID, Column("name", 23))
 
     def test_values_are_printed_as_the_server_does(self) -> None:
         types = (16, 17, 20, 700, 701, 701, 701)
@@ -284,12 +279,15 @@ class Names(TablesCase):
         self.assertEqual([row[1] for row in self.rows("PRAGMA table_info(stock)")], ["id", "ID 2", "select", 'a"b'])
 
     def test_equal_but_for_case(self) -> None:
-        self.take(insert("1", "a"), insert("1", "b", of=table(2, "STOCK")))
-        with self.assertRaisesRegex(Unfit, r"public.STOCK \(2\) and public.stock \(1\) would have the same table STOCK"):
-            self.run_it()
-        os.unlink(self.into)
-        self.run_it(table=["stock"])
-        self.assertEqual(self.tables(), ["stock"])
+        self.take(insert("1", "a"), insert("1", "b", of=table(2, "STOCK")), insert("1", "c", of=table(3, "Stock 2")))
+        self.run_it()
+        self.assertEqual(self.rows("SELECT name, oid FROM pgsub_tables ORDER BY oid"), [("stock", 1), ("STOCK 2", 2), ("Stock 2 3", 3)])
+        wider = table(2, "STOCK", [ID, NAME, Column("more", 23)])
+        self.assertEqual(self.after(update(["1", "b", None], ["1", "x", "7"], of=wider), delete("1", "a"), of="STOCK 2"), [(1, "x", 7)])
+        # (one that is made anew gets its name by the same rule)
+        self.assertEqual(self.after(insert("5", "new", of=table(9, "STOCK")), of="STOCK 9"), [(5, "new")])
+        self.assertEqual(self.tables(), ["STOCK 9", "Stock 2 3", "pgsub_old 2", "stock"])
+        self.assertEqual(self.rows("SELECT * FROM stock"), [])
 
     def test_another_name(self) -> None:
         self.after(insert("1", "a"))
@@ -341,8 +339,11 @@ class Chosen(TablesCase):
         self.take(insert("1", "b", of=table(2, "new")))
         self.run_it(table=["stock"])
         self.take(insert("2", "b", of=table(2, "stock")))
-        with self.assertRaisesRegex(Unfit, r"public.stock \(2\): the table had another name before, which wasn't chosen"):
-            self.run_it(table=["stock"])
+        self.run_it(1, table=["stock"])
+        self.assertRegex(self.asides()[0][2], "^it had another name before, which wasn't chosen")
+        self.take(truncate(table(2, "stock")), insert("3", "c", of=table(2, "stock")))
+        self.run_it(table=["stock"])
+        self.assertEqual((self.rows("SELECT * FROM stock"), self.asides()), ([(3, "c")], []))
 
     def test_a_name_that_is_chosen_no_more(self) -> None:
         self.take(insert("1", "a"))
@@ -537,10 +538,36 @@ class Beginning(TablesCase):
         base = str(self.folder / "base.db")
         with logged():
             export(Options(command="export", store=str(self.folder / "copy.db"), into=base), never)
-        with self.assertRaisesRegex(Unfit, r"public.stock \(1\) and public.Stock \(2\) would have the same table stock: .*--table"):
-            self.run_it(base=base)
+        self.run_it(base=base)
+        self.assertEqual(self.rows("SELECT name, oid FROM pgsub_tables ORDER BY oid"), [("stock", 1), ("Stock 2", 2)])
+        self.assertEqual(self.after(insert("5", of=table(2, "Stock", [ID])), insert("6", of=table(columns=[ID])), of="Stock 2"), [(5,)])
+        self.assertEqual(self.rows("SELECT * FROM stock"), [(6,)])
+        os.unlink(self.into)
         self.run_it(base=base, table=["Stock"])
         self.assertEqual(self.rows("SELECT schema, \"table\", oid FROM pgsub_tables"), [("public", "Stock", 2)])
+
+    def test_an_export_of_a_table_without_columns(self) -> None:
+        """It has rows, also where one of them goes once the table has a column."""
+        store = Store(str(self.folder / "copy.db"), 0x100)
+        store.table(1, "bare", [], letter="f")
+        store.row(1, key=None, copies=3)
+        store.close()
+        self.take()
+        one = table(1, "bare", [Column("a", 23)], letter="f")
+        self.take(delete(None, of=one), insert("7", of=one))
+        with mock.patch("pgsub_connect.exporting.log"):
+            self.run_it(store=str(self.folder / "copy.db"))
+        self.assertEqual(self.rows("SELECT * FROM bare"), [(None,), (None,), (7,)])
+        os.unlink(self.into)
+        self.feed.path.unlink()
+        self.feed.at = self.at = 0
+        self.feed.begin()
+        self.take()
+        none = table(1, "bare", [], letter="f")
+        self.take(delete(of=none), insert(of=none), insert(of=none))
+        with mock.patch("pgsub_connect.exporting.log"):
+            self.run_it(store=str(self.folder / "copy.db"))
+        self.assertEqual(self.rows("SELECT * FROM bare"), [(None,)] * 4)
 
     def test_an_export(self) -> None:
         store = Store(str(self.folder / "copy.db"), 0x300)
@@ -604,10 +631,9 @@ class Initial(TablesCase):
         self.run_it(init=self.init)
         self.run_it()
         self.take(insert("2", "a"))
-        with self.assertRaisesRegex(FileError, "table stock: UNIQUE constraint failed: stock.name: an index"):
-            self.run_it()
-        self.assertEqual(self.rows("SELECT count(*) FROM stock"), [(1,)])
-
+        self.run_it(1)
+        told = "UNIQUE constraint failed: stock.name: something of the user's in the file forbids it"
+        self.assertEqual((self.asides(), self.tables()), ([("public.stock", "0/200", told)], []))
 
     def test_a_disk_that_is_full(self) -> None:
         """It may have room later, so whatever starts this again goes on."""

@@ -12,6 +12,7 @@ from types import SimpleNamespace
 from typing import Any
 from unittest import mock
 
+from feed_text import About
 from feed_text import Column as TextColumn
 from pgsub_connect.errors import FileError, Passing, Stopped, Unfit
 from pgsub_connect.feed import tabling, verifying
@@ -46,6 +47,7 @@ class VerifyCase(TablesCase):
         self.server.answer("reltuples", [["10"]])
         self.published: list[Table] = [STOCK, WHOLE]
         self.point = 0x200
+        self.left: dict[int, str] = {}
         # what is done once the server's tables are locked
         self.meanwhile: Callable[[], object] = lambda: None
         self.said: list[str] = []
@@ -58,10 +60,10 @@ class VerifyCase(TablesCase):
 
     def source(self, options: Options, known: Any, check: Any) -> Any:
         self.known = known
-        found = SimpleNamespace(plain=connection_to(self.server), encoding="UTF8", tables=self.published, seen=[], closed=0)
+        found = SimpleNamespace(plain=connection_to(self.server), encoding="UTF8", tables=self.published, seen=[], closed=0, left=self.left)
         found.chosen = lambda names: chosen(self.published, names) if names else list(self.published)
         found.make_slot = lambda seconds: (self.point, "snapshot")
-        found.see, found.close = lambda snapshot: self.meanwhile(), found.plain.close
+        found.see, found.close = lambda snapshot, leaves: self.meanwhile(), found.plain.close
         return found
 
     def verified(self, status: int, **more: Any) -> list[dict[str, Any]]:
@@ -164,7 +166,8 @@ class Server(VerifyCase):
         self.plant("UPDATE stock SET name = 'name 1' WHERE id = 1")
         self.plant("UPDATE pgsub_digests SET first = first + 1 WHERE oid = 2")
         self.assertEqual(self.verified(1), [])
-        self.assertIn("equal rows", self.said[-1])
+        self.assertIn("equal rows", self.said[-2])
+        self.assertEqual(self.said[-1], "warning: rows come anew by: pgsub-connect add --store STORE --table public.whole")
         self.assertEqual(self.verified(1, digests=True), [])
 
     def test_a_table_without_a_digest_is_read(self) -> None:
@@ -214,9 +217,62 @@ class Server(VerifyCase):
         self.assertTrue(any("rows of 1 table that the publications don't have now: public.whole" in it for it in self.said))
 
     def test_a_truncation_above_the_point(self) -> None:
+        """Of that table nothing is known; the others are compared, and it is, too, once the server is seen behind that."""
         self.take(truncate())
         self.run_it()
-        self.fails(Passing, r"0/300 truncates public.stock \(1\)")
+        self.fails(Passing, "^not compared: public.stock was truncated meanwhile: compare later")
+        self.assertEqual([it for it in self.said if "equal" in it], ["1 table, 4 rows on the server at 0/200: equal", "0 tables, 0 rows on the server at 0/200: equal"])
+        self.server.tables[2].append(["7", "x"])
+        self.assertEqual(len(self.verified(1)), 1)
+        self.assertEqual(self.said[-1], "warning: not compared: public.stock was truncated meanwhile")
+        del self.server.tables[2][-1]
+        self.server.tables[1] = []
+        self.meanwhile = lambda: setattr(self, "point", 0x300)
+        self.equal()
+
+    def test_a_repair_above_the_point(self) -> None:
+        """The rows from before are those of the copy, which these tables may never have had."""
+        self.feed.commit(0x300, [update(["1", "planted"], ["1", "name 1"])], About(0x2FF, 2, 0))
+        self.run_it()
+        self.fails(Passing, "^not compared: public.stock was repaired meanwhile")
+        self.point = 0x300
+        self.equal()
+
+    def test_what_the_server_does_not_show_as_of_the_point(self) -> None:
+        self.left = {1: "altered or dropped"}
+        del self.published[0]
+        self.assertEqual(self.verified(0, table=["whole"]), [])
+        self.assertFalse(any("don't have now" in it for it in self.said))
+        self.published.insert(0, STOCK)
+        self.plant("UPDATE stock SET name = 'x' WHERE id = 1")
+        self.fails(Passing, "^not compared: public.stock was altered or dropped meanwhile")
+        self.meanwhile = self.left.clear
+        self.assertEqual(len(self.verified(1)), 1)
+
+    def test_a_table_that_is_set_aside(self) -> None:
+        self.take(delete("77", "none"))
+        self.run_it(1)
+        self.point = 0x300
+        self.assertEqual(self.verified(1), [])
+        self.assertIn(f"warning: public.stock is set aside in {self.into} since 0/300: a row that the feed changes isn't in it", self.said[0])
+        self.assertEqual(self.said[-1], "warning: rows come anew by: pgsub-connect add --store STORE --table public.stock")
+        self.assertEqual(self.verified(1, table=["stock"]), [])
+        self.equal(table=["whole"])
+
+    def test_numbers_of_4_bytes_to_the_last_bit(self) -> None:
+        """What no number of 4 bytes is stored as is found, however close it is; its digits and its bytes are both right."""
+        self.take(insert("1", "0.1", of=table(3, "short", [ID, TextColumn("f", 700)])))
+        self.run_it()
+        self.point = 0x300
+        self.published.append(Table(3, "public", "short", "r", "d", None, None, [STOCK.columns[0], Column("f", 700, -1, False, 2)]))
+        self.server.tables[3] = [["1", "0.1"]]
+        self.equal()
+        for planted, shown in (("0.10000000001", "0.10000000001"), ("1e300", "1e+300"), ("9e999", "inf"), ("0.1000000014901161", "0.1000000014901161")):
+            self.plant(f"UPDATE short SET f = {planted}")
+            [found] = self.verified(1)
+            self.assertEqual((found["server"]["f"], found["copy"]["f"]), ("0.1", shown))
+        self.plant("UPDATE short SET f = 0.10000000149011612")
+        self.equal()
 
     def test_an_alteration_above_the_point(self) -> None:
         self.take(insert("11", "x", "y", of=table(columns=[ID, NAME, TextColumn("more", 25)])))
@@ -320,6 +376,19 @@ class Files(VerifyCase):
         [found] = self.verified(1, other=self.other)
         self.assertEqual((found["more_in_other"], found["more_in_copy"]), (0, 1))
 
+    def test_a_table_that_is_set_aside_in_one_or_both(self) -> None:
+        self.take(delete("77", "none"))
+        with logged():
+            for path in (self.into, self.other):
+                tabling.run(Options(command="tables", feed=str(self.path), into=path, once=True), never)
+                self.assertEqual(self.verified(1, other=self.other), [])
+                self.assertIn("public.stock is set aside in", self.said[0])
+
+    def test_a_truncation_between_them(self) -> None:
+        self.take(truncate())
+        self.run_it()
+        self.fails(Passing, "^not compared: public.stock was truncated meanwhile", other=self.other)
+
     def test_a_table_of_one_alone(self) -> None:
         self.take(insert("1", "a", of=table(7, "late")))
         self.run_it()
@@ -385,16 +454,17 @@ class Trails(VerifyCase):
 
 
 class Words(TablesCase):
-    def rejected(self, *words: str) -> None:
-        with contextlib.redirect_stderr(io.StringIO()), self.assertRaises(SystemExit) as ended:
+    def rejected(self, *words: str) -> str:
+        with contextlib.redirect_stderr(io.StringIO()) as said, self.assertRaises(SystemExit) as ended:
             arguments(["verify", *words])
         self.assertEqual(ended.exception.code, 2)
+        return said.getvalue()
 
     def test_what_goes_together(self) -> None:
         self.rejected()
         for words in (["--with", "x"], ["--digests"], ["--feed", "x"]):
             self.rejected("--store", "x", *words)
-        self.rejected("--tables", "x", "--repair")
+        self.assertIn("pgsub-connect add --store STORE --table T", self.rejected("--tables", "x", "--repair"))
         self.assertEqual(arguments(["verify", "--tables", "a", "--with", "b"]).other, "b")
 
     def test_which_store(self) -> None:

@@ -12,7 +12,7 @@ from pathlib import Path
 from typing import Any
 from unittest import mock
 
-from feed_text import lsn_text
+from feed_text import Column, lsn_text
 from pgsub_connect import beside, feeding
 from pgsub_connect.beside import Beside, words_of
 from pgsub_connect.errors import FileError, Unfit
@@ -28,7 +28,7 @@ from pgsub_connect.remembered import Remembered, replace_file
 from pgsub_connect.words import arguments
 
 from .fake_server import Quiet
-from .feeds import FeedCase, insert
+from .feeds import ID, FeedCase, insert, table, truncate
 from .test_following import Case
 from .vectors import begin, commit, insert as inserted, keepalive
 
@@ -468,6 +468,23 @@ class Tables(FeedCase):
         self.assertFalse(os.path.exists(self.into + "-wal"))
         self.assertEqual(self.progress.tables_error, "")
         self.assertTrue(any(it.startswith("info: tables: ") and it.endswith(f"from {lsn_text(0x100)}") for it in self.said), self.said)
+
+    def test_a_table_that_is_set_aside_is_shown_until_its_rows_come(self) -> None:
+        self.feed.commit(0x100, [insert("1", "x")])
+        numbers = table(columns=[ID, Column("name", 23)])
+        kept = self.kept()
+        self.assertTrue(wait_until(lambda: kept.has(0x100)), self.said)
+        self.feed.commit(0x200, [insert("2", "5", of=numbers)])
+        self.assertTrue(wait_until(lambda: bool(self.progress.tables_aside)), self.said)
+        self.assertTrue(wait_until(lambda: kept.has(0x200)), self.said)
+        self.assertRegex(self.progress.tables_aside["public.stock"], "^since 0/200: the column name has a value that isn't one of its type")
+        self.assertEqual(self.progress.shown(0.0, 0.0)["tables_aside"], self.progress.tables_aside)
+        self.progress.feed_bytes = 0
+        self.assertIn('pgsub_tables_aside{slot="s"} 1\n', metrics_text(self.progress, 0.0, {"slot": "s"}))
+        self.assertEqual(self.progress.tables_error, "")
+        self.feed.commit(0x300, [truncate(numbers), insert("2", "5", of=numbers)])
+        self.assertTrue(wait_until(lambda: not self.progress.tables_aside), self.said)
+        self.assertNotIn("tables_aside", self.progress.shown(0.0, 0.0))
 
     def test_before_they_are_made_they_have_nothing(self) -> None:
         """What a new reader needs is kept under its name: that isn't what it has."""

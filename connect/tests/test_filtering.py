@@ -5,6 +5,7 @@ from __future__ import annotations
 import os
 import select
 import time
+import tracemalloc
 import unittest
 from pathlib import Path
 from unittest import mock
@@ -252,6 +253,20 @@ class Given(Case):
             child.serve(0)
         self.assertGreaterEqual(child.waiting, ROOM)
         self.assertEqual(child.room(), ROOM - child.waiting)
+
+    def test_a_long_message_is_not_copied(self) -> None:
+        """What the pipe doesn't take at once waits as it is, and goes once it is written."""
+        child = self.shell("exec sleep 60")
+        child.launch()
+        payload = insert(1) + bytes(20 << 20)
+        tracemalloc.start()
+        self.addCleanup(tracemalloc.stop)
+        child.push_payloads([insert(1), payload])
+        self.assertGreater(child.waiting, len(payload) - (1 << 20))
+        child.push_payloads([insert(1)] * 10)
+        self.assertLess(tracemalloc.get_traced_memory()[1], 1 << 20)
+        given = framed(insert(1), payload, *[insert(1)] * 10)
+        self.assertTrue(given.endswith(b"".join(child.pending)))
 
     def test_to_one_that_takes_no_more(self) -> None:
         """Its end tells why."""

@@ -6,7 +6,7 @@ import math
 import struct
 import unittest
 
-from pgsub_connect.floats import printed_float
+from pgsub_connect.floats import printed_float, stored_float
 
 # (Some lie at the bound of what is rounded to them, where Python prints fewer digits.)
 DOUBLES = {
@@ -32,6 +32,25 @@ class Floats(unittest.TestCase):
             self.assertEqual(printed_float(value, True), text)
             # (a table of SQLite has the number of 8 bytes that the text gives)
             self.assertEqual(printed_float(float(text), True), text)
+
+    def test_what_is_stored_of_4_bytes(self) -> None:
+        """The number of the server's digits, and that of its bytes; and none beside them."""
+        for value, text in SINGLES.items():
+            exact = struct.unpack(">f", struct.pack(">f", value))[0]
+            for sign, minus in ((1, ""), (-1, "-")):
+                for stored in (float(text), exact):
+                    self.assertEqual(stored_float(sign * stored, True), minus + text)
+                for other in (math.nextafter(it, to) for it in (float(text), exact) for to in (0, math.inf)):
+                    if other not in (float(text), exact):
+                        self.assertNotEqual(stored_float(sign * other, True), minus + text, repr(other))
+                        self.assertEqual(float(stored_float(sign * other, True)), sign * other)
+
+    def test_what_no_server_prints(self) -> None:
+        for value in (math.inf, -math.inf, math.nan):
+            for is_short in (False, True):
+                self.assertEqual(stored_float(value, is_short), repr(value))
+        self.assertEqual([stored_float(1e300, it) for it in (False, True)], ["1e+300", "1e+300"])
+        self.assertEqual(stored_float(-0.0, True), "-0")
 
     def test_zeros(self) -> None:
         for is_short in (False, True):

@@ -13,7 +13,7 @@ import unittest
 from collections.abc import Callable, Iterator, Sequence
 from unittest import mock
 
-from pgsub_connect import confirming, following, postgres, server, snapshots, watching
+from pgsub_connect import confirming, following, postgres, server, snapshots, trust, watching
 from pgsub_connect.awake import Awake
 from pgsub_connect.checkpoint import Checkpoint
 from pgsub_connect.errors import FilterFault, Passing, ServerError, Unconnected, Unfit
@@ -27,9 +27,10 @@ from pgsub_connect.resting import read_request
 from pgsub_connect.server import Server
 from pgsub_connect.snapshots import Snapshots
 from pgsub_connect.texts import lsn_text, parse_lsn
+from pgsub_connect.trust import Protection
 
 from .fake_server import FakeServer, Quiet, Row
-from .small_server import SmallServer, error
+from .small_server import READY, SmallServer, error
 from .vectors import a_catalog, a_table, begin, commit, insert, keepalive
 
 FAKE = os.path.join(os.path.dirname(os.path.abspath(__file__)), "fake_filter.py")
@@ -499,17 +500,19 @@ class Fits(Case):
                 known = self.checkpoint.read()
                 self.assertEqual((known.timeline, known.confirmed, "history" in known.found), (2, position, found))
 
-    def test_plain_text_is_warned_of_once(self) -> None:
-        """And not by a run whose copy has warned of it."""
-        for warned, times in ((False, 1), (True, 0)):
-            self.said.clear()
-            follower = self.follower_alone()
-            follower.was_connected = warned
-            with mock.patch.object(postgres.Connection, "is_local", return_value=False):
-                for _ in range(2):
-                    self.connect(follower)
-                    follower.disconnect()
-            self.assertEqual(sum("the connection isn't encrypted" in it for it in self.said), times)
+    def test_each_session_is_judged(self) -> None:
+        """What is warned of is told once, until it is another thing. The checkpoint keeps that TLS was in use, and so does the process."""
+        follower, own = self.follower_alone(), trust.Trust()
+        plain, unverified = Protection("plain", (), False), Protection("tls", (), False)
+        for protection, warnings, kept in ((plain, 1, False), (plain, 1, False), (unverified, 2, True), (unverified, 2, True)):
+            with mock.patch.object(trust, "protection_of", return_value=protection), mock.patch.object(trust, "OWN", own):
+                self.connect(follower)
+                follower.disconnect()
+            self.assertEqual(sum("warning: the connection is" in it for it in self.said), warnings)
+            self.assertIs(self.checkpoint.read().encrypted, kept)
+        with mock.patch.object(trust, "protection_of", return_value=plain), mock.patch.object(trust, "OWN", own):
+            with self.assertRaisesRegex(Unfit, "isn't encrypted, and the connections were encrypted before.*--accept plaintext"):
+                self.connect(follower)
 
     def test_a_promotion_ends_the_session(self) -> None:
         follower = self.follower()
@@ -580,8 +583,55 @@ class Fits(Case):
                 with self.assertRaisesRegex(error, text):
                     follower.fitting.check_server(self.server_now(1), 0, 0)
 
+    def test_a_database_that_was_renamed(self) -> None:
+        """It is known by its OID, where that was noted, and another one by that, too."""
+        self.patch(Checkpoint, "lock", lambda *_: None)
+        self.brain.answer("FROM pg_catalog.pg_database", [["16384"]])
+        self.connect(self.follower())
+        self.assertEqual((Remembered(self.store).database, self.checkpoint.read().database), (None, "shop"))
+        self.identity[3] = "store"
+        follower = self.follower()
+        follower.watch.remembered.note_database(16384, "shop")
+        self.connect(follower)
+        self.assertIn("warning: the database shop was renamed: it is store now", self.said)
+        self.assertEqual((follower.watch.remembered.database, self.checkpoint.read().database), ((16384, "store"), "store"))
+        follower.watch.remembered.save()
+        self.assertEqual(Remembered(self.store).database, (16384, "store"))
+        self.brain.answer("FROM pg_catalog.pg_database", [["16385"]])
+        with self.assertRaisesRegex(Unfit, "not slot pgsub of store"):
+            self.connect(follower)
+
+    def test_the_name_in_a_feed_stays(self) -> None:
+        self.patch(Checkpoint, "lock", lambda *_: None)
+        self.brain.answer("FROM pg_catalog.pg_database", [["16384"]])
+        self.connect(self.follower())
+        self.identity[3] = "store"
+        follower = self.follower()
+        follower.watch.remembered.feed = "/feed"
+        follower.watch.remembered.note_database(16384, "shop")
+        self.connect(follower)
+        self.assertEqual(self.checkpoint.read().database, "shop")
+
+    def test_a_database_that_was_renamed_before_its_oid_was_noted(self) -> None:
+        follower = self.follower_alone()
+        self.checkpoint.write(False, system="77", database="shop", slot="pgsub")
+        with self.assertRaisesRegex(Unfit, "not slot pgsub of store"):
+            follower.fitting.check_server(Server("77", 1, 0x1000000, "store", False, 1000, 16384), 0, 0)
+
+    def test_a_slot_that_is_lost(self) -> None:
+        """The server's text, why, and what to do."""
+        self.server.version = "18.1"
+        for reason, why in (("idle_timeout", "idle_replication_slot_timeout"), ("wal_removed", "max_slot_wal_keep_size"), (None, "has removed log")):
+            self.patch(Checkpoint, "lock", lambda *_: None)
+            self.brain.answer("s.wal_status", [["lost"]])
+            self.brain.answer("s.invalidation_reason", [[reason]])
+            self.patch(self.server, "copy", lambda peer: peer.sendall(error('can no longer access replication slot "pgsub"', "55000") + READY))
+            with self.assertRaisesRegex(ServerError, f"can no longer access(.|\n)*{why}.*pgsub-connect drop.*--create copies anew") as raised:
+                self.connect(self.follower())
+            self.assertTrue(raised.exception.is_lasting())
+
     def test_a_log_that_ends_before_the_store(self) -> None:
-        with self.assertRaisesRegex(Unfit, "it lost changes"):
+        with self.assertRaisesRegex(Unfit, "it lost changes.*Copy anew.*--accept history"):
             self.follower_alone().fitting.check_server(self.server_now(1), 0x2000000, 0)
         with self.assertRaisesRegex(ServerError, "a standby whose log ends") as raised:
             self.follower_alone().fitting.check_server(self.server_now(1, standby=True), 0x2000000, 0)
@@ -649,6 +699,19 @@ class Errors(Case):
             self.said.clear()
             with self.assertRaises(ServerError):
                 self.note(error, was_connected=False)
+
+    def test_a_value_that_cant_be_sent(self) -> None:
+        """It is tried some times at one LSN, and given up with its cure."""
+        self.patch(Checkpoint, "lock", lambda *_: None)
+        follower, wrong = self.follower(), ServerError('invalid byte sequence for encoding "UTF8": 0xff', "22021")
+        follower.was_connected = True
+        for position in (0x100, 0x100, 0x100, 0x100, 0x108, 0x108, 0x108, 0x108):
+            follower.confirming.position = position
+            follower.note_error(wrong)
+        follower.note_error(ServerError("terminating connection", "57P01"))
+        with self.assertRaisesRegex(ServerError, "0xff\nthe server can't send a change behind 0/108, in 5 attempts.*copies anew") as raised:
+            follower.note_error(wrong)
+        self.assertTrue(raised.exception.is_lasting())
 
     def test_what_cant_be_streamed_comes_whole(self) -> None:
         self.patch(Checkpoint, "lock", lambda *_: None)

@@ -32,7 +32,8 @@ class Holds(unittest.TestCase):
         self.follower = Follower.__new__(Follower)
         self.follower.stop_asked = False
         self.follower.filter, self.follower.snapshots, self.follower.noting = mock.Mock(), mock.Mock(), mock.Mock()
-        self.follower.progress = Progress()
+        self.follower.progress, self.follower.gating = Progress(), mock.Mock()
+        self.follower.gating.is_over.return_value = False
         self.noting = self.follower.noting
         self.follower.confirming = Confirming(mock.Mock(), self.follower.filter, self.follower.progress, self.noting, mock.Mock())
         self.follower.confirming.position = 0x100

@@ -20,6 +20,7 @@ from pgsub_connect.options import Options
 from pgsub_connect.postgres import Check, never
 from pgsub_connect.publishing import Table
 from pgsub_connect.snapshots import Snapshots, position_in
+from pgsub_connect.unchanged import ALTERED, LOCKED, MOVED
 from pgsub_connect.verifying import meet
 
 from .fake_server import FakeServer, Quiet, Row
@@ -179,7 +180,7 @@ class Servers(Quiet):
     def test_the_order(self) -> None:
         """The stream is held before the slot is made, and goes on before any lock is waited for."""
         source, request = self.source(), mock.Mock()
-        request.hold = lambda: self.server.commands.append("hold")
+        request.hold = lambda maker, standbys: self.server.commands.append("hold")
         request.tell = lambda point: self.server.commands.append(f"tell {point:x}")
         self.assertEqual(meet(request, source, 1.0), 0x200)
         steps = ("row_security", "hold", "TEMPORARY LOGICAL pgoutput EXPORT_SNAPSHOT", "tell 200", "SNAPSHOT 'snap'", "ACCESS SHARE MODE")
@@ -255,6 +256,67 @@ class Servers(Quiet):
         with self.assertRaisesRegex(Passing, "locked by others"):
             source.see("snap")
 
+    def two(self) -> Source:
+        """A source of two tables, the second of which is in two partitions."""
+        self.tables = [self.table, Table(2, "public", "u", "p", "d", None, None)]
+        return self.source()
+
+    def test_which_file_a_table_is_in_when_the_slot_is_made(self) -> None:
+        """What was truncated before the snapshot was taken is as the snapshot has it."""
+        source = self.two()
+        source.see("snap", leaves=True)
+        [told] = self.server.told("pg_relation_filenode")
+        self.assertLess(self.server.index("NOWAIT"), self.server.commands.index(told))
+        self.assertRegex(told, "c.relfilenode <> COALESCE")
+        self.assertEqual(([it.oid for it in source.tables], source.left), ([1, 2], {}))
+
+    def test_what_is_truncated_meanwhile_is_left_out(self) -> None:
+        source = self.two()
+        self.server.answer("pg_relation_filenode", [["2"]])
+        source.see("snap", leaves=True)
+        self.assertEqual(([it.oid for it in source.tables], source.left), ([1], {2: MOVED}))
+        with self.assertRaisesRegex(Passing, CHANGED):
+            self.source().see("snap")
+
+    def test_what_is_altered_meanwhile_is_left_out(self) -> None:
+        source = self.two()
+        self.tables = [self.table, Table(2, "public", "u", "p", "f", None, None), Table(3, "public", "new", "r", "d", None, None)]
+        source.see("snap", leaves=True)
+        self.assertEqual(([it.oid for it in source.tables], source.left), ([1], {2: ALTERED}))
+
+    def test_what_is_renamed_behind_the_snapshot_is_left_out(self) -> None:
+        source = self.two()
+        self.replace("pgsub_connect.copying.are_so_named", lambda _, tables: 2 not in [it.oid for it in tables])
+        source.see("snap", leaves=True)
+        self.assertEqual(([it.oid for it in source.tables], source.left), ([1], {2: ALTERED}))
+
+    def test_what_is_dropped_meanwhile_is_left_out(self) -> None:
+        source = self.two()
+
+        def locks(command: str) -> list[Row]:
+            if '"u"' in command:
+                raise ServerError('relation "u" does not exist', "42P01")
+            return []
+
+        self.server.answer("LOCK TABLE", locks)
+        self.server.answer("to_regclass", [["1"]])
+        source.see("snap", leaves=True)
+        self.assertEqual(([it.oid for it in source.tables], source.left), ([1], {2: ALTERED}))
+
+    def test_what_others_have_locked_for_long_is_left_out(self) -> None:
+        source = self.two()
+
+        def locks(command: str) -> list[Row]:
+            if '"u"' in command:
+                raise ServerError("could not obtain lock", "55P03")
+            return []
+
+        self.server.answer("LOCK TABLE", locks)
+        source.patience = 0.01
+        source.see("snap", leaves=True)
+        self.assertEqual(([it.oid for it in source.tables], source.left), ([1], {2: LOCKED}))
+        self.assertTrue(all(it.endswith("NOWAIT") for it in self.server.told("LOCK TABLE")))
+
     def test_rights(self) -> None:
         source = self.source()
         self.server.answer("LOCK TABLE", ServerError("permission denied", "42501"))
@@ -267,7 +329,8 @@ class Servers(Quiet):
         source = self.source()
         self.assertEqual(source.chosen([]), [self.table, other])
         self.assertEqual(source.chosen(["t", "public.t"]), [self.table])
-        self.assertEqual(source.chosen(["Odd schema.t"]), [other])
+        for name in ("Odd schema.t", '"Odd schema".t', '"Odd schema"."t"'):
+            self.assertEqual(source.chosen([name]), [other])
         with self.assertRaisesRegex(Unfit, "no published table x"):
             source.chosen(["t", "x"])
 

@@ -82,7 +82,7 @@ class Written(Case):
         super().setUp()
         self.file = self.folder + "/changes"
 
-    def mend(self, *tables: Table) -> Mender:
+    def mend(self, *tables: Table, is_fed: bool = False) -> Mender:
         self.store.move(0x130)
         source = SimpleNamespace(plain=connection_to(self.server), encoding="UTF8", tables=list(self.tables))
 
@@ -101,7 +101,7 @@ class Written(Case):
             with contextlib.suppress(FileNotFoundError):
                 os.unlink(self.file)
             changes = stack.enter_context(contextlib.closing(Changes(self.file, self.path)))
-            mender = Mender(Sides(cast(Source, source), copy), changes)
+            mender = Mender(Sides(cast(Source, source), copy), changes, is_fed)
             mender.run(list(tables or self.tables))
         return mender
 
@@ -138,6 +138,12 @@ class Written(Case):
         self.assertEqual(self.messages(), [relation(KEYED), *first, relation(WHOLE), *second])
         self.assertIn("public.keyed: 1 inserted, 1 updated, 1 deleted", self.said)
         self.check()
+
+    def test_without_a_key_where_a_feed_has_it_too(self) -> None:
+        """Its readers may have other rows than the copy, so no change tells them which of equal ones is meant."""
+        self.keep({1: [*ROWS[:7], ["7", "other"], *ROWS[8:]], 2: EQUAL_ROWS[1:]})
+        mender = self.mend(is_fed=True)
+        self.assertEqual((mender.written, mender.left), ({1: {b"U": 1}}, [WHOLE]))
 
     def test_what_others_may_read(self) -> None:
         self.mend()

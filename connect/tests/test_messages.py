@@ -7,6 +7,7 @@ import re
 import struct
 import unittest
 
+from pgsub_connect.errors import WrongAnswer
 from pgsub_connect.messages import InsertHeads, begin, cells_length, commit, frame, inserts, relation, unescaped
 from pgsub_connect.publishing import Column, Table
 
@@ -41,6 +42,14 @@ def copy_text(value: bytes | None) -> bytes:
     for character, escape in ((b"\\", b"\\\\"), *((it, b"\\" + letter) for letter, it in ESCAPES.items())):
         value = value.replace(character, escape)
     return value
+
+
+class Widths(unittest.TestCase):
+    def test_lines_of_another_width(self) -> None:
+        for line in (b"1\n", b"1\t2\t3\n", b"1\t2\n3\n"):
+            with self.assertRaisesRegex(WrongAnswer, "another width than 2 columns") as raised:
+                inserts([line], InsertHeads(table_of(2), 0))
+            self.assertTrue(raised.exception.is_lasting())
 
 
 class Bytes(unittest.TestCase):

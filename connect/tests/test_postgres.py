@@ -2,6 +2,7 @@
 
 from __future__ import annotations
 
+import contextlib
 import os
 import socket
 import threading
@@ -13,6 +14,7 @@ from psycopg import pq
 
 from pgsub_connect import postgres
 from pgsub_connect.errors import ServerError, Stopped, Unconnected
+from pgsub_connect.libpq import LIBPQ
 from pgsub_connect.postgres import COPY_BOTH, Connection, addresses_of, connect_limit, hosts_of, parameters
 
 from . import small_server
@@ -302,6 +304,26 @@ class Copies(Case):
                         connection.consume()
                 self.assertEqual((found, raised.exception.sqlstate), ([b"one", b"two"], "57P01"))
 
+    def test_why_the_stream_broke_is_said_to_whoever_sends_first(self) -> None:
+        """Its SQLSTATE tells whether another try makes sense."""
+        body = small_server.COPY_BOTH + message(b"d", b"one") + error('publication "pgsub" does not exist', "42704")
+        for call in ("send", "flush"):
+            with mock.patch.object(small_server, "COPY_BOTH", body):
+                connection, found, until = self.connect(), list[bytes](), time.monotonic() + 20
+                connection.run("START_REPLICATION", COPY_BOTH, 5.0)
+                while not found and time.monotonic() < until:
+                    connection.consume()
+                    found += connection.payloads(1 << 20, 1 << 16)[0]
+                while not connection.broken and time.monotonic() < until:
+                    connection.consume()
+                    with contextlib.suppress(ServerError):
+                        connection.payloads(1 << 20, 1 << 16)
+                with self.assertRaisesRegex(ServerError, "does not exist") as raised:
+                    for _ in range(3):
+                        connection.send(b"status")
+                said = raised.exception
+                self.assertEqual((found, said.sqlstate, said.is_lasting()), ([b"one"], "42704", True))
+
     def test_rows(self) -> None:
         copied = b"".join(message(b"d", b"%d\tx\n" % it) for it in range(100))
         body = message(b"H", bytes(3)) + copied + message(b"c", b"") + message(b"C", b"COPY 100\0")
@@ -342,7 +364,7 @@ class Wrapped(unittest.TestCase):
 
     def test_of_a_connection(self) -> None:
         """libpq has the call."""
-        self.assertTrue(postgres.LIBPQ is None or postgres.GSS_IN_USE is not None)
+        self.assertTrue(LIBPQ is None or postgres.GSS_IN_USE is not None)
 
 
 if __name__ == "__main__":

@@ -72,6 +72,11 @@ class Probes(unittest.TestCase):
         code, text = self.probe("--strict")
         self.assertEqual((code, "found: names, values" in text), (1, True))
 
+    def test_tables_that_are_set_aside(self) -> None:
+        self.status["tables_aside"] = {"public.t": "since 0/500: why", "s.u": "since 0/400: why"}
+        code, text = self.probe()
+        self.assertEqual((code, "set aside in the tables, `pgsub-connect add` them: public.t, s.u" in text), (1, True))
+
     def test_a_lost_slot(self) -> None:
         for status, code in (("extended", 0), ("unreserved", 0), ("lost", 1)):
             self.status["wal_status"] = status

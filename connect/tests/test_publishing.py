@@ -9,7 +9,7 @@ from unittest import mock
 from pgsub_connect import making
 from pgsub_connect.errors import ServerError, Stopped
 from pgsub_connect.making import Maker, Wanted, identity, names_of, publishable_tables
-from pgsub_connect.publishing import Column, Table, published_tables, put_columns, united
+from pgsub_connect.publishing import Column, Leaves, Table, published_tables, put_columns, united, with_cure
 from tests.fake_server import FakeServer, Quiet, Row, connection_to
 
 KEY, OTHER = Column("id", 23, -1, True), Column("Q\"x", 25, -1, False)
@@ -32,6 +32,48 @@ class Query(unittest.TestCase):
 
     def test_no_columns(self) -> None:
         self.assertEqual(table(columns=[]).query(), 'COPY (SELECT  FROM ONLY "public"."st""k") TO STDOUT')
+
+
+class Cure(unittest.TestCase):
+    def test_of_different_column_lists(self) -> None:
+        """Where the server ended a session by them, what goes on is told; another error stays as it is."""
+        error = ServerError("cannot use different column lists", "0A000")
+        cured = with_cure(error, ["few", "more"])
+        self.assertIn("--publication few --until now", str(cured))
+        self.assertTrue(str(cured).startswith(str(error)) and cured.is_lasting())
+        other = ServerError("other", "42501")
+        self.assertIs(with_cure(error, ["few"]), error)
+        self.assertIs(with_cure(other, ["few", "more"]), other)
+
+
+class Unlogged(unittest.TestCase):
+    """Rows of partitions whose changes are in no log aren't read."""
+
+    def test_unlogged_ones_are_left_out(self) -> None:
+        some = table(kind="p", row_filter="a OR b")
+        some.leaves = Leaves(['"public"."p1"'], [7, 8], [])
+        self.assertEqual(some.source(), 'FROM "public"."st""k" WHERE (a OR b) AND tableoid NOT IN (7, 8)')
+        some.row_filter = None
+        self.assertEqual(some.source(), 'FROM "public"."st""k" WHERE tableoid NOT IN (7, 8)')
+
+    def test_foreign_ones_are_not_touched(self) -> None:
+        some = table(kind="p", row_filter="(id > 3)")
+        some.leaves = Leaves(['"public"."p1"', '"x"."p2"'], [7], [9])
+        each = ('SELECT "id", "Q""x" FROM ONLY "public"."p1" WHERE (id > 3)', 'SELECT "id", "Q""x" FROM ONLY "x"."p2" WHERE (id > 3)')
+        self.assertEqual(some.source(), f"FROM ({' UNION ALL '.join(each)}) AS logged")
+        some.leaves = Leaves([], [], [9])
+        self.assertEqual(some.source(), 'FROM (SELECT "id", "Q""x" FROM ONLY "public"."st""k" WHERE (id > 3)) AS logged', "it has no rows itself")
+
+    def test_which_they_are(self) -> None:
+        server = FakeServer()
+        server.answer("pg_get_publication_tables", [row(5, "root", "p"), row(6, "other", "p"), row(7, "plain"), row(8, "last", "p")])
+        server.answer("RECURSIVE", [
+            ["5", "11", "public", "p1", "r", "p"], ["5", "12", "public", "p2", "r", "u"], ["5", "13", "public", "p3", "f", "p"],
+            ["6", "14", "public", "p4", "r", "p"], ["8", "15", "public", "p5", "r", "u"],
+        ])
+        found = published_tables(connection_to(server), ["a"])
+        self.assertEqual([it.leaves for it in found], [Leaves(['"public"."p1"'], [12], [13]), None, None, Leaves([], [15], [])])
+        self.assertIn("IN (5, 6, 8)", server.told("RECURSIVE")[0])
 
 
 class United(unittest.TestCase):
@@ -65,6 +107,15 @@ def attributes(command: str) -> list[Row]:
     found = re.search(r"attrelid IN \(([^)]*)\)", command)
     assert found
     return [[oid, *it] for oid in found[1].split(", ") for it in ATTRIBUTES]
+
+
+class Cut(unittest.TestCase):
+    def test_names_that_are_made_of_others_are_whole(self) -> None:
+        """Letters of several bytes too: the server would cut within them."""
+        for name in ("p" * 63, "\u0416" * 31, "p\U0001f600" * 12):
+            part = making.cut(name)
+            self.assertTrue(name.startswith(part))
+            self.assertIn(len(part.encode()), range(37, 41))
 
 
 class Published(unittest.TestCase):
@@ -170,6 +221,8 @@ class Making(Quiet):
     def test_all_that_is_done_is_one_transaction(self) -> None:
         self.maker().make()
         self.assertLess(self.server.index("BEGIN"), self.server.index("CREATE"))
+        # (whatever default_transaction_read_only says)
+        self.assertEqual(len(self.server.told("BEGIN READ WRITE; SET LOCAL synchronous_commit = local")), 1)
         self.assertLess(self.server.index("CREATE"), self.server.index("AND NOT (c.relkind"))
         self.assertLess(self.server.index("AND NOT (c.relkind"), self.server.index("COMMIT"))
 

@@ -8,8 +8,8 @@ import time
 import unittest
 from unittest import mock
 
-from pgsub_connect import cli
-from pgsub_connect.errors import UsageError
+from pgsub_connect import cli, trust
+from pgsub_connect.errors import FileError, UsageError
 from pgsub_connect.filtering import COPY_DONE, flushed
 from pgsub_connect.options import Options
 from pgsub_connect.postgres import Connection
@@ -22,6 +22,53 @@ from .vectors import begin, commit, insert, keepalive
 
 PAIR = [begin(0x100, 7), insert(1), commit(0x100, 0x108)]
 NEXT = [begin(0x200, 8), insert(1), commit(0x200, 0x208)]
+
+
+class Files(Quiet):
+    """What a recording may be written over."""
+
+    def setUp(self) -> None:
+        super().setUp()
+        self.path = self.make_folder() + "/r.pgx"
+
+    def write(self, content: bytes) -> None:
+        with open(self.path, "wb") as file:
+            file.write(content)
+
+    def after(self, content: bytes, append: bool, overwrites: bool = False) -> bytes:
+        """What a file has once a line was written to it."""
+        self.write(content)
+        recording = Recording(self.path, append, 1 << 20, overwrites=overwrites)
+        recording.write_line("42")
+        recording.close()
+        with open(self.path, "rb") as file:
+            return file.read()
+
+    def test_another_file_stays(self) -> None:
+        for content in (b"root:x:0:0\n", b"#", b"# recorded by somebody else at noon\n", b"\0" * 100, b"42\n"):
+            for append in (False, True):
+                with self.assertRaisesRegex(FileError, "isn't a recording of pgsub-connect: name another file, or say --overwrite"):
+                    self.after(content, append)
+                with open(self.path, "rb") as file:
+                    self.assertEqual(file.read(), content)
+                self.assertEqual(self.after(content, append, True), (content if append else b"") + b"42\n")
+
+    def test_a_recording_or_nothing(self) -> None:
+        for content in (b"", b"# recorded by pgsub-connect at 2026-11-28 13:00:00 UTC\n"):
+            self.assertEqual(self.after(content, False), b"42\n")
+            self.assertEqual(self.after(content, True), content + b"42\n")
+
+    def test_what_keeps_nothing(self) -> None:
+        recording = Recording("/dev/null", False, 1 << 20)
+        recording.write_line("42")
+        recording.close()
+        os.mkfifo(self.path)
+        reader = os.open(self.path, os.O_RDONLY | os.O_NONBLOCK)
+        self.addCleanup(os.close, reader)
+        recording = Recording(self.path, False, 1 << 20)
+        recording.write_line("42")
+        recording.close()
+        self.assertEqual(os.read(reader, 100), b"42\n")
 
 
 class Case(Quiet):
@@ -145,8 +192,16 @@ class Versions(Case):
             made.assert_not_called()
         self.assertEqual(self.brain.told("START_REPLICATION"), [])
 
+    def test_short_payloads_are_recorded(self) -> None:
+        """What a server sends is kept, whatever it is."""
+        self.server.to_send = [b"w", b"k", b"wx" * 12, b"w" + bytes(24) + b"C", b"?", *PAIR]
+        self.record(transactions=2)
+        with open(self.path, encoding="ascii") as file:
+            self.assertEqual(len([it for it in file if not it.startswith("#")]), 8)
+
     def test_plain_text_is_warned_of(self) -> None:
-        with mock.patch.object(Connection, "is_local", return_value=False):
+        plain = trust.Protection("plain", (), False)
+        with mock.patch.object(trust, "protection_of", return_value=plain), mock.patch.object(trust, "OWN", trust.Trust()):
             self.record(seconds=0.01)
         self.assertIn("warning: the connection isn't encrypted", self.said[0])
 

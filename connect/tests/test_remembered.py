@@ -76,7 +76,7 @@ class File(Case):
         self.remembered.begin_copy(now, 100)
         written = json.loads(json.dumps(self.remembered.written()))
         self.assertEqual((written["tables"][0]["parts"], written["partitions"][1]), ({"pgsub": [None, None, False]}, [11, 10, "public.p", True, 0]))
-        del written["attached"], written["tables"][0]["since"], written["publications"]["pgsub"]["since"], written["publications"]["pgsub"]["owner"]
+        del written["attached"], written["unlogged"], written["toast"], written["tables"][0]["since"], written["publications"]["pgsub"]["since"], written["publications"]["pgsub"]["owner"]
         self.remembered.restore(written)
         self.remembered.look(dataclasses.replace(now, lsn=200))
         self.assertEqual(self.remembered.found, {})
@@ -88,6 +88,44 @@ class File(Case):
             self.remembered.begin_copy(now, 100)
             self.again().look(later)
             self.assertEqual(len(self.found("publication")), 1)
+
+    def test_what_is_in_no_log(self) -> None:
+        """It is kept, with the places of long values and what ran: the next look compares them."""
+        table = dataclasses.replace(a_table(1, "t"), toast=7)
+        tree = (Partition(10, 0, "public.root", False), Partition(11, 10, "public.p", True, logged=False, toast=8))
+        now = dataclasses.replace(a_catalog(table, dataclasses.replace(U, logged=False), partitions=tree), running=1 << 40)
+        self.remembered.begin_copy(now, 100)
+        self.assertEqual(self.again().catalog, now)
+        assert self.remembered.catalog
+        self.assertEqual(self.remembered.catalog.running, 1 << 40)
+
+    def test_primary_keys(self) -> None:
+        """They are kept, and a new one is urgent. Older files have none."""
+        table = dataclasses.replace(a_table(1, "t"), primary=("name", "id"))
+        self.remembered.begin_copy(a_catalog(table), 100)
+        self.remembered.save()
+        again = Remembered(self.store)
+        assert again.catalog
+        self.assertEqual(again.catalog.tables[1].primary, ("name", "id"))
+        self.assertEqual(again.look(a_catalog(dataclasses.replace(table, primary=()))), [])
+        self.assertEqual((again.is_urgent, again.found), (True, {}))
+        with open(self.store + ".tables", encoding="utf-8") as file:
+            said = json.load(file)
+        wrong: tuple[object, ...] = (None, "id", [5], [None])
+        for primary in wrong:
+            said["tables"][0]["primary"] = primary
+            self.write(said)
+            with self.assertRaisesRegex(FileError, "not a file of tables"):
+                Remembered(self.store)
+        del said["tables"][0]["primary"]
+        self.write(said)
+        older = Remembered(self.store).catalog
+        assert older
+        self.assertEqual(older.tables[1].primary, ())
+
+    def write(self, said: dict[str, object]) -> None:
+        with open(self.store + ".tables", "w", encoding="utf-8") as file:
+            file.write(json.dumps(said) + "\n")
 
     def test_mode(self) -> None:
         self.remembered.begin(a_catalog(T))
@@ -126,7 +164,7 @@ class File(Case):
         said = json.loads(whole)
         pieces = [whole[:length] for length in range(0, len(whole) - 1, 7)]
         others = [b"null", b"[]", b"{}", b"17", b'"text"', b"\xff\xfe", b'{"format": 1}', *(
-            json.dumps({**said, name: 5}).encode() for name in said if name not in ("format", "highest")
+            json.dumps({**said, name: 5}).encode() for name in said if name not in ("format", "highest", "running")
         )]
         for content in (*pieces, *others):
             with open(self.store + ".tables", "wb") as file:

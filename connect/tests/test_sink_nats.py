@@ -16,6 +16,7 @@ from pgsub_connect.exporting import run as export
 from pgsub_connect.feed.identifying import subject
 from pgsub_connect.options import Options
 from pgsub_connect.postgres import never
+from pgsub_connect.sinks.connecting import is_loopback
 from pgsub_connect.sinks.nats_messages import read_id
 from pgsub_connect.sinks.nats_wire import Wire, header_bytes, read_headers
 
@@ -23,6 +24,10 @@ from .fake_nats import FakeNats
 from .feeds import STOCK, delete, insert, table, truncate, update
 from .sinks import SinkCase
 from .stores import Store
+
+
+# The number of a base in an id.
+NUMBERED = re.compile("base:([0-9a-f]{8}):")
 
 
 class NatsCase(SinkCase):
@@ -36,6 +41,12 @@ class NatsCase(SinkCase):
         """The messages: their subjects, ids and what they say."""
         return [(it.subject, it.id, json.loads(it.data)) for it in self.server.stream or []]
 
+    def ids(self) -> list[str]:
+        """Their ids, without the numbers of bases, of which there may be one."""
+        found = self.server.ids()
+        self.assertLessEqual(len({it[1] for it in map(NUMBERED.search, found) if it}), 1, found)
+        return [NUMBERED.sub("base:", it) for it in found]
+
 
 class Messages(NatsCase):
     def test_each(self) -> None:
@@ -47,17 +58,17 @@ class Messages(NatsCase):
         none = {"lsn": None, "xid": None, "ts_us": None}
         stock = {"schema": "public", "table": "stock", "oid": 1}
         self.assertEqual(self.said(), [
-            ("pgsub.commit", "0/0:commit", {"end": "0/0", "prev": "0/0", "changes": 0, **none, **about}),
-            ("pgsub.public.stock", "0/100:0", {"lsn": "0/100", "n": 0, "op": "c", **stock, "after": {"id": "1", "name": "a"}}),
+            ("pgsub.commit", "0/0:commit", {"end": "0/0", "prev": "0/0", "changes": 0, "rows": 0, **none, **about}),
+            ("pgsub.public.stock", "0/100:0", {"end": "0/100", "n": 0, "op": "c", **stock, "after": {"id": "1", "name": "a"}}),
             ("pgsub.public.stock", "0/100:1", {
-                "lsn": "0/100", "n": 1, "op": "u", **stock, "before": {"id": "1", "name": "a"}, "after": {"id": "2", "name": {"hex": "01"}},
+                "end": "0/100", "n": 1, "op": "u", **stock, "before": {"id": "1", "name": "a"}, "after": {"id": "2", "name": {"hex": "01"}},
             }),
             ("pgsub.S%20p.a%2Eb%20%2A", "0/100:2", {
-                "lsn": "0/100", "n": 2, "op": "c", "schema": "S p", "table": "a.b *", "oid": 2, "after": {"id": "1", "name": None},
+                "end": "0/100", "n": 2, "op": "c", "schema": "S p", "table": "a.b *", "oid": 2, "after": {"id": "1", "name": None},
             }),
             ("pgsub.commit", "0/100:commit", {"end": "0/100", "prev": "0/0", "changes": 3, **none, **about}),
-            ("pgsub.public.stock", "0/200:0", {"lsn": "0/200", "n": 0, "op": "t", **stock}),
-            ("pgsub.public.stock", "0/200:1", {"lsn": "0/200", "n": 1, "op": "x", **stock, "sent": "d", "old": {"id": "7"}}),
+            ("pgsub.public.stock", "0/200:0", {"end": "0/200", "n": 0, "op": "t", **stock}),
+            ("pgsub.public.stock", "0/200:1", {"end": "0/200", "n": 1, "op": "x", **stock, "sent": "d", "old": {"id": "7"}}),
             ("pgsub.commit", "0/200:commit", {"end": "0/200", "prev": "0/100", "changes": 2, **none, **about}),
         ])
         self.assertEqual((self.server.config["name"], self.server.config["subjects"]), ("pgsub", ["pgsub.>"]))
@@ -72,7 +83,7 @@ class Messages(NatsCase):
 
     def test_subjects(self) -> None:
         self.assertEqual(subject("s", "", "tä>%"), "s.pg_catalog.t%C3%A4%3E%25")
-        self.assertEqual([read_id(it) for it in ("0/1F:commit", "0/1F:base:3", "0/1F:12")], [(31, None), (31, -1), (31, 12)])
+        self.assertEqual([read_id(it) for it in ("0/1F:commit", "0/1F:base:3", "0/1F:base:0123abcd:3", "0/1F:12")], [(31, None), (31, -1), (31, -1), (31, 12)])
         self.assertEqual([read_id(it) for it in ("", "0/1F", "x:1", "0/1F:x", "123456789/0:1")], [None] * 5)
 
 
@@ -174,15 +185,15 @@ class GoesOn(NatsCase):
         self.fails(Passing, "connection", base=base)
         self.server.accepts = None
         self.fails(FileError, "it is no export", base=base + "-none")
-        self.assertEqual(self.server.ids(), ["0/100:base:0"])
+        self.assertEqual(self.ids(), ["0/100:base:0"])
 
         def publish(_: float) -> None:
             if self.server.last == 1:
-                self.server.add("pgsub.public.stock", header_bytes({"Nats-Msg-Id": "0/100:base:1"}), b"{}")
+                self.server.add("pgsub.public.stock", header_bytes({"Nats-Msg-Id": self.server.ids()[0][:-1] + "1"}), b"{}")
 
         with mock.patch("time.sleep", publish), mock.patch("pgsub_connect.sinks.nats_engine.STILL", 0.01):
             self.fails(Passing, "another sink publishes the rows of a base there", base=base)
-        self.assertEqual(self.server.ids(), ["0/100:base:0", "0/100:base:1"])
+        self.assertEqual(self.ids(), ["0/100:base:0", "0/100:base:1"])
 
     @mock.patch("pgsub_connect.sinks.nats_engine.STILL", 0.0)
     def test_a_base(self) -> None:
@@ -196,10 +207,53 @@ class GoesOn(NatsCase):
                 self.run_it(base=path)
             self.server.accepts = None
             self.run_it(base=path)
-            self.assertEqual(self.server.ids(), expected)
-        self.assertEqual(self.said()[1][2], {
-            "lsn": "0/100", "n": 1, "op": "r", "schema": "public", "table": "stock", "oid": 1, "after": {"id": "2", "name": None},
-        })
+            self.assertEqual(self.ids(), expected)
+        self.assertEqual((self.said()[1][2], self.said()[2][2]["rows"]), ({
+            "end": "0/100", "n": 1, "op": "r", "schema": "public", "table": "stock", "oid": 1, "after": {"id": "2", "name": None},
+        }, 2))
+
+    @mock.patch("pgsub_connect.sinks.nats_engine.STILL", 0.0)
+    def test_a_base_that_is_begun_again_and_again(self) -> None:
+        """By the same file and at once, so that the stream knows the ids of the messages that went. Each request and message may be the
+        last that the server takes."""
+        path = self.export()
+        self.take()
+        self.take(delete("1", "a"))
+        expected = ["0/100:base:0", "0/100:base:1", "0/100:commit", "0/200:0", "0/200:commit"]
+        for lost in range(16):
+            self.server.stream, self.server.last, self.server.accepts = None, 0, 1
+            self.fails(Passing, "connection", base=path)
+            self.server.accepts = None
+            for calls in (lost, lost, lost + 1):
+                with self.ends_at(calls), contextlib.suppress(Passing):
+                    self.run_it(base=path)
+            self.run_it(base=path)
+            self.assertEqual(self.ids(), expected, lost)
+
+    @mock.patch("pgsub_connect.sinks.nats_engine.STILL", 0.0)
+    def test_a_base_without_rows_after_a_part_of_one(self) -> None:
+        """What is left of that goes, too, whenever the connection ends."""
+        path = self.export()
+        self.take()
+        for lost in range(12):
+            self.server.stream, self.server.last, self.server.accepts = None, 0, 1
+            self.fails(Passing, "connection", base=path)
+            self.server.accepts = None
+            with self.ends_at(lost), contextlib.suppress(Passing):
+                self.run_it(base=path, table=["none"])
+            self.run_it(base=path, table=["none"])
+            self.assertEqual(self.ids(), ["0/100:commit"], lost)
+
+    def ends_at(self, count: int) -> contextlib.AbstractContextManager[object]:
+        """The connection ends after so many requests and messages."""
+        left, said = iter(range(count)), self.server.said
+
+        def lost(*words: Any) -> bytes:
+            if next(left, None) is None:
+                raise EOFError
+            return said(*words)
+
+        return mock.patch.object(self.server, "said", lost)
 
     def test_a_reader_is_noted(self) -> None:
         self.take(insert("1", "a"))
@@ -243,6 +297,17 @@ class Says(NatsCase):
         self.server.pong = b"-ERR 'maximum connections exceeded'\r\n"
         self.fails(Passing, "maximum connections exceeded")
 
+    def test_a_password_in_plain_text(self) -> None:
+        """It is told before it goes to another machine."""
+        self.assertNotIn("plain text", "".join(self.run_it(url=self.url.replace("://", "://u:p@"))))
+        with mock.patch("pgsub_connect.sinks.nats_wire.is_loopback", lambda _: False):
+            self.assertNotIn("plain text", "".join(self.run_it()))
+            for login in ("u:p@", "token@"):
+                self.assertIn("the password goes there in plain text: use tls://", "".join(self.run_it(url=self.url.replace("://", "://" + login))))
+        for host, is_own in (("127.0.0.1", True), ("127.1.2.3", True), ("::1", True), ("fe80::1%lo", False), ("localhost", True), ("a.localhost", True),
+                             ("10.0.0.1", False), ("localhost.example", False), ("h", False)):
+            self.assertEqual(is_loopback(host), is_own, host)
+
     def test_what_isnt_the_protocol(self) -> None:
         for said in (b"HTTP/1.0 200 OK\r\n", b"INFO {\r\n", b"INFO 5\r\n", b"x" * (1 << 21)):
             self.server.hello = said
@@ -270,7 +335,8 @@ class OfAConnection(unittest.TestCase):
         ours, self.theirs = socket.socketpair()
         self.addCleanup(self.theirs.close)
         self.theirs.sendall(b'info {"max_payload":5}\r\nPONG\r\n')
-        with mock.patch("socket.create_connection", lambda *_: ours):
+        ours.setblocking(False)
+        with mock.patch("pgsub_connect.sinks.nats_wire.connected", lambda *_: ours):
             self.wire = Wire("nats://h")
         self.addCleanup(self.wire.close)
         self.theirs.recv(1 << 16)

@@ -261,7 +261,7 @@ class Others(RedisCase):
                 self.server.do([b"SET", b"pgsub:sink", b"other"])
 
         options = Options(command="sink", feed=str(self.path), url="redis://h")
-        with mock.patch("pgsub_connect.sinks.redis_calls.Connection", lambda _: calls.pop()), mock.patch("time.sleep"):
+        with mock.patch("pgsub_connect.sinks.redis_calls.Connection", lambda *_: calls.pop()), mock.patch("time.sleep"):
             with mock.patch("pgsub_connect.sinks.redis_engine.OFTEN", 0.0), self.assertRaisesRegex(Unfit, "another sink has begun .* other"):
                 sinking.run(options, check)
 
@@ -566,6 +566,12 @@ class Ends(RedisCase):
             self.fails(UsageError, text, **words)
         path = self.folder / "url"
         path.write_text("redis://:secret@h\n")
+        for mode, told in ((0o644, "every account"), (0o640, "its group"), (0o600, "")):
+            path.chmod(mode)
+            self.assertEqual(self.run_it(url="", url_file=str(path)), [
+                f"warning: {path} has a password, and {told} may read it: chmod 600"] if told else [])
+        path.write_text("redis://h\n")
+        path.chmod(0o644)
         self.assertEqual(self.run_it(url="", url_file=str(path)), [])
         path.write_text("http://h\n")
         self.fails(UsageError, "its first line is no URL", url="", url_file=str(path))
@@ -624,6 +630,23 @@ class OnTheDisk(unittest.TestCase):
             disk.note(at)
             disk.safe()
         self.assertEqual(calls.run.call_count, 1)
+
+
+class PlainText(unittest.TestCase):
+    """A password that goes to another machine is told of before."""
+
+    def told(self, url: str, is_own: bool = False) -> str:
+        with logged() as told, mock.patch("redis.ConnectionPool") as pool, \
+                mock.patch("pgsub_connect.sinks.redis_calls.addresses", return_value=[]), \
+                mock.patch("pgsub_connect.sinks.redis_calls.is_loopback", lambda _: is_own):
+            pool.from_url.return_value.make_connection.return_value = mock.Mock(host="h", port=6379)
+            Connection(url)
+        return "".join(told)
+
+    def test_each(self) -> None:
+        self.assertIn("Redis at h:6379: the password goes there in plain text: use rediss://", self.told("redis://:secret@h"))
+        for url, is_own in (("redis://:secret@h", True), ("rediss://:secret@h", False), ("redis://h", False), ("unix://:secret@/s", False)):
+            self.assertEqual(self.told(url, is_own), "")
 
 
 class Errors(unittest.TestCase):

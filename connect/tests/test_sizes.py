@@ -49,7 +49,7 @@ class Texts(unittest.TestCase):
 
     def test_full(self) -> None:
         for transaction, parts in (
-            ((7, 1200), ("transaction 7 had 1200 bytes so far", "1000 may be", "--max-buffered 2400")),
+            ((7, 1200), ("transaction 7 had 1200 bytes so far", "1000 may be", "--max-buffered 2400 at least", "isn't known, so that may be too little")),
             ((7, 900), ("transaction 7 had 900 bytes so far", "--max-buffered 2000")), ((0, 0), ("more than 1000 may be", "--max-buffered 2000")),
         ):
             for part in parts:

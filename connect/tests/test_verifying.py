@@ -252,23 +252,49 @@ class Reads(Case):
         with self.assertRaises(Malformed):
             self.compare()
 
+    def finds(self, *several: tuple[list[Table], dict[int, str]]) -> Any:
+        """In the place of comparisons, those that find this of tables, and leave those out."""
+        results = iter(several)
+
+        def compare(options: Options, choose: Any, found: verifying.Compared, check: Any) -> None:
+            self.compared.append([it.oid for it in choose(SimpleNamespace(tables=self.tables, chosen=lambda _: self.tables))])
+            different, found.left = next(results)
+            found.different += different
+
+        self.compared: list[list[int]] = []
+        return compare
+
     def test_what_differs_is_repaired_where_that_is_asked_for(self) -> None:
         """What can't be by rows is copied anew."""
-        for different, repair, left, status, asked in (
+        cases: Sequence[tuple[list[Table], bool, list[Table], int, Any]] = (
             ([], False, [], 0, None), ([], True, [], 0, None), ([WHOLE], False, [], 1, None), ([WHOLE], True, [], 0, None),
             ([WHOLE, KEYED], True, [WHOLE], 7, {WHOLE.oid: WHOLE.text()}),
-        ):
+        )
+        for different, repair, left, status, asked in cases:
             self.options.repair = repair
             with mock.patch.multiple(
-                verifying, compare=lambda *_, it=different: it, repair=lambda *_, it=left: it,
+                verifying, compare=self.finds((different, {})), repair=lambda *_, it=left: it,
             ), mock.patch.object(requesting, "add", return_value=7) as add:
                 self.assertEqual(verifying.run(self.options, never), status)
             self.assertEqual(add.call_args and add.call_args.args[1], asked)
 
+    def test_what_others_had_truncated_is_compared_once_more(self) -> None:
+        """The others are compared all the same. What is left in the end isn't equal."""
+        left = {2: "public.whole was truncated meanwhile"}
+        with mock.patch.object(verifying, "compare", self.finds(([], left), ([], {}))), logged():
+            self.assertEqual(verifying.run(self.options, never), 0)
+        self.assertEqual(self.compared, [[1, 2], [2]])
+        with mock.patch.object(verifying, "compare", self.finds(([], left), ([], left))), logged():
+            with self.assertRaisesRegex(Passing, "^not compared: public.whole was truncated meanwhile: compare later"):
+                verifying.run(self.options, never)
+        with mock.patch.object(verifying, "compare", self.finds(([KEYED], left), ([], left))), logged() as told:
+            self.assertEqual(verifying.run(self.options, never), 1)
+        self.assertEqual(told[-1], "warning: not compared: public.whole was truncated meanwhile")
+
     def test_what_the_follower_does_not_pass_on(self) -> None:
         self.options.repair = True
         repair = mock.Mock(side_effect=Unrepaired("too much"))
-        with mock.patch.multiple(verifying, compare=lambda *_: [WHOLE], repair=repair), logged() as told:
+        with mock.patch.multiple(verifying, compare=self.finds(([WHOLE], {})), repair=repair), logged() as told:
             self.assertEqual(verifying.run(self.options, never), 1)
         self.assertEqual(told, ["error: too much"])
 

@@ -7,7 +7,7 @@ import tempfile
 import unittest
 from unittest import mock
 
-from pgsub_connect import cli
+from pgsub_connect import cli, watching
 from pgsub_connect.catalog import Catalog
 from pgsub_connect.checkpoint import Checkpoint
 from pgsub_connect.errors import ServerError, Unfit
@@ -18,6 +18,7 @@ from pgsub_connect.remembered import Relation, Remembered
 from pgsub_connect.watching import Watch
 from pgsub_connect.words import arguments, settle_options
 
+from .fake_server import FakeServer, connection_to
 from .vectors import ID, NAME, PGSUB, a_catalog, a_shape, a_table, logged
 
 T, U = a_table(1, "t"), a_table(2, "u")
@@ -45,10 +46,42 @@ class Case(unittest.TestCase):
 
     def compare(self, watch: Watch, now: Catalog) -> None:
         with mock.patch("pgsub_connect.watching.read_catalog", return_value=now):
-            watch.compare(mock.Mock(), 100)
+            watch.compare(connection_to(FakeServer()), 100)
+
+
+class Shown(Case):
+    def test_what_takes_long_is_told_in_its_time(self) -> None:
+        """The log has it at once, and the progress later, or the cost would grow with the square of what was found."""
+        watch = self.watch()
+        with logged() as said, mock.patch.object(watching, "LITTLE", -1.0), mock.patch.object(watching, "PART", 1e9):
+            self.compare(watch, a_catalog(T, U, lsn=200))
+            before = self.progress.found["publication"]
+            self.compare(watch, a_catalog(T, U, a_table(3, "v"), lsn=300))
+        self.assertEqual(len(said), 2)
+        self.assertEqual(self.progress.found["publication"], before)
+        watch.tend(False, never, 0)
+        self.assertNotIn("public.v", self.progress.found["publication"])
+        watch.next_show = 0.0
+        watch.tend(False, never, 0)
+        self.assertIn("public.v", self.progress.found["publication"])
+
+    def test_a_strict_one_ends_at_once(self) -> None:
+        watch = self.watch()
+        with logged(), mock.patch.object(watching, "LITTLE", -1.0), mock.patch.object(watching, "PART", 1e9):
+            self.compare(watch, a_catalog(T, U, lsn=200))
+            watch.options.strict = True
+            with self.assertRaisesRegex(Unfit, "public.v"):
+                self.compare(watch, a_catalog(T, U, a_table(3, "v"), lsn=300))
 
 
 class Found(Case):
+    def test_long_texts_are_cut(self) -> None:
+        with logged() as said:
+            self.compare(self.watch(), a_catalog(T, a_table(2, "u" * 9000), lsn=200))
+        self.assertTrue(all(len(it) < 2200 for it in said))
+        kept, = Remembered(self.store).found["publication"].texts
+        self.assertTrue(len(kept) < 2100 and kept.endswith(" characters)"))
+
     def test_is_kept_and_told_at_each_start(self) -> None:
         with logged() as said:
             self.compare(self.watch(), a_catalog(T, U, lsn=200))

@@ -96,7 +96,15 @@ class Words(Quiet):
         path = self.make_folder() + "/dsn"
         with open(path, "w", encoding="utf-8") as file:
             file.write("host=h password=secret\nmore\n")
-        self.assertEqual(self.settled("--dsn-file", path).dsn, "host=h password=secret")
+        for mode, readers in ((0o600, ""), (0o640, "its group"), (0o604, "every account"), (0o644, "every account")):
+            os.chmod(path, mode)
+            self.assertEqual(self.settled("--dsn-file", path).dsn, "host=h password=secret")
+            told = f"warning: {path} has a password, and {readers} may read it: chmod 600"
+            self.assertEqual(self.said, [told] if readers else [])
+            self.said.clear()
+        with open(path, "w", encoding="utf-8") as file:
+            file.write("host=h\n")
+        self.settled("--dsn-file", path)
         self.assertEqual(self.said, [])
 
     def test_limits(self) -> None:

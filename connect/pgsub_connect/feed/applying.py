@@ -6,10 +6,11 @@ import itertools
 import sqlite3
 from collections.abc import Iterable, Sequence
 
-from ..errors import FileError, Unfit
 from ..exporting import Bound
 from ..postgres import Check
 from ..remembered import Relation
+from ..replacing import XID
+from .asides import CANT_KEEP, Unkept, is_of_table, reason
 from .kept import Kept
 from .parts import Change, Commit, Part, TableLine
 from .rowsfile import Rows
@@ -27,12 +28,17 @@ class Applier:
         # what the changes that wait are of
         self.relation: Relation | None = None
         self.op = ""
+        # of the commit: where it ends, the tables that were described, and whether it repairs rows, but for tables that it truncates
+        self.at = 0
         self.kept: dict[int, Kept | None] = {}
+        self.is_repair, self.truncated = False, set[int]()
 
     def apply(self, commit: Commit, parts: Iterable[Part]) -> None:
         """Makes the changes of a commit, all of them: whoever calls has begun a transaction, and ends it."""
         self.waiting.clear()
         self.kept.clear()
+        self.truncated.clear()
+        self.at, self.is_repair = commit.end, commit.xid == XID
         for part in parts:
             if isinstance(part, Change):
                 if part.op != self.op or part.relation is not self.relation or len(self.waiting) >= MOST:
@@ -41,22 +47,59 @@ class Applier:
                 self.waiting.append(part)
             elif isinstance(part, TableLine):
                 self.flush()
-                self.kept[part.relation.oid] = self.rows.describe(part.relation)
+                self.describe(part.relation)
         self.flush()
         self.rows.initialize()
 
+    def describe(self, relation: Relation) -> None:
+        self.kept[relation.oid] = self.rows.describe(relation, self.at)
+
     def flush(self) -> None:
-        """Makes the changes that wait."""
+        """Makes the changes that wait. A table that can't have them is set aside, until it is truncated."""
         waiting, self.waiting = self.waiting, []
-        if not waiting or (kept := self.kept[waiting[0].relation.oid]) is None:
+        if not waiting:
+            return
+        relation = waiting[0].relation
+        if self.op == "t":
+            self.truncated.add(relation.oid)
+            if relation.oid in self.rows.asides.known:
+                self.kept[relation.oid] = self.rows.take_up(relation, self.at)
+        if (kept := self.kept[relation.oid]) is None:
             return
         self.check()
         try:
-            self.make(kept, waiting)
-            if self.rows.digests:
-                self.rows.digests.note(kept, waiting)
-        except sqlite3.IntegrityError as error:
-            raise FileError(f"{self.rows.path}, table {kept.name}: {error}: an index or a trigger of its own forbids it") from None
+            self.take(kept, waiting)
+            return
+        except CANT_KEEP as error:
+            if not is_of_table(error):
+                raise
+            why = reason(error)
+        self.kept[relation.oid] = None
+        self.rows.set_aside(relation, self.at, why)
+
+    def take(self, kept: Kept, changes: list[Change]) -> None:
+        """Makes changes of one kind, in the digest too."""
+        if self.is_repair and kept.oid not in self.truncated:
+            self.repair(kept, changes)
+            return
+        self.make(kept, changes)
+        if self.rows.digests:
+            self.rows.digests.note(kept, changes)
+
+    def repair(self, kept: Kept, changes: list[Change]) -> None:
+        """Makes rows what they were repaired to. What the copy had of them before may never have been here."""
+        if not kept.target.is_keyed or any(it.after and kept.has_null_key(it.after) for it in changes):
+            raise Unkept(kept.relation, "rows were repaired, and without a key nobody knows which of those here")
+        images = (it for change in changes for it in (change.before, change.after) if it)
+        keys = list(dict.fromkeys(tuple(kept.searched(it)) for it in images))
+        if self.rows.digests:
+            self.rows.digests.take_off(kept, keys)
+        self.db.executemany(kept.deletion, keys)
+        added = [Change("c", it.relation, it.n, None, it.after) for it in changes if it.after]
+        if added:
+            self.make(kept, added)
+        if added and self.rows.digests:
+            self.rows.digests.note(kept, added)
 
     def make(self, kept: Kept, changes: list[Change]) -> None:
         """Makes changes of one kind. A table whose key turns out to be none of SQLite's is made anew."""
@@ -74,8 +117,10 @@ class Applier:
             if is_nested:
                 self.db.execute("ROLLBACK TO changes")
             self.execute(self.loosened(kept), changes)
-        if is_nested:
-            self.db.execute("RELEASE changes")
+        finally:
+            # (a disk that is full may have ended the whole transaction)
+            if is_nested and self.db.in_transaction:
+                self.db.execute("RELEASE changes")
 
     def loosened(self, kept: Kept) -> Kept:
         self.kept[kept.oid] = kept = self.rows.loosen(kept)
@@ -85,6 +130,8 @@ class Applier:
         op = changes[0].op
         if op == "t":
             self.db.execute(kept.truncation)
+            # (its rows come anew, so it costs nothing)
+            self.kept[kept.oid] = self.rows.rekeyed(kept)
             return
         if op == "c":
             self.run(kept, kept.insertion, [kept.row(it.after or ()) for it in changes])
@@ -100,4 +147,4 @@ class Applier:
     def run(self, kept: Kept, statement: str, rows: Sequence[Sequence[Bound]]) -> None:
         """Runs a statement with each of these, which has to change one row each time."""
         if statement and self.db.executemany(statement, rows).rowcount != len(rows):
-            raise Unfit(f"{self.rows.path}: a row that the feed changes isn't in table {kept.name}: another program has changed it")
+            raise Unkept(kept.relation, "a row that the feed changes isn't in it: another program has changed the file")

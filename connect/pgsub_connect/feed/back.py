@@ -22,6 +22,10 @@ from .reading import Reader, segments
 from .rowsfile import Rows
 
 
+class Lost(Unfit):
+    """The feed can't have it again."""
+
+
 @dataclasses.dataclass
 class Way:
     """What lies between an LSN and that of a file: the commits, and by OID what was told of relations up to there, the latest last."""
@@ -72,8 +76,16 @@ def walk(folder: str, rows: Rows, at: int, check: Check) -> None:
                 raise Unfit(f"{folder}: the commit that ends at {commit.text()} is gone meanwhile")
             applier.apply(commit, turned(rows, commit, list(reader.parts(commit))))
         settle(rows, way)
+    except Lost as lost:
+        raise Unfit(f"{lost}. {forward(way, at)}") from None
     finally:
         reader.close()
+
+
+def forward(way: Way, at: int) -> str:
+    """How the tables are had without going back."""
+    base = "without --base" if way.is_whole else f"with --base, an export or tables of {lsn_text(at)} or before"
+    return f"Go forward to there: make a new file by --into, {base}"
 
 
 def turned(rows: Rows, commit: Commit, parts: list[Part]) -> Iterator[Part]:
@@ -94,7 +106,7 @@ def turned(rows: Rows, commit: Commit, parts: list[Part]) -> Iterator[Part]:
 def turned_change(rows: Rows, commit: Commit, it: Change) -> Change | None:
     if it.op == "t":
         if rows.is_chosen(it.relation):
-            raise Unfit(f"{commit.text()} truncates {it.relation.text()}, and the feed doesn't have the rows that were in it")
+            raise Lost(f"{commit.text()} truncates {it.relation.text()}, and the feed doesn't have the rows that were in it")
         return None
     op = {"c": "d", "d": "c", "u": "u"}[it.op]
     return Change(op, it.relation, it.n, it.after, it.before)
@@ -109,14 +121,14 @@ def check_shape(rows: Rows, relation: Relation) -> None:
     for at, column, kind in zip(sources(kept, was), was.target.relation.shape.columns, was.target.kinds, strict=True):
         is_lost = at is None or kept.target.kinds[at][0] != kind[0]
         if is_lost and rows.db.execute(f"SELECT EXISTS (SELECT 1 FROM {identifier(kept.name)})").fetchone()[0]:
-            raise Unfit(f"{relation.text()}: the column {column.name} was dropped or altered since, and its values are lost")
+            raise Lost(f"{relation.text()}: the column {column.name} was dropped or altered since, and its values are lost")
 
 
 def settle(rows: Rows, way: Way) -> None:
     """Gives the tables the shapes and names that they had, and ends the transaction."""
     for relation in way.told.values():
         check_shape(rows, relation)
-        rows.describe(relation)
+        rows.describe(relation, way.at)
     if way.is_whole:
         for kept in [it for oid, it in rows.kept.items() if oid not in way.told]:
             rows.drop(kept)

@@ -4,25 +4,27 @@ from __future__ import annotations
 
 import contextlib
 import dataclasses
+import json
 import os
 import sqlite3
 import urllib.parse
-from collections.abc import Iterator
+from collections.abc import Iterable, Iterator
 from typing import TYPE_CHECKING
 
 from ..errors import FileError, Passing, Unfit
 from ..exporting import run as export
-from ..naming import POSITION
+from ..naming import POSITION, TABLES, names_of
+from ..owning import real
 from ..placing import placed
 from ..postgres import Check
 from ..resting import is_followed, own_name
 from ..snapshots import copy, remove
 from ..stored import APPLICATION_AT, MAGIC, is_export
-from ..texts import lsn_text, parse_lsn
+from ..texts import identifier, lsn_text, parse_lsn
 from .noting import Noted
 from .polling import Poll
 from .reading import Reader, read_confirmed, segments
-from .rowsfile import APPLICATION, prepare
+from .rowsfile import APPLICATION, FEED, MORE, RELATIONS, SCHEMA, path_bytes
 
 if TYPE_CHECKING:
     from ..options import Options
@@ -43,7 +45,7 @@ def opened(path: str) -> sqlite3.Connection:
 
 def check_file(path: str) -> None:
     """Rejects a file that can't be made, or is there and isn't one of tables that follow a feed."""
-    folder = os.path.dirname(os.path.realpath(path))
+    folder = os.path.dirname(real(path))
     if not os.path.isdir(folder):
         raise FileError(f"--into {path}: there is no folder {folder}")
     if os.path.lexists(path) and not (os.path.isfile(path) and is_tables(path)):
@@ -110,6 +112,23 @@ def make_from(base: str | None, options: Options, check: Check) -> None:
             copy(base, new, 0o600, check)
         with contextlib.closing(sqlite3.connect(new, isolation_level=None)) as db:
             prepare(db, folder, options.table, bool(base))
+
+
+def prepare(db: sqlite3.Connection, folder: str, chosen: Iterable[str], is_base: bool) -> None:
+    """Makes a new file, or an export, one that follows a feed."""
+    db.execute("BEGIN IMMEDIATE")
+    for statement in (() if is_base else SCHEMA) + MORE:
+        db.execute(statement)
+    names = sorted(set(chosen))
+    db.execute(f"INSERT INTO {FEED} VALUES (CAST(? AS TEXT), NULL, NULL, NULL, ?)", (path_bytes(folder), json.dumps(names)))
+    for name, schema, table, oid in db.execute(f"SELECT * FROM {TABLES}").fetchall():
+        if not names or set(names) & names_of(schema, table):
+            db.execute(f"INSERT INTO {RELATIONS} VALUES (?, ?, NULL)", (oid, name))
+        else:
+            db.execute(f"DROP TABLE {identifier(name)}")
+            db.execute(f"DELETE FROM {TABLES} WHERE oid = ?", (oid,))
+            db.execute(f"INSERT INTO {RELATIONS} VALUES (?, NULL, NULL)", (oid,))
+    db.execute("COMMIT")
 
 
 def clone(base: str, new: str) -> None:

@@ -12,13 +12,16 @@ from collections.abc import Iterator
 
 from .. import log
 from ..catalog import Column
-from ..exporting import Bound, key_index
+from ..exporting import Bound, key_index, with_columns
 from ..floats import printed_float
 from ..naming import OLD
 from ..texts import identifier
 from ..values import BOOL, FLOAT4
-from .kept import Kept, Valued, rows_index, with_columns
+from .kept import Kept, Valued, rows_index
 from .parts import Cell
+
+# What is told of a table whose key is none of SQLite's.
+LOOSE = "rows have null in the key, or equal keys: the table has an index in place of a primary key"
 
 
 def printed(column: Column, value: Bound) -> Cell:
@@ -57,8 +60,8 @@ def carry(db: sqlite3.Connection, old: Kept, new: Kept) -> Kept:
                 return finish(db, new)
             except sqlite3.IntegrityError:
                 db.execute(f"DROP TABLE {identifier(new.name)}")
-        log.warning(f"{new.relation.text()}: rows have null in the key, or equal keys: the table has an index in place of a primary key")
-        new = Kept(new.name, new.relation, is_loose=True)
+        log.warning(f"{new.relation.text()}: {LOOSE}")
+        new = Kept(new.name, new.relation, new.primary, is_loose=True)
         new.make(db)
         put(cursor, old, new)
     return finish(db, new)
@@ -71,7 +74,7 @@ def finish(db: sqlite3.Connection, new: Kept) -> Kept:
 
 def loosen(db: sqlite3.Connection, kept: Kept) -> Kept:
     """Makes a table anew whose key can't be a primary key."""
-    return carry(db, kept, Kept(kept.name, kept.relation, is_loose=True))
+    return carry(db, kept, Kept(kept.name, kept.relation, kept.primary, is_loose=True))
 
 
 def extend(db: sqlite3.Connection, old: Kept, new: Kept) -> bool:
@@ -111,6 +114,8 @@ def put(cursor: sqlite3.Cursor, old: Kept, new: Kept) -> None:
 def converted(db: sqlite3.Connection, query: str, old: Kept, new: Kept) -> Iterator[list[Bound]]:
     """The rows with what their values are in the new shape."""
     columns = [None if at is None else with_columns(old.relation).shape.columns[at] for at in sources(old, new)]
-    for row in db.execute(query):
-        cells = [None if column is None else printed(column, value) for column, value in zip(columns, row, strict=True)]
-        yield new.row(cells)
+    # (closed where a value isn't one of the new type, as a table that is read can't be dropped)
+    with contextlib.closing(db.execute(query)) as rows:
+        for row in rows:
+            pairs = zip(columns, row, strict=True)
+            yield new.row([None if column is None else printed(column, value) for column, value in pairs])

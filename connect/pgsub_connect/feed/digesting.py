@@ -8,11 +8,13 @@ are. Rows that get another shape are added up anew.
 
 from __future__ import annotations
 
+import itertools
 import sqlite3
-from collections.abc import Iterable
+from collections.abc import Iterable, Sequence
 from typing import NamedTuple, cast
 
 from ..digests import FIRST_WORD, SECOND_WORD, Field, hash_of, text_of, words_of
+from ..exporting import Bound
 from .fields import Fields
 from .kept import Kept, Valued
 from .parts import Cells, Change
@@ -113,6 +115,16 @@ class Digests:
             return
         images = self.images.get(kept.oid) or self.images.setdefault(kept.oid, Images(kept))
         self.set(kept.oid, self.known[kept.oid].plus(images.of(changes)))
+
+    def take_off(self, kept: Kept, keys: Iterable[Sequence[Bound]]) -> None:
+        """Takes off rows that are about to go, by their keys, as they are here."""
+        if kept.oid not in self.known:
+            return
+        fields = Fields(kept, kept.relation.shape.columns)
+        query = f"{fields.query} WHERE {kept.where(0)}"
+        rows = itertools.chain.from_iterable(self.db.execute(query, key) for key in keys)
+        gone = summed(map(fields.of_row, rows))
+        self.set(kept.oid, self.known[kept.oid].plus(gone.times(-1)))
 
     def set(self, oid: int, digest: Digest) -> None:
         self.known[oid] = digest

@@ -11,8 +11,9 @@ from collections.abc import Sequence
 from ..catalog import Column
 from ..digests import Field
 from ..exporting import Bound
+from ..floats import stored_float
 from ..texts import identifier
-from ..values import BYTEA
+from ..values import BOOL, BYTEA, FLOAT4
 from .carrying import printed
 from .kept import Valued
 from .parts import Cell
@@ -47,5 +48,10 @@ class Fields:
 
 
 def told(column: Column, value: Bound) -> Field:
+    """A value as the server prints it. A number that none of the type is stored as gives what no server prints."""
+    if isinstance(value, float):
+        return stored_float(value, column.type_oid == FLOAT4).encode()
+    if column.type_oid == BOOL and isinstance(value, int) and value not in (0, 1):
+        return str(value).encode()
     text = printed(column, value)
     return text.encode() if isinstance(text, str) else text

@@ -14,6 +14,7 @@ from __future__ import annotations
 
 import base64
 import json
+import re
 from collections.abc import Callable, Iterable, Iterator
 from typing import Any
 
@@ -28,8 +29,13 @@ from .reading import Reader
 Row = dict[str, Any] | None
 
 
+# Those that JSON leaves as they are, and terminals take for commands.
+CONTROLS = re.compile("[\x7f-\x9f]")
+
+
 def compact(value: object) -> bytes:
-    return json.dumps(value, ensure_ascii=False, separators=(",", ":")).encode() + b"\n"
+    text = json.dumps(value, ensure_ascii=False, separators=(",", ":"))
+    return CONTROLS.sub(lambda it: f"\\u{ord(it[0]):04x}", text).encode() + b"\n"
 
 
 class Objects:

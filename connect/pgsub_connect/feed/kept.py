@@ -2,22 +2,18 @@
 
 from __future__ import annotations
 
-import dataclasses
 import math
 import sqlite3
 from collections.abc import Sequence
 
-from ..catalog import Column, Shape
-from ..errors import Unfit
-from ..exporting import Bound, Target, key_index, unlike_text
+from ..exporting import Bound, Target, key_index, unlike_reason, with_columns
 from ..naming import folded, name_columns
 from ..remembered import Relation
 from ..texts import identifier
 from ..values import Unlike
+from .asides import Unkept
 from .parts import Cell
 
-# The column of a table that has none, since SQLite has no such tables.
-NONE = Column("pgsub_none", 25, -1, False)
 # How many columns the index has by which a row without a key is found.
 INDEXED = 4
 ROW_IDS = ("rowid", "_rowid_", "oid")
@@ -27,12 +23,6 @@ IS_MINUS_ZERO = "pgsub_is_minus_zero"
 
 def is_minus_zero(value: Bound) -> bool:
     return value == 0 and isinstance(value, float) and math.copysign(1, value) < 0
-
-
-def with_columns(relation: Relation) -> Relation:
-    if relation.shape.columns:
-        return relation
-    return dataclasses.replace(relation, shape=Shape(relation.shape.identity, (NONE,)))
 
 
 def listed(columns: Sequence[str], values: Sequence[str]) -> str:
@@ -48,9 +38,9 @@ def rows_index(oid: int) -> str:
 class Valued:
     """A relation as a table of SQLite: what a row's cells are there."""
 
-    def __init__(self, name: str, relation: Relation) -> None:
-        self.relation, self.oid, self.name = relation, relation.oid, name
-        self.target = Target(name, with_columns(relation), False)
+    def __init__(self, name: str, relation: Relation, primary: tuple[str, ...] = ()) -> None:
+        self.relation, self.oid, self.name, self.primary = relation, relation.oid, name, primary
+        self.target = Target(name, with_columns(relation), False, primary)
         self.width = len(self.target.columns)
         # numbers of columns by names that they may have at the publisher beside their own, of a table of an export
         self.others: dict[str, int] = {}
@@ -69,9 +59,9 @@ class Valued:
                 values[at] = self.value(at, cells[at])
         return values
 
-    def unlike(self, at: int, cell: Bound) -> Unfit:
+    def unlike(self, at: int, cell: Bound) -> Unkept:
         shown = cell if isinstance(cell, bytes) else str(cell).encode()
-        return Unfit(f"{unlike_text(self.relation, Unlike(at, shown))}. Begin anew from an export")
+        return Unkept(self.relation, unlike_reason(self.relation, Unlike(at, shown)))
 
     def value(self, at: int, cell: Cell) -> Bound:
         kind, read, read_binary = self.target.kinds[at]
@@ -88,10 +78,16 @@ class Valued:
 
 
 class Kept(Valued):
-    """A table. Rows of a keyed one are found by the key, and any other's by all of their values, one of several equal rows."""
+    """A table. Rows of a keyed one are found by the key, and any other's by all of their values, one of several equal rows.
 
-    def __init__(self, name: str, relation: Relation, is_loose: bool = False) -> None:
-        super().__init__(name, relation)
+    `primary`: the columns of its primary key, where its replica identity is another. SQLite has each
+    key once, so the row that has it is the one that the feed changes, whatever the server forbids.
+    """
+
+    def __init__(
+        self, name: str, relation: Relation, primary: tuple[str, ...] = (), is_loose: bool = False
+    ) -> None:
+        super().__init__(name, relation, primary)
         if is_loose:
             self.target.is_keyed = False
         self.has_index = False
@@ -138,7 +134,8 @@ class Kept(Valued):
         for it in ROW_IDS:
             if identifier(it) not in taken:
                 return it
-        raise Unfit(f"{self.relation.text()}: a table without a key whose columns have the names {', '.join(ROW_IDS)} can't be kept")
+        why = f"a table without a key whose columns have the names {', '.join(ROW_IDS)} can't be kept"
+        raise Unkept(self.relation, why)
 
     def searched(self, cells: Sequence[Cell]) -> list[Bound]:
         """The values that find a row: of a keyed one only its key is looked at."""

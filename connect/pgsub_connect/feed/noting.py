@@ -6,6 +6,7 @@ import contextlib
 import os
 import time
 
+from ..owning import real, set_mode
 from ..remembered import replace_file
 from ..snapshots import LOG, sync_folder
 from ..texts import lsn_text
@@ -23,7 +24,7 @@ def make_folder(path: str, mode: int) -> None:
         if os.path.isdir(path):
             return
         raise
-    os.chmod(path, mode | (mode & 0o444) >> 2)
+    set_mode(path, mode | (mode & 0o444) >> 2)
     sync_folder(path)
 
 
@@ -50,7 +51,7 @@ class Noted:
 def sync_log(rows: str) -> None:
     """Has the disk have what is in the log of a file."""
     with contextlib.suppress(FileNotFoundError):
-        file = os.open(os.path.realpath(rows) + LOG, os.O_RDONLY | os.O_CLOEXEC)
+        file = os.open(real(rows) + LOG, os.O_RDONLY | os.O_CLOEXEC)
         try:
             os.fsync(file)
         finally:

@@ -5,23 +5,27 @@ from __future__ import annotations
 import argparse
 import contextlib
 import dataclasses
+import re
 import signal
 import sys
-from collections.abc import Callable, Sequence
+from collections.abc import Callable, Iterator, Sequence
 
 from .. import log
 from ..cli import Start, guarded, stop_by_signals
 from ..errors import Stopped
-from ..naming import names_of
 from ..postgres import Check
 from ..remembered import Relation
 from ..words import TellVersion, lsn
 from .bulk import Bulk
+from .choosing import Chosen
 from .formats import FORMATS, Format
+from .parts import Commit
 from .polling import Poll
 from .reading import Reader
 from .undoing import undo
 
+# Control characters that JSON leaves as they are: terminals take them for commands.
+CONTROLS = re.compile(b"\x7f|\xc2[\x80-\x9f]")
 ABOUT = """\
 Prints the commits of a feed.
 
@@ -68,7 +72,7 @@ def arguments(words: Sequence[str]) -> Options:
     add("--format", choices=[*FORMATS, "bulk"], default="objects", help="default: objects")
     add("--truncated", type=lsn, metavar="LSN",
         help="with --format bulk: all documents were deleted of the tables that the commit which ends there truncates")
-    add("--table", action="append", default=[], help="changes of this table, may be repeated (default: of all)")
+    add("--table", action="append", default=[], help="changes of this table, may be repeated (default: of all): t, or s.t of another schema than public; quoted as in SQL or not")
     add("--undo", nargs=2, type=lsn, metavar=("FROM", "TO"), help="print the SQL that takes the commits after FROM, up to TO, back")
     add("--version", action=TellVersion, nargs=0, default=argparse.SUPPRESS, help="show the version, and the commit of a checkout")
     options = Options(**vars(parser.parse_args(words)))
@@ -81,39 +85,55 @@ def arguments(words: Sequence[str]) -> Options:
     return options
 
 
-def chooser(names: list[str]) -> Callable[[Relation], bool]:
-    chosen = set(names)
-    return lambda relation: not chosen or bool(chosen & names_of(relation.namespace, relation.name))
-
-
 def form_of(options: Options, is_chosen: Callable[[Relation], bool]) -> Format | Bulk:
     return Bulk(is_chosen, options.truncated) if options.format == "bulk" else FORMATS[options.format](is_chosen)
 
 
 def run(options: Options, check: Check) -> int:
     reader = Reader(options.feed, options.undo[0] if options.undo else options.begin)
-    is_chosen = chooser(options.table)
+    chosen = Chosen(options.table)
     with contextlib.closing(reader), contextlib.suppress(Stopped):
         if options.undo:
-            undo(reader, options.undo[1], is_chosen, check, put)
+            undo(reader, options.undo[1], chosen, check, put)
         else:
-            print_commits(reader, options, form_of(options, is_chosen).print, check)
+            print_commits(Poll(reader, options.follow, check), options, form_of(options, chosen), chosen)
     return 0
 
 
 def put(text: bytes) -> None:
-    sys.stdout.buffer.write(text)
+    sys.stdout.buffer.write(CONTROLS.sub(escape, text) if sys.stdout.isatty() else text)
 
 
-def print_commits(reader: Reader, options: Options, form: Callable[..., object], check: Check) -> None:
-    poll = Poll(reader, options.follow, check)
-    for commit in poll.commits():
+def escape(control: re.Match[bytes]) -> bytes:
+    return b"\\u%04x" % ord(control[0].decode())
+
+
+def tell_unseen(chosen: Chosen) -> None:
+    """Warns of each name that no table has had so far, once."""
+    for name in sorted(chosen.unseen):
+        log.warning(f"--table {name}: no commit has changed such a table so far")
+    chosen.unseen.clear()
+
+
+def commits(poll: Poll, chosen: Chosen) -> Iterator[Commit]:
+    """All of them. Once there are none for now, it tells which names no table had."""
+    while (commit := poll.next()) or poll.is_following:
+        if commit:
+            yield commit
+        else:
+            tell_unseen(chosen)
+            poll.rest()
+
+
+def print_commits(poll: Poll, options: Options, form: Format | Bulk, chosen: Chosen) -> None:
+    for commit in commits(poll, chosen):
         if options.end is not None and commit.end > options.end:
             break
-        check()
-        for line in form(reader, commit):  # type: ignore[attr-defined]
+        poll.check()
+        for line in form.print(poll.reader, commit):
             put(line)
         sys.stdout.buffer.flush()
+    tell_unseen(chosen)
     sys.stdout.buffer.flush()
 
 

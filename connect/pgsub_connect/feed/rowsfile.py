@@ -4,8 +4,9 @@
 |---|---|
 | `pgsub_position` | `lsn`, the end of the last commit whose changes are in it |
 | `pgsub_tables` | by `name`, that of a table here: `schema`, `table` and `oid` of the publisher's |
-| `pgsub_relations` | by `oid` the definition that was told last, as in the feed, and the table here, null of one that wasn't chosen |
+| `pgsub_relations` | by `oid` the definition that was told last, as in the feed, and the table here, null of one that wasn't chosen, or is set aside |
 | `pgsub_feed` | the folder of the feed, what it is a feed of, and the tables that were chosen |
+| `pgsub_aside` | by `oid` the tables that are set aside, as the module `asides` says |
 | `pgsub_digests` | where that was asked for, by `oid` a digest of the table's rows, as the module `digesting` says |
 | any other | the rows of one of the publisher's tables |
 
@@ -16,28 +17,29 @@ from __future__ import annotations
 
 import json
 import sqlite3
-from collections.abc import Iterable
 
 from .. import log
 from ..catalog import Column, Shape
 from ..errors import FileError, Passing, Unfit
-from ..exporting import key_index
-from ..naming import OLD, POSITION, TABLES, folded, names_of, told_columns, usable_name
+from ..exporting import NONE, key_index
+from ..naming import OLD, POSITION, TABLES, distinct_name, folded, names_of, told_columns
 from ..remembered import Relation
 from ..texts import identifier, lsn_text, parse_lsn
-from .carrying import carry, loosen, sources
+from .asides import CANT_KEEP, Asides, Unkept, is_of_table, nested, reason
+from .carrying import LOOSE, carry, loosen, sources
 from .decoding import read_relation
-from .digesting import DIGESTS, Digests, has_digests
+from .digesting import Digests, has_digests
 from .digesting import FORMAT as WITH_DIGESTS
 from .digesting import SCHEMA as DIGESTS_SCHEMA
 from .initial import Init
 from .kept import IS_MINUS_ZERO, Kept, is_minus_zero, rows_index
+from .keys import Keys, inherited, primary_in
 from .parts import Head
 
 APPLICATION, FORMAT = 0x70677374, 1
 RELATIONS, FEED = "pgsub_relations", "pgsub_feed"
-OWN = {POSITION, TABLES, OLD, RELATIONS, FEED, DIGESTS}
-ASIDE = OLD + " "
+# What the name of an older table begins with whose name another one got.
+OLDER = OLD + " "
 # How long to wait for others that write the file or read it, in seconds.
 BUSY = 60.0
 # A type for each kind of column, of a table whose definition isn't known.
@@ -67,13 +69,11 @@ def full_name(relation: Relation) -> tuple[str, str]:
     return relation.namespace or "pg_catalog", relation.name
 
 
-def same_table(one: Relation, other: Relation, name: str) -> Unfit:
-    return Unfit(f"{one.text()} and {other.text()} would have the same table {name}: begin anew, and choose the tables by --table")
-
-
 def unlisted(db: sqlite3.Connection, name: str, schema: str, table: str, oid: int) -> Relation:
     """What is known of a table of an export."""
     info = db.execute("SELECT name, type, pk FROM pragma_table_info(?)", (name,)).fetchall()
+    if [column for column, _, _ in info] == [NONE.name]:
+        info = []
     indexed = {column for (column,) in db.execute("SELECT name FROM pragma_index_info(?)", (key_index(oid),))}
     keys = {column for column, _, at in info if at} or indexed
     columns = tuple(Column(column, TYPES.get(kind, 25), -1, column in keys) for column, kind, _ in info)
@@ -83,9 +83,10 @@ def unlisted(db: sqlite3.Connection, name: str, schema: str, table: str, oid: in
 class Rows:
     """The file, open for writing. All that is done to it is in a transaction, which `settle` commits with an LSN."""
 
-    def __init__(self, path: str, init: Init | None = None) -> None:
-        self.path, self.init = path, init
+    def __init__(self, path: str, init: Init | None = None, store: str = "") -> None:
+        self.path, self.init, self.keys = path, init, Keys(store)
         self.db = sqlite3.connect(path, timeout=BUSY, isolation_level=None, cached_statements=2000)
+        self.asides = Asides(self.db, path)
         try:
             self.set_up()
             self.reload()
@@ -109,14 +110,16 @@ class Rows:
         self.at = self.position()
         self.kept: dict[int, Kept] = {}
         self.left_out: set[int] = set()
-        # those that have a name of the publisher's, by that as SQLite compares it
+        # those that have a name of the publisher's, by that as SQLite compares it, and by the publisher's
         self.names: dict[str, Kept] = {}
+        self.holders: dict[tuple[str, str], Kept] = {}
+        self.asides.load()
         self.untold: set[int] = set()
         self.is_init_due = False
         tables = {oid: (name, schema, table) for name, schema, table, oid in db.execute(f"SELECT * FROM {TABLES}")}
         for oid, name, definition in db.execute(f"SELECT * FROM {RELATIONS}").fetchall():
             if name is None:
-                self.left_out.add(oid)
+                self.left_out |= {oid} - self.asides.known.keys()
                 continue
             if definition is None:
                 self.untold.add(oid)
@@ -127,16 +130,21 @@ class Rows:
         self.digests = Digests(db) if has_digests(db) else None
 
     def load(self, name: str, relation: Relation) -> None:
-        keys = self.db.execute("SELECT count(*) FROM pragma_table_info(?) WHERE pk", (name,)).fetchone()[0]
-        kept = Kept(name, relation, is_loose=not keys)
+        keys = self.db.execute("SELECT cid FROM pragma_table_info(?) WHERE pk", (name,)).fetchall()
+        primary = primary_in(relation, [at for (at,) in keys])
+        kept = Kept(name, relation, primary, is_loose=not keys)
         indexes = [key_index(relation.oid), rows_index(relation.oid)]
         kept.has_index = bool(self.db.execute("SELECT 1 FROM sqlite_schema WHERE type = 'index' AND name IN (?, ?)", indexes).fetchone())
         if relation.oid in self.untold:
             names = told_columns(it.name for it in relation.shape.columns)
             kept.others = {it: at for at, it in enumerate(names)}
         self.kept[relation.oid] = kept
-        if not name.startswith(ASIDE):
-            self.names[folded(name)] = kept
+        if not name.startswith(OLDER):
+            self.hold(kept)
+
+    def hold(self, kept: Kept) -> None:
+        """A table has its name."""
+        self.names[folded(kept.name)] = self.holders[full_name(kept.relation)] = kept
 
     def position(self) -> int:
         return parse_lsn(self.db.execute(f"SELECT lsn FROM {POSITION}").fetchone()[0])
@@ -157,11 +165,21 @@ class Rows:
             self.db.execute(f"UPDATE {POSITION} SET lsn = ?", (lsn_text(at),))
             self.db.execute("COMMIT")
             self.at = at
+            if self.asides.known or self.asides.told:
+                self.asides.tell(read_folder(self.db))
 
     def roll_back(self) -> None:
         if self.db.in_transaction:
             self.db.execute("ROLLBACK")
             self.reload()
+
+    def reload_within(self) -> None:
+        """Reads what the file has once a part of the transaction was undone."""
+        is_init_due = self.is_init_due
+        if self.digests:
+            self.digests.write()
+        self.reload()
+        self.is_init_due = is_init_due
 
     def close(self, is_orderly: bool) -> None:
         """Closes the file. At an orderly end it needs no log, unless somebody reads it just then."""
@@ -213,43 +231,79 @@ class Rows:
 
     # ---- its tables
 
-    def describe(self, relation: Relation) -> Kept | None:
-        """The table of a relation, in the shape that was told last. None of one that wasn't chosen."""
+    def describe(self, relation: Relation, at: int) -> Kept | None:
+        """The table of a relation, in the shape that was told last, by the commit that ends there. None of one that
+        wasn't chosen, or is set aside."""
         kept = self.kept.get(relation.oid)
-        is_aside = kept is not None and kept.name.startswith(ASIDE)
-        if kept and kept.relation == relation and relation.oid not in self.untold and not is_aside:
-            return kept
+        is_older = kept is not None and kept.name.startswith(OLDER)
+        if kept and kept.relation == relation and relation.oid not in self.untold and not is_older:
+            return self.attempt(relation, at) if self.keys.has_news(relation) else kept
         if not self.is_chosen(relation):
             self.leave_out(relation, kept)
             return None
+        if relation.oid in self.asides.known:
+            self.asides.rename(relation)
+            return None
+        return self.attempt(relation, at)
+
+    def attempt(self, relation: Relation, at: int) -> Kept | None:
+        """Makes a table, or gives it another name or shape; where that can't be, sets it aside."""
+        try:
+            with nested(self.db):
+                return self.shape(relation)
+        except CANT_KEEP as error:
+            if not is_of_table(error):
+                raise
+            why = reason(error)
+        self.reload_within()
+        self.set_aside(relation, at, why)
+        return None
+
+    def shape(self, relation: Relation) -> Kept:
+        kept = self.kept.get(relation.oid)
         if relation.oid in self.left_out:
-            raise Unfit(f"{relation.text()}: the table had another name before, which wasn't chosen: its rows from then are missing")
-        name = self.claim(relation)
+            raise Unkept(relation, "it had another name before, which wasn't chosen: its rows from then are missing")
+        name = self.claim(relation, kept)
         before = kept and relation.oid not in self.untold and kept.relation.shape.columns
+        primary = self.keys.of(relation)
         if kept is None:
-            kept = Kept(name, relation)
+            kept = Kept(name, relation, primary or ())
             kept.make(self.db)
         else:
+            primary = inherited(kept, relation) if primary is None else primary
             self.rename(kept, name)
-            kept = self.reshaped(kept, Kept(name, relation))
+            kept = self.reshaped(kept, Kept(name, relation, primary))
         self.is_init_due = True
         self.note(kept)
         if self.digests and before != relation.shape.columns:
             self.digests.add_up(kept)
         return kept
 
-    def claim(self, relation: Relation) -> str:
-        """The name of a relation's table. Another table that had it is moved aside, where it is the same name at the publisher."""
-        name = usable_name(relation.namespace, relation.name)
-        if folded(name).startswith(ASIDE) or folded(name) in OWN:
-            name = f"_{name}"
-        holder = self.names.get(folded(name))
+    def claim(self, relation: Relation, kept: Kept | None) -> str:
+        """The name of a relation's table. Another table that has the same name at the publisher is moved aside."""
+        named = full_name(relation)
+        holder = self.holders.get(named)
         if holder and holder.oid != relation.oid:
-            if full_name(holder.relation) != full_name(relation):
-                raise same_table(relation, holder.relation, name)
-            self.rename(holder, ASIDE + str(holder.oid))
+            self.rename(holder, OLDER + str(holder.oid))
             self.note(holder)
-        return name
+        elif holder:
+            return holder.name
+        own = {folded(kept.name)} if kept else set[str]()
+        return distinct_name(relation.oid, *named, self.names.keys() - own if own else self.names.keys())
+
+    def set_aside(self, relation: Relation, at: int, why: str) -> None:
+        """Leaves a table out from the commit that ends there on, until its rows come anew."""
+        if kept := self.kept.get(relation.oid):
+            self.drop(kept)
+        self.left_out.discard(relation.oid)
+        self.db.execute(f"INSERT OR REPLACE INTO {RELATIONS} VALUES (?, NULL, NULL)", (relation.oid,))
+        self.asides.put(relation, at, why)
+
+    def take_up(self, relation: Relation, at: int) -> Kept | None:
+        """Makes a table again that was set aside: all of its rows come."""
+        self.asides.drop(relation.oid)
+        self.db.execute(f"DELETE FROM {RELATIONS} WHERE oid = ?", (relation.oid,))
+        return self.describe(relation, at)
 
     def rename(self, kept: Kept, name: str) -> None:
         if kept.name == name:
@@ -264,19 +318,33 @@ class Rows:
         was, now = old.target, new.target
         is_same = (was.columns, was.key) == (now.columns, now.key) and [it[0] for it in was.kinds] == [it[0] for it in now.kinds]
         if is_same and (old.oid in self.untold or sources(old, new) == list(range(new.width))):
-            same = Kept(new.name, new.relation, is_loose=not was.is_keyed)
+            same = Kept(new.name, new.relation, new.primary, is_loose=not was.is_keyed)
             same.has_index = old.has_index
             return same
         return carry(self.db, old, new)
 
+    def rekeyed(self, kept: Kept) -> Kept:
+        """Gives a table that is empty now the primary key that the server has."""
+        primary = self.keys.of(kept.relation)
+        new = Kept(kept.name, kept.relation, primary or ())
+        if not primary or (new.target.key == kept.target.key and kept.target.is_keyed):
+            return kept
+        with nested(self.db):
+            kept = carry(self.db, kept, new)
+        self.is_init_due = True
+        self.note(kept)
+        return kept
+
     def loosen(self, kept: Kept) -> Kept:
-        kept = loosen(self.db, kept)
+        log.warning(f"{kept.relation.text()}: {LOOSE}")
+        with nested(self.db):
+            kept = loosen(self.db, kept)
         self.is_init_due = True
         self.note(kept)
         return kept
 
     def drop(self, kept: Kept) -> None:
-        self.db.execute(f"DROP TABLE {identifier(kept.name)}")
+        self.db.execute(f"DROP TABLE IF EXISTS {identifier(kept.name)}")
         self.db.execute(f"DELETE FROM {RELATIONS} WHERE oid = ?", (kept.oid,))
         self.forget(kept)
         del self.kept[kept.oid]
@@ -286,6 +354,7 @@ class Rows:
     def leave_out(self, relation: Relation, kept: Kept | None) -> None:
         if kept:
             self.drop(kept)
+        self.asides.drop(relation.oid)
         if relation.oid not in self.left_out:
             self.left_out.add(relation.oid)
             self.db.execute(f"INSERT OR REPLACE INTO {RELATIONS} VALUES (?, NULL, NULL)", (relation.oid,))
@@ -294,6 +363,8 @@ class Rows:
         """Takes a table's name away."""
         if self.names.get(folded(kept.name)) is kept:
             del self.names[folded(kept.name)]
+        if self.holders.get(full_name(kept.relation)) is kept:
+            del self.holders[full_name(kept.relation)]
         self.db.execute(f"DELETE FROM {TABLES} WHERE oid = ?", (kept.oid,))
 
     def note(self, kept: Kept) -> None:
@@ -304,8 +375,8 @@ class Rows:
             self.forget(before)
         self.kept[kept.oid] = kept
         self.untold.discard(kept.oid)
-        if not kept.name.startswith(ASIDE):
-            self.names[folded(kept.name)] = kept
+        if not kept.name.startswith(OLDER):
+            self.hold(kept)
             named = (kept.name, relation.namespace or "pg_catalog", relation.name, kept.oid)
             self.db.execute(f"INSERT INTO {TABLES} VALUES (?, ?, ?, ?)", named)
         self.db.execute(f"INSERT OR REPLACE INTO {RELATIONS} VALUES (?, ?, ?)", (kept.oid, kept.name, relation_text(relation)))
@@ -326,24 +397,3 @@ def read_folder(db: sqlite3.Connection) -> str:
     """The folder of the feed."""
     folder: bytes = db.execute(f"SELECT CAST(folder AS BLOB) FROM {FEED}").fetchone()[0]
     return folder.decode(errors="surrogateescape")
-
-
-def prepare(db: sqlite3.Connection, folder: str, chosen: Iterable[str], is_base: bool) -> None:
-    """Makes a new file, or an export, one that follows a feed."""
-    db.execute("BEGIN IMMEDIATE")
-    for statement in (() if is_base else SCHEMA) + MORE:
-        db.execute(statement)
-    names = sorted(set(chosen))
-    db.execute(f"INSERT INTO {FEED} VALUES (CAST(? AS TEXT), NULL, NULL, NULL, ?)", (path_bytes(folder), json.dumps(names)))
-    taken = dict[str, Relation]()
-    for name, schema, table, oid in db.execute(f"SELECT * FROM {TABLES}").fetchall():
-        if not names or set(names) & names_of(schema, table):
-            relation, usual = Relation(oid, schema, table, Shape("f", ())), usable_name(schema, table)
-            if (other := taken.setdefault(folded(usual), relation)) is not relation:
-                raise same_table(relation, other, usual)
-            db.execute(f"INSERT INTO {RELATIONS} VALUES (?, ?, NULL)", (oid, name))
-        else:
-            db.execute(f"DROP TABLE {identifier(name)}")
-            db.execute(f"DELETE FROM {TABLES} WHERE oid = ?", (oid,))
-            db.execute(f"INSERT INTO {RELATIONS} VALUES (?, NULL, NULL)", (oid,))
-    db.execute("COMMIT")

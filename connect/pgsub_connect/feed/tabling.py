@@ -12,9 +12,11 @@ from typing import TYPE_CHECKING
 from .. import log
 from ..errors import FileError, Passing, Stopped, Unfit
 from ..exporting import OLDEST
+from ..making import names_of
 from ..postgres import Check
 from ..texts import lsn_text
 from .applying import Applier
+from .asides import cure, shown_asides, store_at
 from .back import walk
 from .beginning import check_file, keeping, make
 from .faults import Damaged
@@ -37,6 +39,8 @@ the rows of an export.
 """
 # How many changes one transaction takes where more commits are there, and for how long it takes more, in seconds.
 MOST, LONGEST = 20000, 0.5
+# The exit status where tables are set aside.
+LEFT = 1
 # What SQLite says of a file that only for now can't be written.
 PASSING = ("is locked", "is full")
 
@@ -146,13 +150,14 @@ class Tables:
             self.noted.note(self.rows.at, is_last=True)
 
 
-def keep(options: Options, check: Check) -> int:
-    """Keeps the tables of a file. Returns its LSN at the end."""
+def keep(options: Options, check: Check) -> tuple[int, list[str]]:
+    """Keeps the tables of a file. Returns its LSN at the end, and the tables that are set aside."""
     init = Init(options.init) if options.init else None
     if not os.path.exists(options.into):
         with keeping(options):
             make(options, check)
-    rows, is_orderly = Rows(options.into, init), False
+    store = options.store or store_at(os.path.abspath(options.feed))
+    rows, is_orderly = Rows(options.into, init, store), False
     try:
         check_chosen(options, rows)
         rows.note_folder(os.path.abspath(options.feed))
@@ -167,6 +172,7 @@ def keep(options: Options, check: Check) -> int:
             rows.settle(rows.at)
         tables = Tables(options, rows, check)
         is_stopped = False
+        rows.asides.tell(os.path.abspath(options.feed))
         if not options.once:
             log.info(f"{options.into} follows {options.feed} from {lsn_text(rows.at)}")
         try:
@@ -177,9 +183,10 @@ def keep(options: Options, check: Check) -> int:
         is_orderly = True
         if is_stopped and options.once:
             raise Passing(f"ended before {options.into} had all of it")
+        left = [it.name() for it in shown_asides(rows.db).values()]
     finally:
         rows.close(is_orderly)
-    return rows.at
+    return rows.at, left
 
 
 def ending_with_input(check: Check) -> Check:
@@ -208,9 +215,13 @@ def run(options: Options, check: Check) -> int:
         raise FileError(f"SQLite {wanted} or later is needed for STRICT tables, and this is {sqlite3.sqlite_version}")
     check_file(options.into)
     try:
-        at = keep(options, check)
+        at, left = keep(options, check)
     except sqlite3.Error as error:
         is_passing = any(it in str(error) for it in PASSING)
         raise (Passing if is_passing else FileError)(f"{options.into}: {error}") from None
     log.info(f"{options.into}: the rows at {lsn_text(at)}")
+    if left and options.once:
+        anew = cure(store_at(os.path.abspath(options.feed)), left)
+        log.error(f"{options.into} lacks {names_of(left)}, set aside as told above. Their rows come anew by: {anew}")
+        return LEFT
     return 0

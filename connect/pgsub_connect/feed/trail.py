@@ -1,6 +1,6 @@
 """The commits of a feed above an LSN, of which the images take a copy back to it.
 
-What a truncation took the feed doesn't have.
+What a truncation took the feed doesn't have. And the rows from before a repair are the store's, which who follows may never have had.
 """
 
 from __future__ import annotations
@@ -10,6 +10,7 @@ from typing import NamedTuple
 
 from ..errors import Passing, Unfit
 from ..remembered import Relation
+from ..replacing import XID
 from ..texts import lsn_text
 from .parts import Cells, Change, Commit, Cursor
 from .reading import Reader, read_confirmed, segments
@@ -77,6 +78,15 @@ class Trail:
                 raise Unfit(f"{self.folder}: no commit ends at {lsn_text(until)}")
             yield commit
             at = commit.end
+
+    def unknown(self, until: int) -> dict[int, str]:
+        """By OID the tables of which these commits don't have the rows from before, and why."""
+        found = dict[int, str]()
+        for commit in self.commits(until):
+            for part in self.reader.parts(commit):
+                if isinstance(part, Change) and (part.op == "t" or commit.xid == XID):
+                    found[part.relation.oid] = "truncated" if part.op == "t" else "repaired"
+        return found
 
     def images(self, until: int, oids: Collection[int]) -> Iterator[Image]:
         """The rows before and after each change of some tables in these commits."""

@@ -1,170 +1,193 @@
-"""SQL that takes commits of a feed back at the publisher, the last change first, in one transaction.
+"""SQL that takes commits of a feed back at the publisher, in one transaction.
 
-Each statement looks for the row as the commit left it, so it changes nothing that somebody has changed since: then it raises an error,
-and nothing at all is taken back.
+It restores each row that they have changed, whatever became of it on the way. A row has to be as
+the commits left it: where somebody has changed one since it raises an error, and nothing at all is
+taken back. So it does where a row can't be as it was.
 """
 
 from __future__ import annotations
 
-from collections.abc import Callable, Sequence
+from collections.abc import Callable, Iterable, Iterator
 
 from .. import log
-from ..catalog import Column
 from ..errors import Unfit
 from ..postgres import Check
 from ..remembered import Relation
+from ..replacing import XID
 from ..server import SETTINGS
 from ..texts import identifier, literal, lsn_text
-from .parts import Cell, Cells, Change, Commit, Missed, TableLine
+from . import restoring
+from .choosing import Chosen
+from .netting import Changed, Net, Row
+from .parts import Cell, Change, Commit, Missed, TableLine
 from .polling import Poll
 from .reading import Reader
 from .rowsfile import full_name
 
-# Those on which it depends how a value is printed, and a constant read.
+# On these it depends how a value is printed.
 PRINTED = (
-    "search_path", "datestyle", "intervalstyle", "extra_float_digits", "bytea_output", "timezone", "lc_monetary", "quote_all_identifiers",
-    "xmlbinary",
+    "search_path", "datestyle", "intervalstyle", "extra_float_digits", "bytea_output", "timezone",
+    "lc_monetary", "quote_all_identifiers", "xmlbinary",
 )
-# Types whose values are looked up in an index by `=`: bool, bytea, "char", name, int8, int2, int4, text, oid, float4, float8, macaddr, inet,
-# bpchar, varchar, date, time, timestamp, timestamptz, interval, timetz, bit, varbit, numeric, uuid, pg_lsn, jsonb. The operator of another
-# type may be in any schema, or be that of a type which reads the constant in another way.
+# On the others how a constant is read; and rows that a policy hides are an error.
+SETTLED = {
+    **{name: SETTINGS[name] for name in PRINTED},
+    "xmloption": "content", "array_nulls": "on", "row_security": "off",
+}
+# Types whose values are looked up in an index by `=`: bool, bytea, "char", name, int8, int2, int4,
+# text, oid, float4, float8, macaddr, inet, bpchar, varchar, date, time, timestamp, timestamptz,
+# interval, timetz, bit, varbit, numeric, uuid, pg_lsn, jsonb. The operator of another type may be
+# in any schema, or be that of a type which reads the constant in another way.
 COMPARED = frozenset((
-    16, 17, 18, 19, 20, 21, 23, 25, 26, 700, 701, 829, 869, 1042, 1043, 1082, 1083, 1114, 1184, 1186, 1266, 1560, 1562, 1700, 2950, 3220, 3802,
+    16, 17, 18, 19, 20, 21, 23, 25, 26, 700, 701, 829, 869, 1042, 1043, 1082, 1083, 1114, 1184,
+    1186, 1266, 1560, 1562, 1700, 2950, 3220, 3802,
 ))
-
 # What an editor or a terminal may make another character of.
 CONTROLS = {it: f"\\x{it:02x}" for it in (*range(1, 32), 127)}
+CONTROLS |= {it: f"\\u{it:04x}" for it in range(0x80, 0xA0)}
+# How many characters the rows of one command have, but for the last of them.
+MOST = 200000
+BEGIN = """\
+-- Takes back the commits after {begin} up to {end}: psql -X -v ON_ERROR_STOP=1 -f FILE
+BEGIN ISOLATION LEVEL READ COMMITTED;
+SET LOCAL client_encoding = 'UTF8';
+CREATE TEMPORARY TABLE pgsub_settings ON COMMIT DROP AS
+  SELECT name, pg_catalog.current_setting(name) AS theirs, ours FROM (VALUES
+  {settings}
+  ) it (name, ours);
+"""
+SETTLE = f"DO $pgsub$ BEGIN {restoring.TO_OURS} END $pgsub$;\n"
+END = f"DO $pgsub$ BEGIN {restoring.TO_THEIRS} END $pgsub$;\nCOMMIT;\n"
+STEPS = (
+    restoring.CHECK, restoring.DESCRIBE, restoring.READ, restoring.FIND, restoring.REPLACE,
+    restoring.REFERENCES, restoring.CHANGE, restoring.LOOK,
+)
+
+
+def quoted(text: str) -> str:
+    """A constant of SQL, in which control characters are escaped."""
+    plain = literal(text).strip()
+    escaped = plain.translate(CONTROLS)
+    return escaped if escaped == plain or escaped.startswith("E") else f"E{escaped}"
 
 
 def constant(cell: Cell) -> str:
-    if isinstance(cell, bytes):
-        raise Unfit("a value was sent in binary format, which SQL has no constant for: follow without it")
-    if cell is None:
-        return "NULL"
-    text = literal(cell).strip()
-    escaped = text.translate(CONTROLS)
-    return escaped if escaped == text or escaped.startswith("E") else f"E{escaped}"
+    assert not isinstance(cell, bytes)
+    return "NULL" if cell is None else quoted(cell)
 
 
-def is_keyed(relation: Relation) -> bool:
-    return relation.shape.identity in ("d", "i") and any(it.key for it in relation.shape.columns)
+def array(cells: Iterable[str]) -> str:
+    """An array of these constants."""
+    text = ", ".join(cells)
+    return f"ARRAY[{text}]" if text else "'{}'"
 
 
-def table_name(relation: Relation) -> str:
-    return ".".join(map(identifier, full_name(relation)))
+def row_constant(row: Row | None) -> str:
+    return "NULL" if row is None else array(map(constant, row))
 
 
-def is_printed(column: Column, cell: Cell) -> str:
-    """That a column has a value, which is compared as it is printed: not all types can be compared, and equal ones may differ."""
-    name = identifier(column.name)
-    return f"{name} IS NULL" if cell is None else f"pg_catalog.format('%s', {name}) = {constant(cell)}"
-
-
-def is_equal(column: Column, cell: Cell) -> str:
-    """That a column of a key has a value, by an index where that can be."""
-    if cell is None or column.type_oid not in COMPARED:
-        return is_printed(column, cell)
-    return f"{identifier(column.name)} = {constant(cell)}"
-
-
-def is_own(relation: Relation) -> str:
-    """That a row isn't one of a table that inherits, but for partitions."""
-    oid = f"{literal(table_name(relation)).strip()}::pg_catalog.regclass"
-    return f"(tableoid = {oid} OR tableoid IN (SELECT relid FROM pg_catalog.pg_partition_tree({oid})))"
-
-
-def guard(relation: Relation, cells: Cells) -> str:
-    """The row as the commit left it; where there is no key, one of several equal ones."""
-    named = list(zip(relation.shape.columns, cells, strict=True))
-    found = " AND ".join([*(is_printed(*it) for it in named), is_own(relation)])
-    if is_keyed(relation):
-        return " AND ".join([*(is_equal(*it) for it in named if it[0].key and it[0].type_oid in COMPARED), found])
-    return f"(tableoid, ctid) = (SELECT tableoid, ctid FROM {table_name(relation)} WHERE {found} LIMIT 1)"
-
-
-def deletion(relation: Relation, after: Cells) -> str:
-    return f"DELETE FROM {table_name(relation)} WHERE {guard(relation, after)}"
-
-
-def update(relation: Relation, before: Cells, after: Cells) -> str:
-    """The values from before, where they were others; "" where there are none."""
-    changed = [(it.name, was) for it, was, new in zip(relation.shape.columns, before, after, strict=True) if was != new]
-    values = ", ".join(f"{identifier(name)} = {constant(was)}" for name, was in changed)
-    return f"UPDATE {table_name(relation)} SET {values} WHERE {guard(relation, after)}" if changed else ""
-
-
-def insertion(relation: Relation, before: Cells, raised: str) -> str:
-    """A row, unless one has its key: then an error."""
+def table_line(t: int, net: Net) -> str:
+    """What `pgsub_tables` has of a table at first."""
+    relation = net.relation
     columns = relation.shape.columns
-    names, values = ", ".join(identifier(it.name) for it in columns), ", ".join(map(constant, before))
-    keys = [is_equal(it, cell) for it, cell in zip(columns, before, strict=True) if it.key]
-    table = table_name(relation)
-    if not columns:
-        return f"INSERT INTO {table} DEFAULT VALUES"
-    text = f"INSERT INTO {table} ({names}) OVERRIDING SYSTEM VALUE"
-    if not is_keyed(relation):
-        return f"{text} VALUES ({values})"
-    # (a constant in a SELECT would be a text, and not of its column's type)
-    none = f"IF EXISTS (SELECT FROM {table} WHERE {' AND '.join(keys)}) THEN {raised}; END IF"
-    return f"{none}; {text} VALUES ({values})"
+    equal = [at for at in net.key if columns[at].type_oid in COMPARED]
+    told = quoted(".".join(full_name(relation)))
+    name = quoted(".".join(map(identifier, full_name(relation))))
+    keys = ", ".join(array(str(at + 1) for at in some) for some in (net.key, equal))
+    return f"({t}, {told}, {name}, {array(quoted(it.name) for it in columns)}, {keys})"
 
 
-def taken_back(commit: Commit, it: Change) -> str:
-    """The block that takes a change back, which has to change one row; "" where it changed nothing."""
-    relation, where = it.relation, f"{commit.text()}:{it.n}, {'.'.join(full_name(it.relation))}"
-    if it.op == "t":
-        raise Unfit(f"{commit.text()} truncates {relation.text()}, and the feed doesn't have the rows that were in it")
-    if it.before is None:
-        statement = deletion(relation, it.after or [])
-    elif it.after is None:
-        statement = insertion(relation, it.before, exception(f"{where}: there is a row with this key by now"))
-    else:
-        statement = update(relation, it.before, it.after)
-    return block(statement, exception(f"{where}: the row is another one by now")) if statement else ""
+def row_line(t: int, it: Changed) -> str:
+    return f"{t}, {quoted(it.told)}, {row_constant(it.was)}, {row_constant(it.now)}"
 
 
-def exception(text: str) -> str:
-    return f"RAISE EXCEPTION '%', {literal(text).strip()}"
+class Undoing:
+    """Collects what commits have made of rows, and makes the SQL that takes it back."""
+
+    def __init__(self, is_chosen: Callable[[Relation], bool], begin: int, end: int) -> None:
+        self.is_chosen, self.begin, self.end = is_chosen, begin, end
+        self.nets: dict[int, Net] = {}
+
+    def take(self, reader: Reader, commit: Commit) -> None:
+        chosen = dict[int, bool]()
+        for part in reader.parts(commit):
+            relation = part.relation
+            if isinstance(part, TableLine):
+                chosen[relation.oid] = self.is_chosen(relation)
+            elif not chosen[relation.oid]:
+                continue
+            elif isinstance(part, Missed):
+                what = f"{commit.text()}:{part.n}: a change of {relation.text()}"
+                log.warning(f"{what} isn't taken back: the copy didn't have its row")
+            else:
+                self.change(commit, part)
+
+    def change(self, commit: Commit, it: Change) -> None:
+        relation, where = it.relation, commit.text()
+        if it.op == "t":
+            text = "and the feed doesn't have the rows that were in it"
+            raise Unfit(f"{where} truncates {relation.text()}, {text}: {self.apart(commit)}")
+        if commit.xid == XID:
+            text = "were copied here, by no commit of the server's"
+            raise Unfit(f"{where}: rows of {relation.text()} {text}: {self.apart(commit)}")
+        if bytes in map(type, (*(it.before or ()), *(it.after or ()))):
+            text = "a value was sent in binary format, which SQL has no constant for"
+            raise Unfit(f"{where}: {relation.text()}: {text}: follow without --binary")
+        net = self.nets.setdefault(relation.oid, Net(relation))
+        if net.relation is not relation and not net.describe(relation):
+            text = f"{relation.text()} was altered since the commits before"
+            raise Unfit(f"{where}: {text}: take back only those after {lsn_text(commit.prev)}")
+        net.take(it, f"{where}:{it.n}, {'.'.join(full_name(relation))}")
+
+    def apart(self, commit: Commit) -> str:
+        """What to do where a commit can't be taken back."""
+        some = [f"those after {commit.text()}"] if commit.end < self.end else []
+        some += [f"those up to {lsn_text(commit.prev)}"] if commit.prev > self.begin else []
+        text = "take back only " + ", and then ".join(some)
+        return text if some else "leave its table out, by --table for the others"
+
+    def texts(self) -> Iterator[str]:
+        """The SQL."""
+        some = (f"({literal(name)}, {literal(value)})" for name, value in SETTLED.items())
+        settings = ",\n  ".join(some)
+        begin, end = lsn_text(self.begin), lsn_text(self.end)
+        yield BEGIN.format(begin=begin, end=end, settings=settings)
+        yield SETTLE + restoring.TABLES
+        rows = {t: it.changed() for t, it in enumerate(self.nets.values(), 1)}
+        for t, net in enumerate(self.nets.values(), 1):
+            yield f"INSERT INTO pgsub_tables VALUES {table_line(t, net)};\n" if rows[t] else ""
+        yield from commands(row_line(t, it) for t, some in rows.items() for it in some)
+        yield from (*STEPS, END)
 
 
-def block(statement: str, raised: str) -> str:
-    body = f"#variable_conflict use_column\nDECLARE changed bigint; BEGIN {statement};"
-    body += f" GET DIAGNOSTICS changed = ROW_COUNT; IF changed <> 1 THEN {raised}; END IF; END"
-    tag, number = "$pgsub$", 0
-    while tag in body:
-        number += 1
-        tag = f"$pgsub{number}$"
-    return f"DO {tag} {body} {tag};\n"
+def commands(lines: Iterable[str]) -> Iterator[str]:
+    """The commands that have the rows."""
+    front = "INSERT INTO pgsub_rows (n, t, told, was, now) VALUES\n  "
+    between, size = ",\n  ", 0
+    for n, line in enumerate(lines, 1):
+        yield f"{between if size else front}({n}, {line})"
+        size = size + len(line) if size + len(line) < MOST else 0
+        yield "" if size else ";\n"
+    yield ";\n" if size else ""
 
 
-def statements(reader: Reader, commit: Commit, is_chosen: Callable[[Relation], bool]) -> list[str]:
-    """Those of one commit, the first change first."""
-    found, chosen = [], dict[int, bool]()
-    for part in reader.parts(commit):
-        if isinstance(part, TableLine):
-            chosen[part.relation.oid] = is_chosen(part.relation)
-        elif not chosen[part.relation.oid]:
-            continue
-        elif isinstance(part, Missed):
-            log.warning(f"{commit.text()}:{part.n}: a change of {part.relation.text()} isn't taken back: the copy didn't have its row")
-        elif text := taken_back(commit, part):
-            found.append(text)
-    return found
-
-
-def undo(reader: Reader, end: int, is_chosen: Callable[[Relation], bool], check: Check, put: Callable[[bytes], None]) -> None:
+def undo(
+    reader: Reader, end: int, chosen: Chosen, check: Check, put: Callable[[bytes], None]
+) -> None:
     """Prints the SQL that takes the commits up to an LSN back."""
-    found: list[tuple[Commit, Sequence[str]]] = []
+    begin, is_there = reader.at or 0, False
+    undoing = Undoing(chosen, begin, end)
     for commit in Poll(reader, False, check).commits():
         if commit.end > end:
             break
         check()
-        found.append((commit, statements(reader, commit, is_chosen)))
-    if not found:
-        raise Unfit(f"{reader.folder}: no commit ends up to {lsn_text(end)} after {lsn_text(reader.at or 0)}")
-    settings = {"client_encoding": "UTF8", **{name: SETTINGS[name] for name in PRINTED}}
-    lines = ["BEGIN;\n", *(f"SET LOCAL {name} = {literal(value).strip()};\n" for name, value in settings.items())]
-    for commit, texts in reversed(found):
-        lines += [f"-- {commit.text()}\n"] if texts else []
-        lines += reversed(texts)
-    put("".join([*lines, "COMMIT;\n"]).encode())
+        is_there = True
+        undoing.take(reader, commit)
+    if not is_there:
+        text = f"no commit ends up to {lsn_text(end)} after {lsn_text(begin)}"
+        raise Unfit(f"{reader.folder}: {text}")
+    if chosen.unseen:
+        text = f"no commit after {lsn_text(begin)} up to {lsn_text(end)} has such a table"
+        raise Unfit(f"--table {min(chosen.unseen)}: {text}")
+    for text in undoing.texts():
+        put(text.encode())

@@ -6,6 +6,9 @@ the feed's images. So nothing is held, neither the stream nor what follows the f
 
 Two files are compared at the lower one of their LSNs: the other one is taken back to it by its own feed.
 
+A table that was truncated, altered or repaired meanwhile is compared once more, and told where it can't be then either. One that the file
+has set aside differs.
+
 With `--digests` the sums are those that the files keep, as the module `digesting` says, and rows are read where they differ, or where there
 are none. Without, all rows are read, and the sums that a file keeps are checked by that.
 """
@@ -17,7 +20,7 @@ import dataclasses
 import os
 import sqlite3
 import time
-from collections.abc import Iterable, Iterator
+from collections.abc import Callable, Iterator, Sequence
 from typing import TYPE_CHECKING
 
 from .. import log
@@ -29,14 +32,16 @@ from ..making import names_of
 from ..meeting import Source, chosen
 from ..postgres import Check
 from ..publishing import Column, Table
-from ..remembered import Remembered
+from ..remembered import Relation, Remembered
 from ..sides import Difference, Sides, differing
 from ..texts import counted, lsn_text
-from ..verifying import DIFFERENT, EQUAL, Verifier, settled, tell_left
+from ..verifying import AGAIN, DIFFERENT, EQUAL, Compared, Verifier, among, left_of, settled, tell_left
+from .asides import cure, store_at
 from .awaiting import LOOK, read_file
 from .beginning import is_tables
 from .parts import Head
 from .reading import read_source
+from .rowsfile import full_name
 from .trail import Trail
 from .viewing import View, check_tables
 
@@ -124,13 +129,23 @@ def store_of(path: str) -> str:
 
 def with_server(options: Options, check: Check) -> int:
     check_tables(options.tables)
+    found = Compared()
+    status = compare_with_server(options, lambda it: it.chosen(options.table), found, check)
+    for _ in range(AGAIN):
+        if found.left:
+            log.info(f"compared once more: {found.names()}")
+            status = max(status, compare_with_server(options, among(list(found.left)), found, check))
+    return found.ended(status)
+
+
+def compare_with_server(options: Options, choose: Callable[[Source], list[Table]], found: Compared, check: Check) -> int:
     with contextlib.ExitStack() as stack:
         at, folder = read_file(options.tables)
         trail = stack.enter_context(contextlib.closing(Trail(options.feed or folder, at)))
         source = stack.enter_context(contextlib.closing(source_of(options, check)))
-        tables = followed(options, source.chosen(options.table))
+        tables = followed(options, choose(source))
         point, snapshot = source.make_slot(options.hold)
-        source.see(snapshot)
+        source.see(snapshot, leaves=True)
         if point < at:
             # (of a standby that is behind)
             trail = stack.enter_context(contextlib.closing(Trail(options.feed or folder, point)))
@@ -141,9 +156,12 @@ def with_server(options: Options, check: Check) -> int:
         view.trail = trail
         # (of one that is added since then the feed lacks changes up to here, or truncates it)
         followed(options, tables)
+        tables = with_rows(options, view, tables)
+        found.left = left_of(tables, {**trail.unknown(view.at), **source.left})
         sides = Tables(source, view)
         tell_left(sides)
-        status = compare(options, sides, with_rows(options, view, tables), f"on the server at {lsn_text(point)}", [view])
+        rest = [it for it in tables if it.oid not in found.left]
+        status = compare(options, sides, rest, f"on the server at {lsn_text(point)}", [view])
     return status
 
 
@@ -175,7 +193,11 @@ def wait(path: str, trail: Trail, point: int, check: Check) -> None:
 
 
 def with_rows(options: Options, view: View, tables: list[Table]) -> list[Table]:
-    """The tables that a file has; tells which it was made without."""
+    """The tables that a file has; tells which it was made without, and which are set aside."""
+    view.lacks += [view.asides[it.oid] for it in tables if it.oid in view.asides]
+    for aside in view.lacks:
+        log.warning(f"{aside.name()} is set aside in {view.path} {aside.text()}")
+    tables = [it for it in tables if it.oid not in view.asides]
     left = [it for it in tables if not view.is_chosen(it)]
     if left and options.table:
         raise Unfit(f"{view.path} was made without {names_of([it.text() for it in left])}")
@@ -195,7 +217,15 @@ def compare(options: Options, sides: Tables, tables: list[Table], where: str, vi
     how = " by the digests that are kept" if options.digests else ""
     text = f"{counted(len(tables), 'table')}, {counted(verifier.rows, 'row')} {where}"
     log.info(f"{text}: {('equal' if is_right else 'equal rows') + how if is_equal else 'the copy differs'}")
-    return EQUAL if is_equal and is_right else DIFFERENT
+    wrong = [relation_name(it) for view in views for it in view.wrong]
+    wrong += [it.text() for it in verifier.different] + [it.name() for view in views for it in view.lacks]
+    if wrong:
+        log.warning(f"rows come anew by: {cure(options.store or store_at(views[-1].folder), sorted(set(wrong)))}")
+    return DIFFERENT if wrong else EQUAL
+
+
+def relation_name(relation: Relation) -> str:
+    return ".".join(full_name(relation))
 
 
 def with_file(options: Options, check: Check) -> int:
@@ -212,8 +242,11 @@ def with_file(options: Options, check: Check) -> int:
         tables = tables_of((other, view))
         tables = chosen(tables, options.table) if options.table else tables
         both = with_rows(options, other, with_rows(options, view, tables))
-        status = compare(options, Files(other, view), both, f"in {other.path} at {lsn_text(point)}", [other, view])
-    return status
+        found = Compared()
+        found.left = left_of(both, {oid: why for it in (other, view) if it.trail for oid, why in it.trail.unknown(it.at).items()})
+        rest = [it for it in both if it.oid not in found.left]
+        status = compare(options, Files(other, view), rest, f"in {other.path} at {lsn_text(point)}", [other, view])
+    return found.ended(status)
 
 
 def source_in(view: View, feed: str) -> Head | None:
@@ -243,7 +276,7 @@ def trail_to(options: Options, view: View, point: int) -> Trail:
     return trail
 
 
-def tables_of(views: Iterable[View]) -> list[Table]:
+def tables_of(views: Sequence[View]) -> list[Table]:
     """All tables that any of the files has."""
     found = dict[int, Table]()
     for view in views:
@@ -253,4 +286,5 @@ def tables_of(views: Iterable[View]) -> list[Table]:
             schema = relation.namespace or "pg_catalog"
             if oid not in found or oid not in view.untold:
                 found.setdefault(oid, Table(oid, schema, relation.name, "r", relation.shape.identity, None, None, columns))
-    return list(found.values())
+    asides = {oid: it for view in views for oid, it in view.asides.items() if oid not in found}
+    return [*found.values(), *(Table(oid, it.schema, it.table, "r", "", None, None, []) for oid, it in asides.items())]

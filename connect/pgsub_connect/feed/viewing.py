@@ -16,12 +16,13 @@ from ..catalog import Column
 from ..digests import Plan, Summing, Sums, text_of
 from ..digests import Fields as Texts
 from ..errors import FileError, Passing
-from ..naming import POSITION, TABLES, name_columns
+from ..naming import POSITION, TABLES, name_columns, names_of
 from ..postgres import Check
 from ..publishing import Table
 from ..remembered import Relation
 from ..sides import ROWS, Row
 from ..texts import identifier, parse_lsn
+from .asides import Aside, read_asides
 from .beginning import is_tables, opened
 from .decoding import read_relation
 from .digesting import Digest, read_digests
@@ -66,11 +67,14 @@ class View:
         # those whose digest isn't that of their rows
         self.wrong: list[Relation] = []
         self.left_out, self.untold = set[int](), set[int]()
+        # those that are set aside, and what of them was looked for
+        self.asides: dict[int, Aside] = read_asides(db)
+        self.lacks: list[Aside] = []
         self.tables: dict[int, Valued] = {}
         named = {oid: (name, schema, table) for name, schema, table, oid in db.execute(f"SELECT * FROM {TABLES}")}
         for oid, name, definition in db.execute(f"SELECT oid, name, definition FROM {RELATIONS}").fetchall():
             if name is None:
-                self.left_out.add(oid)
+                self.left_out |= {oid} - self.asides.keys()
             elif definition is None:
                 self.untold.add(oid)
                 self.tables[oid] = Valued(name, unlisted(db, *named[oid], oid))
@@ -88,7 +92,7 @@ class View:
         """Whether the file has a table's rows, or would have them."""
         if table.oid in self.tables:
             return True
-        names = {table.text()} | ({table.name} if table.namespace == "public" else set())
+        names = names_of(table.namespace, table.name)
         return table.oid not in self.left_out and (not self.chosen or bool(self.chosen & names))
 
     def columns(self, table: Table) -> list[str]:

@@ -68,7 +68,8 @@ class Exported(Base):
 
     def rows(self, relation: Relation) -> Iterator[Cells]:
         for row in self.db.execute(f"SELECT * FROM {identifier(self.names[relation.oid])} ORDER BY rowid"):
-            yield list(row)
+            # (one without columns has one there)
+            yield list(row) if relation.shape.columns else []
 
 
 @contextlib.contextmanager

@@ -49,6 +49,9 @@ class Engine(Protocol):
     def forget(self) -> None:
         """Forgets what was taken since it was settled."""
 
+    def finish(self, seconds: float) -> bool:
+        """Has what was taken, where that takes no longer. Returns whether so. Nothing is taken afterwards."""
+
     def look(self) -> None:
         """Looks, while there is nothing to take, whether it can go on."""
 

@@ -3,15 +3,18 @@
 from __future__ import annotations
 
 import base64
-import binascii
 import collections
+import contextlib
 import dataclasses
 import json
 import secrets
 import time
+from collections.abc import Iterator
 from typing import Any
 
 from ..errors import EngineError, Passing, TooLarge
+from ..jsontexts import Unreadable, list_of, object_of, text_of, whole_of
+from ..texts import shortened
 from .nats_wire import Message, Wire, header_bytes, read_headers
 
 # How long to wait for what it says, in seconds.
@@ -33,6 +36,16 @@ class Stored:
     subject: str
     id: str
     data: bytes
+
+
+@dataclasses.dataclass(frozen=True)
+class Info:
+    """What is told of a stream: how many messages it has, the sequences of the first and the last one, and its subjects."""
+
+    messages: int
+    first: int
+    last: int
+    subjects: list[str]
 
 
 @dataclasses.dataclass
@@ -65,7 +78,7 @@ class JetStream:
         reply = f"{self.inbox}.ask{self.asked}"
         self.wire.publish(f"$JS.API.{what}", reply, b"", json.dumps(body).encode() if body else b"")
         end = time.monotonic() + LONGEST
-        while (message := self.wire.receive(max(0.0, end - time.monotonic()))) is not None:
+        while (message := self.wire.receive(max(0.0, end - time.monotonic()))) is not None and time.monotonic() <= end:
             if message.subject == reply:
                 return self.parsed(message)
         raise Passing(f"{self.where}: no answer in {LONGEST:.0f} seconds")
@@ -78,52 +91,70 @@ class JetStream:
     def need(self, what: str, body: dict[str, Any], passes: int = 0) -> dict[str, Any] | None:
         """Asks. Returns None where it says that there is none, with this number."""
         found = self.ask(what, body)
-        error = found.get("error")
-        if error is None:
+        if found.get("error") is None:
             return found
-        if error.get("err_code") == passes:
-            return None
+        with self.understood(found):
+            error = object_of(found["error"])
+            if error.get("err_code") == passes:
+                return None
         raise self.wrong(error)
 
+    @contextlib.contextmanager
+    def understood(self, found: dict[str, Any]) -> Iterator[None]:
+        """Rejects what it has said where it can't be read."""
+        try:
+            yield
+        except Unreadable as error:
+            told = shortened(json.dumps(found))
+            raise EngineError(f"{self.where}: it said what isn't JetStream's ({error}): is it of another version? {told}") from None
+
     def wrong(self, error: dict[str, Any]) -> Exception:
-        code, kind, about = error.get("code"), error.get("err_code"), str(error.get("description", error))
+        code, kind, about = error.get("code"), error.get("err_code"), shortened(str(error.get("description", error)))
         if kind == OTHER_TOO_LARGE:
             return TooLarge(f"{self.where}: {about}")
         is_away = code in PASSING and kind not in NO_JETSTREAM
         return (Passing if is_away or kind == WRONG_SEQUENCE or FULL in about else EngineError)(f"{self.where}: {about}")
 
-    def begin(self) -> dict[str, Any]:
+    def begin(self) -> Info:
         """Makes the stream, where it isn't there. Returns what is told of it."""
         found = self.need(f"STREAM.INFO.{self.stream}", {}, NO_STREAM)
         if found is None:
             config = {"name": self.stream, "subjects": [f"{self.stream}.>"], "storage": "file", "retention": "limits", "num_replicas": 1}
             found = self.need(f"STREAM.CREATE.{self.stream}", config)
         assert found is not None
-        self.sequence = int(found["state"]["last_seq"])
-        most = int(found["config"].get("max_msg_size", -1))
+        info = self.info_of(found)
+        with self.understood(found):
+            most = whole_of(object_of(found.get("config")).get("max_msg_size", -1), -1)
+        self.sequence = info.last
         self.most = min(self.wire.most, most) if most > 0 else self.wire.most
-        return found
+        return info
+
+    def info_of(self, found: dict[str, Any]) -> Info:
+        with self.understood(found):
+            state, config = object_of(found.get("state")), object_of(found.get("config"))
+            subjects = [text_of(it) for it in list_of(config.get("subjects", []))]
+            messages, first = (whole_of(state.get(it, 0)) for it in ("messages", "first_seq"))
+            return Info(messages, first, whole_of(state.get("last_seq")), subjects)
 
     def last(self) -> int:
         """The sequence of the last message that is there now, or was."""
         found = self.need(f"STREAM.INFO.{self.stream}", {})
         assert found is not None
-        return int(found["state"]["last_seq"])
+        return self.info_of(found).last
 
     def message(self, **which: Any) -> Stored | None:
         """A message by its `seq`, or the last one of a subject, `last_by_subj`."""
         found = self.need(f"STREAM.MSG.GET.{self.stream}", which, NO_MESSAGE)
         if found is None:
             return None
-        it = found["message"]
-        try:
-            _, headers = read_headers(base64.b64decode(it.get("hdrs", ""))) if it.get("hdrs") else ("", {})
-            return Stored(int(it["seq"]), it["subject"], headers.get("Nats-Msg-Id", ""), base64.b64decode(it.get("data", "")))
-        except (ValueError, KeyError, binascii.Error):
-            raise EngineError(f"{self.where}: it said {str(found)[:200]} in place of a message") from None
+        with self.understood(found):
+            it = object_of(found.get("message"))
+            head, data = (bytes_of(it.get(name, "")) for name in ("hdrs", "data"))
+            return Stored(whole_of(it.get("seq")), text_of(it.get("subject")), id_of(head), data)
 
-    def purge(self) -> None:
-        self.need(f"STREAM.PURGE.{self.stream}", {})
+    def purge(self, **which: int) -> None:
+        """Removes the messages before a `seq`, or all but the last ones, as many as `keep`."""
+        self.need(f"STREAM.PURGE.{self.stream}", which)
 
     # ---- publishing
 
@@ -157,8 +188,27 @@ class JetStream:
         first = self.waiting.popleft()
         self.room -= first.size
         said = self.parsed(message)
-        if error := said.get("error"):
+        if said.get("error"):
+            with self.understood(said):
+                error = object_of(said["error"])
             raise self.wrong(error)
         is_ours = message.subject == f"{self.inbox}.{first.sequence}" and said.get("seq") == first.sequence
         if said.get("duplicate") or not is_ours:
-            raise Passing(f"{self.where}: something else publishes to it: it has {said} in place of message {first.sequence}")
+            told = shortened(str(said))
+            raise Passing(f"{self.where}: something else publishes to it: it has {told} in place of message {first.sequence}")
+
+
+def bytes_of(value: Any) -> bytes:
+    """What a text in base64 says."""
+    try:
+        return base64.b64decode(text_of(value))
+    except ValueError as error:
+        raise Unreadable(str(error)) from None
+
+
+def id_of(head: bytes) -> str:
+    """The id of a message with these headers, "" where it has none."""
+    try:
+        return read_headers(head)[1].get("Nats-Msg-Id", "") if head else ""
+    except ValueError:
+        raise Unreadable("its headers") from None

@@ -6,20 +6,22 @@ two messages, since one is only taken as the one after the message that was the 
 
 from __future__ import annotations
 
+import contextlib
+import secrets
 import time
 from collections.abc import Iterable, Iterator
 from typing import Any
 
 from .. import log
-from ..errors import Passing, TooLarge, Unfit
+from ..errors import Passing, Stopped, TooLarge, Unfit
 from ..feed.faults import Damaged
 from ..feed.parts import Commit, TableLine
 from ..naming import names_of
 from ..postgres import Check
-from ..texts import lsn_text
+from ..texts import lsn_text, shortened
 from .beginning import Base
 from .engine import Read, Wanted
-from .jetstream import JetStream, Stored
+from .jetstream import Info, JetStream, Stored
 from .nats_messages import COMMIT, Said, base_message, change_message, last_message, numbered, read_id, read_last
 from .nats_wire import Wire
 from .trailing import Trail
@@ -54,11 +56,11 @@ class Nats:
         self.chosen = set(wanted.chosen)
         self.about: dict[str, Any] = {**wanted.source(), "tables": list(wanted.chosen)}
         info = self.stream.begin()
-        if f"{self.name}.>" not in info["config"].get("subjects", []):
+        if f"{self.name}.>" not in info.subjects:
             raise Unfit(f"{self.stream.where}: it is there, and its subjects aren't {self.name}.>: take another one")
         if not self.stream.sequence:
             return False
-        last = self.stream.message(seq=self.stream.sequence) if info["state"]["messages"] else None
+        last = self.stream.message(seq=self.stream.sequence) if info.messages else None
         read = read_id(last.id) if last else None
         if last is None or read is None:
             found = f"its last one, {last.sequence}, isn't of a sink" if last else "its last one is gone"
@@ -68,42 +70,57 @@ class Nats:
             # (the rows of a base, of which a part was published; they go once there is something to begin with)
             self.has_left = True
             return False
-        self.go_on(commit, read.lsn, read.n)
+        rows = self.go_on(commit, read.lsn, read.n)
+        if rows is not None and last is commit:
+            self.remove_before(last.sequence - rows, info)
         return True
 
-    def go_on(self, commit: Stored | None, lsn: int, n: int | None) -> None:
-        """Goes on after the last message of a commit, and the messages of a part of the next one."""
+    def remove_before(self, first: int, info: Info) -> None:
+        """Removes what a base that was begun before has left before the first message of the one that is whole."""
+        if 0 < info.first < first:
+            self.stream.purge(seq=first)
+
+    def go_on(self, commit: Stored | None, lsn: int, n: int | None) -> int | None:
+        """Goes on after the last message of a commit, and the messages of a part of the next one. Returns how many rows that commit has,
+        which is a base."""
         try:
-            at, about = read_last(commit.data if commit else b"")
+            at, about, rows = read_last(commit.data if commit else b"")
         except ValueError:
             raise Unfit(f"{self.stream.where}: the last message of the commit before is gone: remove it to begin anew") from None
         if about != self.about:
-            raise Unfit(f"{self.stream.where}: what is kept there is of {about}, and this would be of {self.about}: take another stream")
+            told = shortened(str(about))
+            raise Unfit(f"{self.stream.where}: what is kept there is of {told}, and this would be of {self.about}: take another stream")
         self.at = self.end = at
         self.trail.note(at, time.monotonic())
         self.part = None if n is None else (lsn, n)
+        return rows
 
     def remove_left(self) -> None:
-        """Removes the part of a base that a sink has left. One that publishes it still would go on, and never know of it."""
+        """Removes the part of a base that a sink has left, but for its last message: by that the next start knows what there is. One that
+        publishes it still would go on, and never know of it."""
         end = time.monotonic() + STILL
         while time.monotonic() < end:
             self.check()
             time.sleep(STILL / 20)
         if self.stream.last() != self.stream.sequence:
             raise Passing(f"{self.stream.where}: another sink publishes the rows of a base there")
-        log.warning(f"{self.stream.where}: its {self.stream.sequence} messages are a part of a base: they go, and it begins anew")
-        self.stream.purge()
+        log.warning(f"{self.stream.where}: its messages are a part of a base: they go, and it begins anew")
+        self.stream.purge(keep=1)
 
     def begin(self, base: Base) -> None:
         if self.has_left:
             self.remove_left()
+        number, rows = secrets.token_hex(4), 0
         for relation, n, row in numbered(base.tables(), base.rows):
             if not n % 1000:
                 self.check()
-            self.publish(self.sized(base_message(self.name, relation, base.lsn, n, row)))
-        self.publish(last_message(self.name, Commit(base.lsn, base.lsn, 0, 0), self.about))
+            self.publish(self.sized(base_message(self.name, relation, base.lsn, number, n, row)))
+            rows = n + 1
+        self.publish(last_message(self.name, Commit(base.lsn, base.lsn, 0, 0), self.about, rows))
         self.end = base.lsn
         self.settle()
+        if self.has_left:
+            self.stream.purge(seq=self.stream.sequence - rows)
 
     # ---- commits
 
@@ -177,9 +194,22 @@ class Nats:
     def safe(self) -> int | None:
         return self.trail.pass_to(time.monotonic() - SYNCED)
 
+    def finish(self, seconds: float) -> bool:
+        end = time.monotonic() + seconds
+
+        def check() -> None:
+            if time.monotonic() > end:
+                raise Stopped
+
+        self.stream.wire.check = check
+        with contextlib.suppress(Stopped):
+            self.settle()
+            return True
+        return False
+
     def close(self) -> None:
         self.stream.wire.close()
 
 
 def connect(url: str, stream: str, check: Check) -> Nats:
-    return Nats(JetStream(Wire(url), stream), check)
+    return Nats(JetStream(Wire(url, check), stream), check)

@@ -2,9 +2,12 @@
 
 | Message | Its id | Its subject | Says |
 |---|---|---|---|
-| a row of a base | `0/500:base:7` | `pgsub.public.stock` | as a change, with the op `r` |
-| a change | `0/600:0` | `pgsub.public.stock` | `lsn`, `n`, `op`, `schema`, `table`, `oid`, and the rows `before` and `after` |
-| the last one | `0/600:commit` | `pgsub.commit` | what the feed has of the commit, and what is kept of which feed |
+| a row of a base | `0/500:base:5c0f1a9e:7` | `pgsub.public.stock` | as a change, with the op `r` |
+| a change | `0/600:0` | `pgsub.public.stock` | `end`, `n`, `op`, `schema`, `table`, `oid`, and the rows `before` and `after` |
+| the last one | `0/600:commit` | `pgsub.commit` | what the feed has of the commit, and what is kept of which feed; of a base, how many `rows` it has |
+
+An id is that of one message for ever, since a stream takes none twice within some minutes, whatever has become of the first. So a base that
+is begun anew has another number, `5c0f1a9e`. As in the feed `end` is where a commit ends, and `lsn` its final LSN.
 """
 
 from __future__ import annotations
@@ -16,11 +19,13 @@ from typing import Any, NamedTuple
 
 from ..feed.identifying import subject
 from ..feed.parts import Cells, Change, Commit, Missed
+from ..jsontexts import Unreadable, lsn_of, object_of, parsed, whole_of
 from ..remembered import Relation
 from ..texts import lsn_text, parse_lsn
 from .entries import base_entry, compact, entry
 
-ID = re.compile(r"([0-9A-F]+/[0-9A-F]+):(?:(commit)|(base:\d+)|(\d+))")
+# (an earlier version of this program gave bases no numbers)
+ID = re.compile(r"([0-9A-F]+/[0-9A-F]+):(?:(commit)|(base:(?:[0-9a-f]{8}:)?[0-9]+)|([0-9]{1,18}))")
 COMMIT = "commit"
 
 
@@ -54,7 +59,7 @@ def read_id(text: str) -> Read | None:
 
 def row_message(stream: str, relation: Relation, lsn: int, n: int, id: str, told: dict[str, str]) -> Said:
     fields = {
-        "lsn": f'"{lsn_text(lsn)}"', "n": str(n), "op": f'"{told["op"]}"', "schema": json.dumps(relation.namespace or "pg_catalog"),
+        "end": f'"{lsn_text(lsn)}"', "n": str(n), "op": f'"{told["op"]}"', "schema": json.dumps(relation.namespace or "pg_catalog"),
         "table": json.dumps(relation.name), **{name: it for name, it in told.items() if name != "op"},
     }
     body = ",".join(f'"{name}":{it}' for name, it in fields.items())
@@ -65,25 +70,35 @@ def change_message(stream: str, commit: Commit, it: Change | Missed) -> Said:
     return row_message(stream, it.relation, commit.end, it.n, f"{commit.text()}:{it.n}", entry(it))
 
 
-def base_message(stream: str, relation: Relation, lsn: int, n: int, row: Cells) -> Said:
-    return row_message(stream, relation, lsn, n, f"{lsn_text(lsn)}:base:{n}", base_entry(relation, row))
+def base_message(stream: str, relation: Relation, lsn: int, number: str, n: int, row: Cells) -> Said:
+    return row_message(stream, relation, lsn, n, f"{lsn_text(lsn)}:base:{number}:{n}", base_entry(relation, row))
 
 
-def last_message(stream: str, commit: Commit, about: dict[str, Any]) -> Said:
+def last_message(stream: str, commit: Commit, about: dict[str, Any], rows: int | None = None) -> Said:
+    """The last message of a commit, or of a base with so many rows."""
     told = {
         "end": commit.text(), "prev": lsn_text(commit.prev), "changes": commit.changes,
-        "lsn": None if commit.lsn is None else lsn_text(commit.lsn), "xid": commit.xid, "ts_us": commit.ts_us, **about,
+        "lsn": None if commit.lsn is None else lsn_text(commit.lsn), "xid": commit.xid, "ts_us": commit.ts_us,
+        **({} if rows is None else {"rows": rows}), **about,
     }
     return Said(f"{stream}.{COMMIT}", f"{commit.text()}:{COMMIT}", compact(told).encode(), "the commit")
 
 
-def read_last(data: bytes) -> tuple[int, dict[str, Any]]:
-    """The LSN of a last message, and what it says of what is kept. A ValueError says that it is none."""
-    told = json.loads(data)
-    try:
-        return parse_lsn(told["end"]), {name: told[name] for name in ("system", "database", "slot", "tables")}
-    except (KeyError, TypeError, AttributeError):
-        raise ValueError from None
+class Last(NamedTuple):
+    """What a last message says: its LSN, what is kept of which feed, and how many rows a base has; None where it isn't of one."""
+
+    end: int
+    about: dict[str, Any]
+    rows: int | None
+
+
+def read_last(data: bytes) -> Last:
+    """A ValueError says that it is none."""
+    told = object_of(parsed(data))
+    if missing := {"system", "database", "slot", "tables"} - told.keys():
+        raise Unreadable(f"there is no {min(missing)}")
+    about = {name: told[name] for name in ("system", "database", "slot", "tables")}
+    return Last(lsn_of(told.get("end")), about, None if told.get("rows") is None else whole_of(told["rows"]))
 
 
 def numbered(relations: list[Relation], rows: Any) -> Iterator[tuple[Relation, int, Cells]]:

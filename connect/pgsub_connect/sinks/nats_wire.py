@@ -16,19 +16,24 @@ from __future__ import annotations
 
 import dataclasses
 import json
-import socket
+import select
 import ssl
 import time
 import urllib.parse
 from typing import Any
 
+from .. import log
 from ..errors import EngineError, Passing, UsageError
+from ..jsontexts import Unreadable, object_of, parsed, whole_of
+from ..postgres import Check, never
+from ..texts import shortened
+from .connecting import BUSY, connected, encrypted, is_loopback, is_ready
 
 PORT = 4222
 # How long to wait for a connection, and until what is sent has left, in seconds.
 CONNECT, LONGEST = 10.0, 60.0
-# The longest line that is read, and how much is read at once.
-LINE, CHUNK = 1 << 20, 1 << 18
+# The longest line that is read, the largest message, and how much is read or sent at once.
+LINE, LARGEST, CHUNK = 1 << 20, 128 << 20, 1 << 18
 HEAD = b"NATS/1.0"
 END = b"\r\n"
 MESSAGES = (b"MSG", b"HMSG")
@@ -65,18 +70,18 @@ def op_of(line: bytes) -> bytes:
 
 
 class Wire:
-    """A connection. It isn't made again where it is lost."""
+    """A connection. It isn't made again where it is lost. `check` is called while it waits: what that raises leaves what is sent whole."""
 
-    def __init__(self, url: str) -> None:
+    def __init__(self, url: str, check: Check = never) -> None:
         try:
             parts = urllib.parse.urlsplit(url)
             self.host, self.port = parts.hostname or "localhost", parts.port or PORT
         except ValueError as error:
             raise UsageError(f"the URL of NATS: {error}") from None
-        self.where = f"NATS at {self.host}:{self.port}"
+        self.check, self.where = check, f"NATS at {self.host}:{self.port}"
         self.coming, self.going = bytearray(), bytearray()
         try:
-            self.socket: socket.socket = socket.create_connection((self.host, self.port), CONNECT)
+            self.socket = connected(self.host, self.port, CONNECT, check)
         except OSError as error:
             raise Passing(f"{self.where}: {error}") from None
         try:
@@ -91,10 +96,15 @@ class Wire:
             raise Passing(f"{self.where}: it says nothing for {CONNECT:.0f} seconds")
         if not line.upper().startswith(b"INFO "):
             raise self.wrong(line)
-        self.info = self.parsed(line[5:])
-        if parts.scheme == "tls" or self.info.get("tls_required"):
+        info = self.parsed(line[5:])
+        try:
+            self.most = whole_of(info.get("max_payload", 1 << 20), 1)
+        except Unreadable:
+            raise self.wrong(line) from None
+        if parts.scheme == "tls" or info.get("tls_required"):
             self.encrypt()
-        self.most = int(self.info.get("max_payload", 1 << 20))
+        elif parts.username is not None and not is_loopback(self.host):
+            log.warning(f"{self.where}: the password goes there in plain text: use tls://")
         user, password = (urllib.parse.unquote(it) if it is not None else None for it in (parts.username, parts.password))
         login = {} if user is None else {"auth_token": user} if password is None else {"user": user, "pass": password}
         about = {"verbose": False, "pedantic": False, "lang": "python3", "version": "1", "name": "pgsub-connect", "protocol": 1}
@@ -103,7 +113,7 @@ class Wire:
 
     def encrypt(self) -> None:
         try:
-            self.socket = ssl.create_default_context().wrap_socket(self.socket, server_hostname=self.host)
+            self.socket = encrypted(self.socket, self.host, CONNECT, self.check)
         except ssl.SSLCertVerificationError as error:
             raise EngineError(f"{self.where}: {error}") from None
         except OSError as error:
@@ -114,7 +124,7 @@ class Wire:
         self.put(b"PING\r\n")
         self.flush()
         end = time.monotonic() + seconds
-        while (line := self.line(max(0.0, end - time.monotonic()))) is not None:
+        while (line := self.next_line(end)) is not None:
             op = op_of(line)
             if op == b"PONG":
                 return
@@ -122,7 +132,7 @@ class Wire:
                 self.message(op, line)
             else:
                 self.answer(op, line)
-        raise Passing(f"{self.where}: it says nothing for {seconds:.0f} seconds")
+        raise Passing(f"{self.where}: it doesn't answer for {seconds:.0f} seconds")
 
     # ---- what goes
 
@@ -132,24 +142,28 @@ class Wire:
             self.flush()
 
     def flush(self) -> None:
-        going, self.going = self.going, bytearray()
-        if not going:
-            return
-        try:
-            self.socket.settimeout(LONGEST)
-            self.socket.sendall(going)
-        except OSError as error:
-            raise self.lost(str(error)) from None
+        end = time.monotonic() + LONGEST
+        while self.going:
+            try:
+                sent = self.socket.send(self.going[:CHUNK])
+            except BUSY as busy:
+                if not is_ready(self.socket, end, self.check, not isinstance(busy, ssl.SSLWantReadError)):
+                    raise self.lost(f"it takes nothing for {LONGEST:.0f} seconds") from None
+            except OSError as error:
+                raise self.lost(str(error)) from None
+            else:
+                del self.going[:sent]
+                end = time.monotonic() + LONGEST
 
     def lost(self, what: str) -> Passing | EngineError:
         """What a connection that is lost is for the sink: the server may have said why."""
-        return self.refused(what) or Passing(f"{self.where}: the connection is lost: {what}")
+        return self.refused() or Passing(f"{self.where}: the connection is lost: {what}")
 
-    def refused(self, _: str) -> EngineError | None:
+    def refused(self) -> EngineError | None:
         try:
-            self.socket.settimeout(0.2)
+            select.select([self.socket], [], [], 0.2)
             self.coming += self.socket.recv(CHUNK)
-        except OSError:
+        except (OSError, ValueError):
             pass
         at = self.coming.find(b"-ERR ")
         return self.error(bytes(self.coming[at:]).split(END)[0]) if at >= 0 else None
@@ -170,34 +184,41 @@ class Wire:
         """The next message that comes in this time. What the server asks is answered meanwhile."""
         self.flush()
         end = time.monotonic() + seconds
-        while (line := self.line(max(0.0, end - time.monotonic()))) is not None:
+        while (line := self.next_line(end)) is not None:
             if (op := op_of(line)) in MESSAGES:
                 return self.message(op, line)
             self.answer(op, line)
+            if time.monotonic() > end:
+                break
         return None
+
+    def next_line(self, end: float) -> bytes | None:
+        return self.line(max(0.0, end - time.monotonic()))
 
     def answer(self, op: bytes, line: bytes) -> None:
         if op == b"PING":
             self.put(b"PONG\r\n")
             self.flush()
         elif op == b"-ERR":
-            raise self.error(line) or Passing(f"{self.where}: {line[5:].decode(errors='replace')}")
+            raise self.error(line) or Passing(f"{self.where}: {said(line)}")
         elif op not in (b"INFO", b"+OK", b"PONG"):
             raise self.wrong(line)
 
     def error(self, line: bytes) -> EngineError | None:
         """An error that the server says, where another try would end in the same way."""
-        text = line[5:].decode(errors="replace").strip("'")
+        text = said(line)
         return EngineError(f"{self.where}: {text}") if text.lower().startswith(LASTING) else None
 
     def message(self, op: bytes, line: bytes) -> Message:
         try:
             _, subject, *more = line.decode().split()
             sizes = [int(it) for it in (more[-2:] if op == b"HMSG" else more[-1:])]
-            body = self.bytes(sizes[-1] + len(END))
+            at = sizes[0] if op == b"HMSG" else 0
+            if not 0 <= at <= sizes[-1] <= LARGEST:
+                raise ValueError
+            body = self.exactly(sizes[-1] + len(END))
             if body[-2:] != END:
                 raise ValueError
-            at = sizes[0] if op == b"HMSG" else 0
             status, headers = read_headers(body[:at]) if at else ("", {})
         except (ValueError, IndexError):
             raise self.wrong(line) from None
@@ -208,40 +229,40 @@ class Wire:
 
     def parsed(self, text: bytes) -> dict[str, Any]:
         try:
-            found = json.loads(text)
-        except ValueError:
-            found = None
-        if not isinstance(found, dict):
-            raise self.wrong(text)
-        return found
+            return object_of(parsed(text, LARGEST))
+        except Unreadable:
+            raise self.wrong(text) from None
 
     def line(self, seconds: float) -> bytes | None:
-        """The next line that comes in this time, without its end."""
+        """The next line that begins in this time, without its end."""
+        end = time.monotonic() + seconds
         while (at := self.coming.find(END)) < 0:
             if len(self.coming) > LINE:
-                raise self.wrong(bytes(self.coming))
-            if not self.read(seconds):
+                raise self.wrong(bytes(self.coming[:LINE]))
+            is_begun = bool(self.coming)
+            if not self.read(end):
                 return None
-            seconds = 0.0 if seconds == 0.0 else LONGEST
+            if seconds and not is_begun:
+                end = time.monotonic() + LONGEST
         line = bytes(self.coming[:at])
         del self.coming[: at + 2]
         return line
 
-    def bytes(self, size: int) -> bytes:
+    def exactly(self, size: int) -> bytes:
         while len(self.coming) < size:
-            if not self.read(LONGEST):
+            if not self.read(time.monotonic() + LONGEST):
                 raise Passing(f"{self.where}: the rest of a message doesn't come")
         found = bytes(self.coming[:size])
         del self.coming[:size]
         return found
 
-    def read(self, seconds: float) -> bool:
-        """Reads what comes in this time. Returns whether anything did."""
+    def read(self, end: float) -> bool:
+        """Reads what comes up to a moment. Returns whether anything did."""
+        self.check()
         try:
-            self.socket.settimeout(seconds)
-            piece = self.socket.recv(CHUNK)
-        except (TimeoutError, BlockingIOError, ssl.SSLWantReadError):
-            return False
+            while (piece := self.received()) is None:
+                if not is_ready(self.socket, end, self.check):
+                    return False
         except OSError as error:
             raise Passing(f"{self.where}: the connection is lost: {error}") from None
         if not piece:
@@ -249,5 +270,17 @@ class Wire:
         self.coming += piece
         return True
 
+    def received(self) -> bytes | None:
+        """What is there; None where nothing is."""
+        try:
+            return self.socket.recv(CHUNK)
+        except BUSY:
+            return None
+
     def close(self) -> None:
         self.socket.close()
+
+
+def said(line: bytes) -> str:
+    """The text of an error."""
+    return shortened(line[5:].decode(errors="replace").strip("'"))

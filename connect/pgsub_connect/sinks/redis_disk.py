@@ -8,7 +8,7 @@ from typing import Any
 
 from .. import log
 from ..errors import EngineError
-from .redis_calls import Calls, Said
+from .redis_calls import Calls, Said, understood
 from .trailing import Trail
 
 # How much later than it says a log is written, and how much may be wrong with its times, in seconds.
@@ -32,8 +32,10 @@ class Disk:
     def check(self) -> None:
         """Rejects a log that isn't synced: it is never known what of it the disk has."""
         info, syncs = self.calls.run([INFO, SYNCS])
-        if isinstance(info, Said) or fields(info).get("aof_enabled") != "1":
-            return
+        with understood(self.calls.where):
+            if isinstance(info, Said) or fields(info).get("aof_enabled") != "1":
+                return
+            unsynced(syncs)
         if isinstance(syncs, Said):
             log.warning(f"{self.calls.where}: it doesn't tell whether it syncs its log ({syncs}): that is taken for appendfsync everysec")
         if names := unsynced(syncs):
@@ -47,7 +49,8 @@ class Disk:
         now = time.time()
         if not 0 <= now - self.asked < OFTEN:
             self.asked = now
-            self.trail.pass_to(self.moment(now))
+            with understood(self.calls.where):
+                self.trail.pass_to(self.moment(now))
         return self.trail.upto
 
     def moment(self, now: float) -> float:

@@ -13,6 +13,7 @@ The first two are watched from one MULTI to the next. So where another sink has 
 
 from __future__ import annotations
 
+import contextlib
 import json
 import os
 import secrets
@@ -21,13 +22,15 @@ import time
 from collections.abc import Iterable, Iterator, Sequence
 from typing import Any, Optional, Protocol
 
-from ..errors import EngineError, Passing, Unfit
+from ..errors import EngineError, Passing, Stopped, Unfit
 from ..feed.parts import Cells, Change, Commit, Missed, TableLine
-from ..postgres import Check
-from ..texts import lsn_text, parse_lsn
+from ..interrupting import at_most
+from ..jsontexts import list_of, parsed, text_of
+from ..postgres import Check, never
+from ..texts import lsn_text, parse_lsn, shortened
 from .beginning import Base
 from .engine import Read, Wanted
-from .redis_calls import Calls, Command, Said, raised
+from .redis_calls import Calls, Command, Said, raised, understood
 from .relations import Holder, Kept, Relations
 from .redis_disk import Disk
 
@@ -99,33 +102,39 @@ class Redis:
     def open(self, wanted: Wanted) -> bool:
         self.relations = Relations(wanted.chosen, self.form.is_keyed_only, self.form)
         self.about: dict[str, Any] = {**wanted.source(), "tables": list(wanted.chosen), "as": self.form.name}
-        lsn, about = self.run([("MGET", LSN, FEED)])[0]
+        lsn, about = self.two(("MGET", LSN, FEED))
         if lsn is None:
             # (another one may begin just now, and goes on as long as there is nothing to begin with here)
             return False
         # (before this one takes over, since another one that is fine would end)
         self.check_about(about)
-        wanted.check_after(parse_lsn(lsn.decode()))
+        with understood(self.calls.where):
+            at = parse_lsn(lsn.decode())
+        wanted.check_after(at)
         self.take_over()
-        about, tables = self.run([("MGET", FEED, TABLES)])[0]
+        about, tables = self.two(("MGET", FEED, TABLES))
         if self.lsn is None:
             raise Passing(f"{self.calls.where}: {LSN} was removed just now")
         self.check_about(about)
         if tables is None:
             raise Unfit(f"{self.calls.where}: something else has removed {TABLES}: remove {LSN} and the rows to begin anew")
-        self.relations.load(tables.decode())
-        self.reach(parse_lsn(self.lsn.decode()))
+        with understood(self.calls.where):
+            self.relations.load(tables.decode())
+            at = parse_lsn(self.lsn.decode())
+        self.reach(at)
         return True
 
     def take_over(self) -> None:
         """From now on no other sink's MULTI has an effect."""
         self.run([("SET", SINK, self.owner)])
-        self.lsn = self.run([WATCH, ASK])[1][0]
+        self.lsn = self.both(self.run([WATCH, ASK])[1])[0]
 
     def check_about(self, about: bytes | None) -> None:
         """Rejects what is of another feed, or of other tables."""
-        if about is None or json.loads(about) != self.about:
-            was, now = (about or b"nothing").decode(), json.dumps(self.about)
+        with understood(self.calls.where):
+            is_same = about is not None and parsed(about) == self.about
+        if not is_same:
+            was, now = shortened((about or b"nothing").decode(errors="replace")), json.dumps(self.about)
             raise Unfit(f"{self.calls.where}: what is kept there is of {was}, and this would be of {now}: take another database")
 
     def reach(self, at: int) -> None:
@@ -140,6 +149,17 @@ class Redis:
         self.check_said(said)
         return said
 
+    def two(self, command: Command) -> tuple[Any, Any]:
+        """The two values that a command asks for, each bytes or None."""
+        return self.both(self.run([command])[0])
+
+    def both(self, found: Any) -> tuple[Any, Any]:
+        with understood(self.calls.where):
+            first, second = found
+            if not all(it is None or isinstance(it, bytes) for it in found):
+                raise TypeError("no bytes")
+        return first, second
+
     def check_said(self, said: Iterable[Any]) -> None:
         for it in said:
             if isinstance(it, Said):
@@ -153,25 +173,28 @@ class Redis:
                 self.form.prepare()
             *queued, done, _, found = self.calls.run([("MULTI",), *commands, ("EXEC",), WATCH, ASK])
             self.check_said([*queued, done, found])
-            self.check_owner(found)
+            lsn, owner = self.both(found)
+            self.check_owner(owner)
             if done is not None:
-                return self.check_done(done, found[0], after)
-            self.check_lsn(found[0], self.lsn)
+                return self.check_done(done, lsn, after)
+            self.check_lsn(lsn, self.lsn)
         raise Passing(f"{self.calls.where}: its streams are altered again and again meanwhile")
 
-    def check_owner(self, found: list[bytes | None]) -> None:
-        if found[1] is None:
+    def check_owner(self, found: bytes | None) -> None:
+        if found is None:
             raise Unfit(f"{self.calls.where}: something else has removed keys of the sink, {SINK} among them")
-        if found[1] != self.owner:
-            raise Unfit(f"{self.calls.where}: another sink has begun to write there, {found[1].decode(errors='replace')}, so this one ends")
+        if found != self.owner:
+            told = shortened(found.decode(errors="replace"))
+            raise Unfit(f"{self.calls.where}: another sink has begun to write there, {told}, so this one ends")
 
     def check_lsn(self, found: bytes | None, expected: bytes | None) -> None:
         if found != expected:
-            told, should = ((it or b"none").decode(errors="replace") for it in (found, expected))
+            told, should = (shortened((it or b"none").decode(errors="replace")) for it in (found, expected))
             raise Unfit(f"{self.calls.where}: {LSN} is {told} in place of {should}, so something else has written it: this sink ends")
 
     def check_done(self, done: list[Any], lsn: bytes | None, after: bytes | None) -> None:
-        wrong = [it for it in done if isinstance(it, Said) and not self.form.accepts(it)]
+        with understood(self.calls.where):
+            wrong = [it for it in done if isinstance(it, Said) and not self.form.accepts(it)]
         if wrong:
             # (the others had their effect, so nothing may go on from there)
             self.run([("DEL", LSN)])
@@ -184,10 +207,11 @@ class Redis:
     def begin(self, base: Base) -> None:
         form = self.form
         # (before this one takes over, since another one may have begun, and be fine)
-        self.check_lsn(self.run([ASK])[0][0], None)
+        self.check_lsn(self.two(ASK)[0], None)
         self.take_over()
         self.check_lsn(self.lsn, None)
-        self.left = json.loads(self.run([("MGET", LOADING)])[0][0] or b"[]")
+        with understood(self.calls.where):
+            self.left = [text_of(it) for it in list_of(parsed(self.run([("MGET", LOADING)])[0][0] or b"[]"))]
         self.transact([*form.removals(self.left), ("DEL", LOADING)], self.lsn)
         form.check_new()
         tables = [it for it in map(self.relations.describe, base.tables()) if it]
@@ -247,9 +271,18 @@ class Redis:
         now = time.monotonic()
         if now - self.looked > OFTEN:
             self.looked = now
-            found = self.run([ASK])[0]
-            self.check_owner(found)
-            self.check_lsn(found[0], self.lsn)
+            lsn, owner = self.two(ASK)
+            self.check_owner(owner)
+            self.check_lsn(lsn, self.lsn)
+
+    def finish(self, seconds: float) -> bool:
+        if self.calls.is_lost:
+            return False
+        self.calls.check = never
+        with contextlib.suppress(Stopped), at_most(seconds):
+            self.settle()
+            return True
+        return False
 
     def check_disk(self) -> None:
         self.disk.check()

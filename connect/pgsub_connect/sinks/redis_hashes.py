@@ -15,7 +15,7 @@ from ..errors import Unfit
 from ..feed.identifying import NULL, row_text
 from ..feed.parts import Cell, Cells, Change, Missed
 from ..postgres import Check
-from .redis_calls import Calls, Command, Said, raised
+from .redis_calls import Calls, Command, Said, raised, understood
 from .relations import Kept
 
 # How many keys one command has, and one step of a search looks at.
@@ -112,14 +112,13 @@ class Hashes:
             said = self.calls.run([("SCAN", cursor, "MATCH", pattern, "COUNT", LOOKED)])[0]
             if isinstance(said, Said):
                 raise raised(said, self.calls.where)
-            cursor, keys = said
-            for key in keys:
-                try:
-                    yield key.decode()
-                except UnicodeDecodeError:
-                    # (it is no key of a row)
-                    continue
-            if int(cursor) == 0:
+            with understood(self.calls.where):
+                cursor, keys = said
+                is_end = int(cursor) == 0
+                # (what isn't UTF-8 is no key of a row)
+                found = [text for it in keys if isinstance(text := text_of(it), str)]
+            yield from found
+            if is_end:
                 return
 
     # ---- tables
@@ -170,7 +169,8 @@ class Hashes:
         said = self.calls.run([("HGETALL", value.key)])[0]
         if isinstance(said, Said):
             raise raised(said, self.calls.where)
-        return {name.decode(): text_of(cell) for name, cell in zip(said[::2], said[1::2]) if name.decode() not in value.dropped}
+        with understood(self.calls.where):
+            return {name.decode(): text_of(cell) for name, cell in zip(said[::2], said[1::2]) if name.decode() not in value.dropped}
 
     # ---- commands
 

@@ -7,7 +7,7 @@ from collections.abc import Iterable, Iterator
 from ..errors import Unfit
 from ..feed.parts import Cells, Change, Missed
 from .entries import base_entry, entry
-from .redis_calls import Calls, Command, Said, raised
+from .redis_calls import Calls, Command, Said, raised, understood
 from .relations import Kept
 
 NONE = (0, 0)
@@ -60,9 +60,11 @@ class Streams:
             if str(said).startswith("WRONGTYPE"):
                 raise Unfit(f"{self.calls.where}: the key {stream} is there already, and isn't a stream: take another database")
             raise raised(said, self.calls.where)
-        assert isinstance(said, list)
-        milliseconds, _, number = dict(zip(said[::2], said[1::2]))[b"last-generated-id"].partition(b"-")
-        return int(milliseconds), int(number)
+        with understood(self.calls.where):
+            if not isinstance(said, list):
+                raise TypeError("no list")
+            milliseconds, _, number = dict(zip(said[::2], said[1::2]))[b"last-generated-id"].partition(b"-")
+            return int(milliseconds), int(number)
 
     def accepts(self, said: Said) -> bool:
         return False

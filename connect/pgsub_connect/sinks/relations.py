@@ -16,6 +16,7 @@ from ..errors import Unfit
 from ..feed.decoding import read_relation
 from ..feed.identifying import key_of, table_text
 from ..feed.rowsfile import relation_text
+from ..jsontexts import object_of, oid_of, parsed, text_of
 from ..naming import names_of
 from ..remembered import Relation
 
@@ -74,14 +75,14 @@ class Relations:
 
     def load(self, text: str) -> None:
         """Has what `text` returned."""
-        found: dict[str, Any] = json.loads(text) if text else {"kept": [], "left": []}
+        found: dict[str, Any] = object_of(parsed(text)) if text else {"kept": [], "left": []}
         self.saved = text
-        self.left: set[int] = set(found["left"])
+        self.left: set[int] = {oid_of(it) for it in found["left"]}
         self.kept = dict[int, Kept]()
         self.names = dict[str, int]()
         self.is_changed = False
         for name, definition in found["kept"]:
-            self.put(Kept(read_relation(definition), name))
+            self.put(Kept(read_relation(definition), text_of(name)))
 
     def text(self) -> str:
         kept = ",".join(f"[{json.dumps(it.name)},{relation_text(it.relation)}]" for it in self.kept.values())

@@ -17,6 +17,8 @@ from ..feed.parts import Commit
 from ..feed.polling import Poll
 from ..feed.reading import Reader, read_confirmed, segments
 from ..feed.tabling import plain_name
+from ..interrupting import at_most
+from ..owning import readable_by, readable_text
 from ..postgres import Check
 from ..texts import lsn_text
 from . import nats_engine, redis_calls, redis_hashes, redis_streams
@@ -38,19 +40,19 @@ The LSN is kept with what is written, so each commit takes effect once, and a la
 first commit, or with the rows of an export. Values are texts as in the feed.
 
 Redis: a hash's fields are the columns that aren't null, and `pgsub:lsn` has the LSN, of the same MULTI. Tables of schemas but `public` are
-called `schema.table`; in names and keys `%`, `:` and `.` are %25, %3A and %2E, and null is %null. A table's rows go with it to another name
-or shape, by the names of its columns. What lost its name to another table, as one that was dropped does, is `pgsub:old:OID` until it has
-one again. A sink that is started ends one that writes there. A commit is kept in memory.
+called `schema.table`; in these names `%`, `:` and `.` are %25, %3A and %2E, in the values of keys `%` and `:` are %25 and %3A, and null is
+%null. A table's rows go with it to another name or shape, by the names of its columns. What lost its name to another table, as one that was
+dropped does, is `pgsub:old:OID` until it has one again. A sink that is started ends one that writes there. A commit is kept in memory.
 
 A stream's entry has `op` (c, u, d, t; r of a row of the export, x of a change that found no row), `oid`, and the rows `before` and `after`
-as objects; a message has them too, and `lsn`, `n`, `schema` and `table`.
+as objects; a message has them too, and `end`, where its commit ends, `n`, `schema` and `table`.
 
 NATS: subjects are STREAM.schema.table, and STREAM.commit for the last message of each commit. A commit of which a part was published is
 completed. --table goes by the names that tables have just then. With --reader, an LSN counts after 150 seconds, once the server has synced
 it.
 """
-# How long commits wait for others that come to be written together, in seconds.
-LONGEST = 0.5
+# How long commits wait for others that come to be written together, and what was taken may take once the end was asked for, in seconds.
+LONGEST, GRACE = 0.5, 0.7
 SCHEMES = {"redis": "redis", "rediss": "redis", "unix": "redis", "nats": "nats", "tls": "nats"}
 
 
@@ -199,7 +201,7 @@ def engine_of(options: Options, check: Check) -> Engine:
         return nats_engine.connect(options.url, options.stream or nats_engine.STREAM, check)
     if options.stream:
         raise UsageError("--stream is for NATS")
-    calls = redis_calls.Connection(options.url)
+    calls = redis_calls.Connection(options.url, check)
     if options.form == "streams":
         return Redis(calls, redis_streams.Streams(calls), check)
     return Redis(calls, redis_hashes.Hashes(calls, check), check)
@@ -207,6 +209,20 @@ def engine_of(options: Options, check: Check) -> Engine:
 
 def keep(options: Options, engine: Engine, check: Check) -> None:
     """Keeps what a feed has. A signal ends it."""
+    try:
+        follow(options, engine, check)
+    except Stopped:
+        if is_to_end(options):
+            raise Passing("ended before all of it was written") from None
+        raise
+
+
+def is_to_end(options: Options) -> bool:
+    """Whether it ends by itself, once it has what was asked for."""
+    return options.once or isinstance(options.until, int)
+
+
+def follow(options: Options, engine: Engine, check: Check) -> None:
     wanted = wanted_of(options, check)
     if options.reader:
         # (first of all, since another sink that is fine is ended once this one has begun)
@@ -217,22 +233,28 @@ def keep(options: Options, engine: Engine, check: Check) -> None:
     sink = Sink(options, engine, check)
     if not options.once:
         log.info(f"{options.feed} is written from {lsn_text(engine.at)} on")
-    is_stopped = False
     try:
         sink.follow()
     except Stopped:
-        is_stopped = True
-        engine.settle()
+        with contextlib.closing(sink.reader):
+            if not engine.finish(GRACE):
+                # (the next run completes what may be there in part)
+                raise Passing("the engine doesn't answer, so it isn't known how much of the last commits is written") from None
+            with at_most(GRACE):
+                sink.note(is_last=True)
+        if is_to_end(options):
+            raise
+        return
     sink.finish()
-    if is_stopped and (options.once or isinstance(options.until, int)):
-        raise Passing("ended before all of it was written")
 
 
 def run(options: Options, check: Check) -> int:
     """Follows a feed; the exit status."""
     if options.url_file:
         with open(options.url_file, encoding="utf-8") as file:
-            options.url = file.readline().strip()
+            options.url, readable = file.readline().strip(), readable_by(file.fileno())
+        if readable and "@" in options.url:
+            log.warning(readable_text(options.url_file, readable))
         if not scheme(options.url):
             raise UsageError(f"{options.url_file}: its first line is no URL as redis://.. or nats://..")
     elif "@" in options.url:

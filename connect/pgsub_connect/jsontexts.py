@@ -1,0 +1,142 @@
+"""JSON that others may have written: files beside a store, and what a peer says.
+
+Whatever it is, what comes of it is a value of the kind that was asked for, or an `Unreadable`.
+"""
+
+from __future__ import annotations
+
+import json
+import math
+import os
+import stat
+from typing import Any, NoReturn
+
+from .texts import parse_lsn
+
+# How deep objects and lists may lie in each other, and how many bytes a text may have; one of what
+# is remembered of all tables grows with these.
+DEEPEST, LONGEST, LARGEST = 50, 16 << 20, 1 << 30
+# The greatest LSN, time or OID's count.
+GREATEST = (1 << 64) - 1
+
+
+class Unreadable(ValueError):
+    """It isn't what was asked for."""
+
+
+def parsed(text: str | bytes, longest: int = LONGEST) -> Any:
+    """What a text of JSON says; without NaN and infinities, which no standard has."""
+    if len(text) > longest:
+        raise Unreadable(f"longer than {longest} bytes")
+    try:
+        found = json.loads(text, parse_constant=refuse, parse_float=finite)
+    except (ValueError, RecursionError) as error:
+        raise Unreadable(str(error)) from None
+    level = outer_of([found])
+    for _ in range(DEEPEST):
+        level = [it for outer in level for it in outer_of(outer)]
+    if level:
+        raise Unreadable(f"deeper than {DEEPEST}")
+    return found
+
+
+def refuse(text: str) -> NoReturn:
+    raise Unreadable(f"{text} isn't JSON")
+
+
+def finite(text: str) -> float:
+    number = float(text)
+    if not math.isfinite(number):
+        refuse(text)
+    return number
+
+
+def outer_of(value: dict[str, Any] | list[Any]) -> list[Any]:
+    """What lies in a value and has something in it itself."""
+    within = value.values() if isinstance(value, dict) else value
+    return [it for it in within if isinstance(it, (dict, list))]
+
+
+def object_of(value: Any) -> dict[str, Any]:
+    if not isinstance(value, dict):
+        raise Unreadable("no object")
+    return value
+
+
+def list_of(value: Any) -> list[Any]:
+    if not isinstance(value, list):
+        raise Unreadable("no list")
+    return value
+
+
+def text_of(value: Any) -> str:
+    if not isinstance(value, str):
+        raise Unreadable("no text")
+    return value
+
+
+def whole_of(value: Any, least: int = 0, most: int = GREATEST) -> int:
+    """A whole number. (A bool is none, nor is 1.0.)"""
+    if type(value) is not int or not least <= value <= most:
+        raise Unreadable(f"no whole number from {least} to {most}")
+    return value
+
+
+def number_of(value: Any) -> float:
+    if type(value) not in (int, float) or abs(value) > GREATEST:
+        raise Unreadable("no number")
+    return float(value)
+
+
+def flag_of(value: Any) -> bool:
+    if not isinstance(value, bool):
+        raise Unreadable("neither true nor false")
+    return value
+
+
+def oid_of(value: Any) -> int:
+    """An OID, as a number or as the name of an object's field."""
+    if isinstance(value, str) and value.isascii() and value.isdecimal() and len(value) <= 10:
+        value = int(value)
+    return whole_of(value, 0, (1 << 32) - 1)
+
+
+def lsn_of(value: Any) -> int:
+    """An LSN, of its text."""
+    try:
+        return parse_lsn(text_of(value))
+    except ValueError as error:
+        raise Unreadable(str(error)) from None
+
+
+def open_plain(path: str, follows: bool = True) -> int:
+    """Opens a file for reading, where it is one: nothing is waited for, as a pipe would be.
+
+    `follows`: it may be named by a link.
+    """
+    flags = os.O_RDONLY | os.O_NONBLOCK | os.O_NOCTTY | os.O_CLOEXEC
+    file = os.open(path, flags if follows else flags | os.O_NOFOLLOW)
+    if stat.S_ISREG(os.fstat(file).st_mode):
+        return file
+    os.close(file)
+    raise Unreadable("not a file")
+
+
+def read_whole(file: int, longest: int = LONGEST) -> bytes:
+    """All of an open file, where it isn't longer."""
+    parts, left = list[bytes](), longest + 1
+    while left > 0 and (part := os.read(file, min(left, 1 << 20))):
+        parts.append(part)
+        left -= len(part)
+    if left <= 0:
+        raise Unreadable(f"longer than {longest} bytes")
+    return b"".join(parts)
+
+
+def read_plain(path: str, longest: int = LONGEST, follows: bool = True) -> bytes:
+    """All of a file."""
+    file = open_plain(path, follows)
+    try:
+        return read_whole(file, longest)
+    finally:
+        os.close(file)

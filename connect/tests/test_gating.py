@@ -1,0 +1,465 @@
+"""A follower for which commits wait: the stream goes on while a slot is made."""
+
+from __future__ import annotations
+
+import contextlib
+import fcntl
+import json
+import os
+import time
+import unittest
+from collections.abc import Iterator
+from unittest import mock
+
+from pgsub_connect import addable, adding, following, gating, verifying
+from pgsub_connect.errors import Delayed, Passing, ServerError, Stopped, Unrepaired
+from pgsub_connect.filtering import flushed
+from pgsub_connect.gating import Gating, Making, is_shared, too_large_to_copy
+from pgsub_connect.holding import Hold
+from pgsub_connect.meeting import Request
+from pgsub_connect.options import Options
+from pgsub_connect.postgres import never
+from pgsub_connect.progress import Progress
+from pgsub_connect.resting import read_request
+from pgsub_connect.snapshots import Snapshots
+from pgsub_connect.texts import lsn_text
+
+from .adding_case import OTHER, Run, T
+from .adding_case import Case as AddingCase
+from .fake_server import FakeServer, Quiet, Row
+from .small_world import WorldSource, insert, table, wait_for
+from .stores import StoreCase
+from .test_repairing import Repairs as RepairsCase
+from .vectors import begin, commit, keepalive, logged
+from .vectors import insert as change
+
+
+class Gates(unittest.TestCase):
+    """What passes while the point isn't known."""
+
+    def test_up_to_the_gate(self) -> None:
+        hold, payloads = Hold(), [begin(0x100, 7), change(1), commit(0x100, 0x108)]
+        payloads += [begin(0x200, 8), change(1), commit(0x200, 0x208)]
+        hold.begin("copy", 10.0, maker=4711)
+        self.assertEqual((hold.is_gated(), hold.stops(), hold.limit()), (True, True, None))
+        hold.open_to(0x180)
+        self.assertEqual((hold.stops(), hold.is_there, hold.is_due()), (False, False, False))
+        self.assertEqual(hold.passing(payloads, False), payloads[:3])
+        self.assertEqual((hold.stops(), hold.is_there, hold.is_due()), (True, False, False))
+        hold.open_to(0x280)
+        self.assertFalse(hold.stops())
+        self.assertEqual(hold.passing(hold.take_kept(), False), payloads[3:])
+        hold.passing([begin(0x300, 9)], False)
+        hold.go(0x2f0)
+        self.assertEqual((hold.is_gated(), hold.stops()), (False, False))
+        self.assertEqual(hold.passing(hold.take_kept(), False), [])
+        self.assertEqual((hold.stops(), hold.is_due()), (True, True))
+
+    def test_a_commit_that_begins_at_the_gate_is_kept(self) -> None:
+        hold = Hold()
+        hold.begin("copy", 10.0, maker=4711)
+        hold.open_to(0x200)
+        self.assertEqual(hold.passing([begin(0x200, 7)], False), [])
+        self.assertEqual(hold.passing([keepalive(0x200)], False), [])
+
+    def test_a_session_that_ends_is_held_again(self) -> None:
+        hold = Hold()
+        hold.begin("copy", 10.0, maker=4711)
+        hold.open_to(0x200)
+        hold.passing([begin(0x300, 7)], False)
+        hold.end_session()
+        self.assertEqual((hold.kept, hold.stops()), ([], False))
+        hold.end()
+        self.assertEqual((hold.is_gated(), hold.stops(), hold.limit()), (False, False, None))
+
+
+class Looks(Quiet):
+    def setUp(self) -> None:
+        super().setUp()
+        self.server = FakeServer()
+        self.ends: list[Row | ServerError] = []
+        self.server.answer("pg_locks", self.answer)
+        patch = mock.patch.object(gating, "Connection", self.server.connect)
+        patch.start()
+        self.addCleanup(patch.stop)
+        self.now = [100.0]
+        patch = mock.patch.object(gating, "time", mock.Mock(monotonic=lambda: self.now[0]))
+        patch.start()
+        self.addCleanup(patch.stop)
+        self.hold, self.progress, self.gone = Hold(), Progress(), list[str]()
+        self.gating = Gating(Options(), self.progress, self.hold, never, self.gone.append)
+        self.progress.is_waited_for = True
+        self.addCleanup(self.gating.end_session)
+
+    def answer(self, _: str) -> list[Row]:
+        it = self.ends.pop(0)
+        if isinstance(it, ServerError):
+            raise it
+        return [it]
+
+    def gates(self, *ends: Row | ServerError) -> list[int | None]:
+        """The gate after each look."""
+        self.ends = list(ends)
+        found = []
+        for _ in ends:
+            self.now[0] += 1.0
+            self.gating.since = None
+            self.gating.step()
+            found.append(self.hold.gate)
+        return found
+
+    def test_it_moves_to_the_end_before_the_last_look(self) -> None:
+        """What is in the log between two looks may be behind the point."""
+        self.hold.begin("copy", 10.0, maker=4711)
+        found = self.gates(
+            ["0/100", "t"], ["0/200", "t"], ["0/300", "f"], ["0/400", "t"], ["0/400", "t"]
+        )
+        self.assertEqual(found, [None, 0x100, 0x100, 0x300, 0x400])
+        self.assertIn("l.pid = 4711", self.server.told("pg_locks")[0])
+        self.hold.go(0x500)
+        self.gating.step()
+        self.assertEqual(self.server.open, [])
+
+    def test_a_server_that_cant_be_asked(self) -> None:
+        self.hold.begin("copy", 10.0, maker=4711)
+        found = self.gates(["0/100", "t"], ServerError("lost"), ["0/300", "t"], ["0/400", "t"])
+        self.assertEqual(found, [None, None, None, 0x300])
+
+    def test_it_isnt_asked_where_nothing_waits(self) -> None:
+        self.hold.begin("copy", 10.0)
+        self.gating.step()
+        self.assertEqual(self.server.commands, [])
+
+    def test_commits_dont_wait_for_long(self) -> None:
+        self.hold.begin("copy", 10.0)
+        for seconds, gone in ((0.0, 0), (1.4, 0), (0.2, 1)):
+            self.now[0] += seconds
+            self.gating.step()
+            self.assertEqual(len(self.gone), gone)
+        self.assertIn("take the follower out of synchronous_standby_names", self.gone[0])
+
+    def test_changes_that_are_on_their_way(self) -> None:
+        """They end the hold themselves."""
+        self.hold.begin("copy", 10.0, keeps=True)
+        self.hold.is_sent = True
+        for _ in range(5):
+            self.now[0] += 1.0
+            self.gating.step()
+        self.assertEqual(self.gone, [])
+
+    def test_where_none_waits_it_is_held(self) -> None:
+        self.progress.is_waited_for = False
+        self.hold.begin("copy", 10.0)
+        for _ in range(5):
+            self.now[0] += 1.0
+            self.gating.step()
+        self.assertEqual(self.gone, [])
+
+
+class Made(unittest.TestCase):
+    def test_a_slot(self) -> None:
+        making = Making(mock.Mock(make_slot=lambda seconds, check: (0x200, f"{seconds}")), 1.0)
+        making.start()
+        making.join(10)
+        self.assertEqual(making.result(), (0x200, "1.0"))
+
+    def test_an_error(self) -> None:
+        making = Making(mock.Mock(make_slot=mock.Mock(side_effect=ServerError("no", "53400"))), 1.0)
+        making.start()
+        making.join(10)
+        self.assertRaises(ServerError, making.result)
+
+    def test_it_is_given_up(self) -> None:
+        def make_slot(seconds: float, check: object) -> None:
+            while True:
+                check()  # type: ignore[operator]
+                time.sleep(0.001)
+
+        making = Making(mock.Mock(make_slot=make_slot), 1.0)
+        making.start()
+        making.give_up()
+        self.assertFalse(making.is_alive())
+        self.assertRaises(Stopped, making.result)
+
+
+class Requests(StoreCase):
+    """What becomes of a request while commits wait."""
+
+    def setUp(self) -> None:
+        super().setUp()
+        self.request, self.copy = self.path + ".request", self.folder + "/copy"
+        self.snapshots = Snapshots(self.path, None, 0.0)
+        self.snapshots.delays_commits = lambda standbys: True
+        for name in ("LOOK", "SOON"):
+            self.patch(f"pgsub_connect.snapshots.{name}", 0.0)
+
+    @contextlib.contextmanager
+    def asked(self, **more: object) -> Iterator[None]:
+        with open(self.request, "w", encoding="utf-8") as file:
+            fcntl.flock(file, fcntl.LOCK_EX)
+            json.dump({"into": self.copy, "hold": 10.0, **more}, file)
+            file.flush()
+            yield
+
+    def error(self) -> str:
+        """What whoever asks was told."""
+        return str(read_request(self.request)["error"])
+
+    def test_the_process_that_makes_the_slot(self) -> None:
+        with self.asked(maker=4711):
+            self.snapshots.is_due(0x130)
+            hold = self.snapshots.hold
+            self.assertEqual((hold.maker, hold.is_gated()), (4711, True))
+
+    def test_none_where_no_commit_waits(self) -> None:
+        self.snapshots.delays_commits = lambda standbys: standbys == "pgsub"
+        with self.asked(maker=4711):
+            self.snapshots.is_due(0x130)
+            hold = self.snapshots.hold
+            self.assertEqual((hold.maker, hold.is_gated()), (0, False))
+
+    def test_what_whoever_asks_has_read(self) -> None:
+        """It may be newer than what the follower knows."""
+        progress = Progress()
+        progress.name = "pgsub"
+        self.snapshots.delays_commits = progress.note_standbys
+        with self.asked(maker=4711, standbys="ANY 1 (other, pgsub)"):
+            self.snapshots.is_due(0x130)
+            self.assertEqual((self.snapshots.hold.maker, progress.is_waited_for), (4711, True))
+
+    def test_who_asks_is_of_an_older_version(self) -> None:
+        cases: tuple[dict[str, object], ...] = ({}, {"maker": "x"}, {"maker": 0})
+        for more in cases:
+            with self.asked(**more):
+                self.snapshots.is_due(0x130)
+                self.assertIn("of an older version", read_request(self.request)["error"])
+                self.assertFalse(self.snapshots.hold.is_held)
+
+    def test_a_store_that_takes_long_to_copy(self) -> None:
+        self.patch("pgsub_connect.gating.COPIED", 1)
+        self.patch("pgsub_connect.gating.is_shared", lambda _: False)
+        with self.asked(maker=4711):
+            self.snapshots.is_due(0x130)
+            self.assertIn("take the follower out of synchronous_standby_names", self.error())
+            self.assertFalse(self.snapshots.hold.is_held)
+
+    def test_a_file_system_that_shares_blocks(self) -> None:
+        self.patch("pgsub_connect.gating.COPIED", 1)
+        self.patch("pgsub_connect.gating.is_shared", lambda _: True)
+        self.assertEqual(too_large_to_copy(self.path), "")
+        self.assertIsInstance(is_shared(self.path), bool)
+        self.assertFalse(is_shared("/proc/self/stat"))
+
+    def test_changes_come_too_late(self) -> None:
+        """The stream was let go while whoever asks wrote that they are there."""
+        with open(self.copy, "wb"), self.asked(repair=True, held="", copied="", tables=[1]):
+            self.snapshots.is_due(0x130)
+            self.assertEqual(self.error(), "the stream went on before the changes came")
+
+    def test_a_point_that_was_passed(self) -> None:
+        with self.asked(maker=4711):
+            self.snapshots.is_due(0x130)
+            self.snapshots.hold.open_to(0x200)
+            with open(self.request, "w", encoding="utf-8") as file:
+                json.dump({"into": self.copy, "held": "0/130", "point": "0/200"}, file)
+            self.snapshots.is_due(0x130)
+            self.assertIn("its slot is at 0/200, and the stream at 0/200", self.error())
+            self.assertFalse(self.snapshots.hold.is_held)
+
+
+class Synchronous(AddingCase):
+    """Tables are added while commits wait."""
+
+    def setUp(self) -> None:
+        super().setUp()
+        self.waits = True
+        self.brain.answer("synchronous_standby_names", [["*"]])
+        self.brain.answer("pg_locks", lambda _: [[lsn_text(self.world.end), self.waiting()]])
+        self.followed()
+
+    def waiting(self) -> str:
+        return "t" if self.waits else "f"
+
+    def is_confirmed(self, end: int) -> bool:
+        return any(flushed(it) >= end for _, it in list(self.server.statuses))
+
+    def commits(self) -> bool:
+        """Commits, and waits until that is confirmed."""
+        self.change()
+        end = self.world.commits[-1][0]
+        return wait_for(lambda: self.is_confirmed(end), 10.0)
+
+    def test_commits_are_confirmed_while_the_slot_is_made(self) -> None:
+        confirmed: list[bool] = []
+
+        def hook(name: str) -> None:
+            if name == "make_slot":
+                confirmed.extend(self.commits() for _ in range(5))
+                # (its record is written now)
+                self.waits = False
+
+        WorldSource.hook = staticmethod(hook)
+        self.spoil()
+        self.want(T)
+        self.goes_on()
+        self.assertEqual(confirmed, [True] * 5)
+
+    def test_what_is_committed_behind_the_look_is_kept(self) -> None:
+        """Where the slot doesn't wait any more nothing passes: it may be behind the point."""
+        confirmed: list[bool] = []
+
+        def hook(name: str) -> None:
+            if name == "make_slot":
+                confirmed.append(self.commits())
+                self.waits = False
+                time.sleep(0.1)
+                self.world.commit(insert(OTHER, (7777, "late")))
+                time.sleep(0.1)
+                confirmed.append(self.is_confirmed(self.world.commits[-1][0]))
+
+        WorldSource.hook = staticmethod(hook)
+        self.spoil()
+        self.want(T)
+        self.goes_on()
+        self.assertEqual(confirmed, [True, False])
+
+    def test_commits_wait_for_too_long(self) -> None:
+        """As where the slot waits for no transaction and isn't made: it is tried again later."""
+        self.patch(gating, "MOST", 0.2)
+        tries: list[int] = []
+
+        def hook(name: str) -> None:
+            if name == "make_slot":
+                tries.append(1)
+                self.waits = False
+                if len(tries) == 1:
+                    self.change()
+                    wait_for(lambda: any("have waited for" in it for it in self.said), 10.0)
+
+        WorldSource.hook = staticmethod(hook)
+        self.spoil()
+        self.want(T)
+        self.goes_on()
+        self.assertEqual(len(tries), 2)
+        told = [it for it in self.said if "commits at the server have waited" in it]
+        self.assertTrue(any("it is added later" in it for it in told), self.said)
+
+    def test_rows_that_take_too_long(self) -> None:
+        """The table is refused, and another session begins at once."""
+        self.patch(adding, "LONGEST_WAIT", 0.0)
+        self.patch(following, "FIRST_DELAY", 60.0)
+        self.want(T)
+
+        def hook(name: str) -> None:
+            if name == "make_slot":
+                self.waits = False
+
+        WorldSource.hook = staticmethod(hook)
+        run = Run(self)
+        wanted = run.remembered.wanted
+        self.assertTrue(run.until(lambda: bool(wanted.get(T))), (self.said, run.raised))
+        self.assertIn("commits at the server have waited", run.remembered.wanted[T])
+        self.world.commit(insert(OTHER, (7778, "behind")))
+        self.assertTrue(run.until(lambda: self.is_stored(run)), (self.said, run.raised))
+        run.end()
+
+    def test_a_large_table_is_rejected_before_anything_is_held(self) -> None:
+        self.patch(addable, "TABLE", 10)
+        run = Run(self)
+        self.assertTrue(run.until(lambda: run.progress.state == "following"))
+        answer = run.ask(add=[T])
+        text = "commits at the server would wait for the follower as long as these are copied: take"
+        self.assertIn(text, answer or "")
+        self.assertEqual(run.remembered.wanted, {})
+        run.end()
+
+    def test_a_large_table_that_is_to_come_waits(self) -> None:
+        """Until no commit waits any more."""
+        self.patch(addable, "TABLE", 10)
+        self.spoil()
+        self.want(T)
+        told: list[bool] = []
+
+        def hook(name: str) -> None:
+            if any("it is added later" in it for it in self.said) and not told:
+                told.append(True)
+                self.patch(addable, "TABLE", 1 << 20)
+            if name == "make_slot":
+                self.waits = False
+
+        WorldSource.hook = staticmethod(hook)
+        self.goes_on()
+        self.assertEqual(told, [True])
+
+
+class Tries(unittest.TestCase):
+    """A repair for which commits have to wait is tried some times."""
+
+    def tries(self, *results: object) -> tuple[object, int]:
+        tried = mock.Mock(side_effect=results)
+        quick = mock.patch.object(verifying, "PAUSE", 0.0)
+        with mock.patch.object(verifying, "repair_once", tried), quick, logged():
+            try:
+                return verifying.repair(Options(), verifying.Compared(), never), tried.call_count
+            except Passing as error:
+                return error, tried.call_count
+
+    def test_how_often(self) -> None:
+        waited, other = Delayed("waited"), Passing("other")
+        self.assertEqual(self.tries([]), ([], 1))
+        self.assertEqual(self.tries(waited, []), ([], 2))
+        self.assertEqual(self.tries(waited, waited, waited), (waited, 3))
+        self.assertEqual(self.tries(other), (other, 1))
+
+
+class Sizes(unittest.TestCase):
+    """What would be compared while commits wait."""
+
+    def check(self, standbys: str, size: int, dsn: str = "dbname=shop") -> None:
+        server = FakeServer()
+        server.answer("size", [["16385", str(size)]])
+        source = mock.Mock(plain=server.connect(""), standbys=lambda: standbys)
+        verifying.check_sizes(Options(dsn=dsn), source, [table(T, "t")])
+
+    def test_small_ones(self) -> None:
+        self.check("pgsub", 1000)
+
+    def test_large_ones(self) -> None:
+        for standbys, dsn in (("pgsub", "dbname=shop"), ("mine", "application_name=mine")):
+            with self.assertRaisesRegex(Unrepaired, "public.t: 99999999 bytes would be compared"):
+                self.check(standbys, 99999999, dsn)
+
+    def test_where_no_commit_waits(self) -> None:
+        for standbys, dsn in (("", ""), ("other", ""), ("pgsub", "application_name=mine")):
+            self.check(standbys, 99999999, dsn)
+
+
+class Repairs(RepairsCase):
+    """Rows are repaired while commits wait."""
+
+    def setUp(self) -> None:
+        super().setUp()
+        self.brain.answer("synchronous_standby_names", [["*"]])
+        self.brain.answer("pg_locks", lambda _: [[lsn_text(self.world.end), "t"]])
+
+    def test_it_is_given_up_where_commits_wait_for_too_long(self) -> None:
+        self.patch(gating, "MOST", 0.3)
+        run = self.running()
+        with contextlib.closing(Request(self.store, 5.0, never, repairs=True)) as request:
+            request.hold(4711)
+            point, _ = self.world.slot()
+            request.tell(point)
+            request.copied()
+            time.sleep(0.5)
+            found = wait_for(lambda: "error" in read_request(self.store + ".request"), 10.0)
+            self.assertTrue(found)
+            self.assertIn("have waited", read_request(self.store + ".request")["error"])
+            with self.assertRaisesRegex(Delayed, "have waited"):
+                request.pass_on([T])
+        self.change()
+        self.assertTrue(run.until(lambda: self.is_stored(run)))
+        run.end()
+        self.assertTrue(os.path.exists(self.store))
+
+
+del AddingCase, RepairsCase

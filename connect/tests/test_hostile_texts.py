@@ -1,0 +1,250 @@
+"""Whatever a file says that others may have written: an error tells so, or it isn't heard."""
+
+from __future__ import annotations
+
+import contextlib
+import json
+import os
+import time
+from collections.abc import Callable
+from typing import Any
+from unittest import mock
+
+from pgsub_connect import jsontexts, snapshots
+from pgsub_connect.checkpoint import Checkpoint
+from pgsub_connect.cli import BUG, FILE, main
+from pgsub_connect.dropping import made_publications, read_remembered
+from pgsub_connect.errors import FileError
+from pgsub_connect.jsontexts import Unreadable, parsed
+from pgsub_connect.postgres import never
+from pgsub_connect.remembered import Remembered
+from pgsub_connect.resting import read_request
+from pgsub_connect.snapshots import Snapshots
+
+from .fake_server import Quiet
+from .hostile import TEXTS, altered
+from .stores import StoreCase
+from .vectors import logged
+
+
+class Parsed(Quiet):
+    def test_texts(self) -> None:
+        for text in TEXTS[:3] + TEXTS[7:10] + TEXTS[11:16] + TEXTS[17:]:
+            self.assertRaises(Unreadable, parsed, text)
+        self.assertEqual(parsed(b'{"a":[1,2.5,"x",null,true]}'), {"a": [1, 2.5, "x", None, True]})
+        self.assertEqual(parsed("[" * 50 + "]" * 50), json.loads("[" * 50 + "]" * 50))
+        self.assertRaises(Unreadable, parsed, "[" * 51 + "]" * 51)
+
+    def test_kinds(self) -> None:
+        kinds: tuple[tuple[Callable[[Any], object], list[Any], list[Any]], ...] = (
+            (jsontexts.object_of, [{}], [[], "x", 5, None]),
+            (jsontexts.list_of, [[]], [{}, "x", None]),
+            (jsontexts.text_of, ["x"], [5, None]),
+            (jsontexts.whole_of, [0, (1 << 64) - 1], [-1, 1 << 64, True, 1.0, "1", None]),
+            (jsontexts.number_of, [0, -1.5], [True, "1", None, 10**400]),
+            (jsontexts.flag_of, [True], [1, 0, None, "true"]),
+            (
+                jsontexts.oid_of,
+                [5, "5", (1 << 32) - 1],
+                [1 << 32, "x", "-5", "\u0665", "99999999999", 1.5],
+            ),
+            (jsontexts.lsn_of, ["0/1"], [5, "1", "0/x", None]),
+        )
+        for call, right, wrong in kinds:
+            for it in right:
+                call(it)
+            for it in wrong:
+                with self.assertRaises(Unreadable, msg=f"{call} {it!r}"):
+                    call(it)
+
+    def test_what_is_no_file(self) -> None:
+        folder = self.make_folder()
+        os.mkfifo(folder + "/pipe")
+        os.symlink("pipe", folder + "/link")
+        for name, follows in (("pipe", True), ("link", True), ("", True)):
+            self.assertRaises(Unreadable, jsontexts.read_plain, f"{folder}/{name}", 10, follows)
+        with open(folder + "/file", "w") as file:
+            file.write("x" * 11)
+        self.assertRaises(Unreadable, jsontexts.read_plain, folder + "/file", 10)
+        self.assertEqual(jsontexts.read_plain(folder + "/file", 11), b"x" * 11)
+        os.symlink("file", folder + "/other")
+        self.assertRaises(OSError, jsontexts.read_plain, folder + "/other", 20, False)
+
+
+class Files(StoreCase):
+    """Those beside a store."""
+
+    TABLES: Any = {
+        "format": 1,
+        "made": {"pgsub": 5},
+        "feed": "",
+        "followed": ["pgsub"],
+        "lsn": "0/100",
+        "highest": 20000,
+        "publications": {
+            "pgsub": {
+                "oid": 5,
+                "whole": False,
+                "actions": ["insert"],
+                "via_root": False,
+                "generated": False,
+                "owner": 10,
+                "since": "7",
+            }
+        },
+        "tables": [
+            {
+                "oid": 16384,
+                "schema": "public",
+                "name": "t",
+                "kind": "r",
+                "identity": "d",
+                "columns": [["id", 23, -1, True, 1]],
+                "parts": {"pgsub": [None, [1], False]},
+                "since": {"pgsub": ["7"]},
+                "node": 16384,
+                "altered": "7",
+            }
+        ],
+        "partitions": [[16385, 16384, "public.p", True, 16385]],
+        "attached": {"16385": "7"},
+        "types": {"23": {"name": "int4"}},
+        "sent": {"16384": ["0/100", ["d", [["id", 23, -1, True, 0]]]]},
+        "names": [["public", "t", 16384, "0/100", [5]]],
+        "found": {"values": ["0/100", {"a text": {"tables": [16384], "type_oid": 23}}, 0]},
+        "mended": {"a text": [16384]},
+        "copied": {"16384": 256},
+        "wanted": {"16384": "why"},
+        "unwanted": [5],
+        "partial": [6],
+        "left": [7],
+        "told": {"a text": "0/100"},
+    }
+
+    def put(self, suffix: str, content: bytes) -> str:
+        path = self.path + suffix
+        with contextlib.suppress(FileNotFoundError):
+            os.unlink(path)
+        with open(path, "wb") as file:
+            file.write(content)
+        return path
+
+    def test_what_is_remembered(self) -> None:
+        self.put(".tables", json.dumps(self.TABLES).encode())
+        self.assertEqual(Remembered(self.path).text_of(16384), "public.t (16384)")
+        for text in TEXTS:
+            self.put(".tables", text)
+            with self.assertRaises(FileError, msg=repr(text[:50])):
+                Remembered(self.path)
+        count = 0
+        for said in altered(self.TABLES):
+            path = self.put(".tables", said.encode())
+            count += 1
+            with contextlib.suppress(FileError):
+                remembered = Remembered(self.path)
+                # (what is taken is right: it can be looked through and written)
+                remembered.lines(), remembered.found_of(16384), remembered.text_of(16384)
+                remembered.save()
+            made_publications(read_remembered(path))
+        self.assertGreater(count, 1000)
+
+    def test_what_is_remembered_is_a_pipe(self) -> None:
+        os.mkfifo(self.path + ".tables")
+        self.assertRaises(FileError, Remembered, self.path)
+        self.assertEqual(read_remembered(self.path + ".tables"), {})
+
+    def test_a_checkpoint(self) -> None:
+        for text in TEXTS:
+            self.put(".connector", text)
+            if not text.strip(b"\0 \n") or text == b"{}":
+                os.close(Checkpoint(self.path).file)
+                continue
+            with self.assertRaises(FileError, msg=repr(text[:50])):
+                Checkpoint(self.path)
+
+    def test_a_request(self) -> None:
+        """The follower goes on whatever it says, and makes only new files beside the store."""
+        self.enterContext(mock.patch.object(snapshots, "LOOK", 0.0))
+        right = {
+            "into": self.folder + "/new.db",
+            "hold": 5.0,
+            "repair": True,
+            "point": "0/200",
+            "tables": [5],
+            "error": "x",
+            "held": "",
+            "copied": "",
+        }
+        adds = {"into": self.folder + "/new.db", "add": [5], "remove": [6]}
+        for text in (*TEXTS, *(it.encode() for said in (right, adds) for it in altered(said))):
+            self.put(".request", text)
+            read_request(self.path + ".request")
+            follower = Snapshots(self.path, None, 0.0)
+            follower.adds = lambda asked: "none is added"
+            with logged():
+                for is_held in (False, True):
+                    if is_held:
+                        follower.hold.begin(self.folder + "/new.db", 5.0, True)
+                        follower.looked = 0.0
+                    follower.is_due(0x130)
+                    follower.reject("/x", "why", True)
+                if follower.wanted:
+                    follower.take(0x130, never)
+                    follower.wait()
+            with contextlib.suppress(FileNotFoundError):
+                os.unlink(self.folder + "/new.db")
+            self.assertLessEqual(
+                {*os.listdir(self.folder)}, {"copy.db", "copy.db.request"}, text[:100]
+            )
+
+    def test_a_request_that_is_a_pipe_or_a_link(self) -> None:
+        """Nobody waits for the one, nor follows the other."""
+        began = time.monotonic()
+        other = self.put("-other", b'{"into":"/x"}')
+        for is_pipe in (True, False):
+            if is_pipe:
+                os.mkfifo(self.path + ".request")
+            else:
+                os.symlink(other, self.path + ".request")
+            self.assertEqual(read_request(self.path + ".request"), {})
+            follower = Snapshots(self.path, None, 0.0)
+            follower.looked = 0.0
+            self.assertFalse(follower.is_due(0x130))
+            follower.answer("/x", "why")
+            os.unlink(self.path + ".request")
+        with open(other, "rb") as file:
+            self.assertEqual(file.read(), b'{"into":"/x"}')
+        self.assertLess(time.monotonic() - began, 2)
+
+    def test_a_status_file(self) -> None:
+        right = {
+            "state": "following",
+            "heartbeat": "2026-01-01T00:00:00Z",
+            "lag_bytes": 5,
+            "lag_seconds": 1.5,
+            "position": "0/1",
+            "wal_status": "reserved",
+            "found": {"values": "0/1"},
+            "tables_error": "x",
+            "last_error": "y",
+        }
+        for text in (*TEXTS, *(it.encode() for it in altered(right))):
+            path = self.put(".status", text)
+            with mock.patch("sys.stdout"), logged() as told:
+                status = main(
+                    [
+                        "status",
+                        "--status-file",
+                        path,
+                        "--strict",
+                        "--max-lag",
+                        "5s",
+                        "--max-lag",
+                        "5MB",
+                    ]
+                )
+            self.assertNotEqual(status, BUG, (text[:100], told))
+        os.unlink(path)
+        os.mkfifo(path)
+        with mock.patch("sys.stdout"):
+            self.assertEqual(main(["status", "--status-file", path]), FILE)

@@ -1,0 +1,184 @@
+"""A filter that stands still: the session is ended, and begun anew once the filter goes on."""
+
+from __future__ import annotations
+
+import os
+import signal
+import subprocess
+import sys
+import time
+import unittest
+import unittest.mock
+
+from pgsub_connect import standing
+from pgsub_connect.errors import ServerError
+from pgsub_connect.following import Follower
+from pgsub_connect.standing import Standing, activity
+
+from .test_following import Case
+from .vectors import begin, commit, insert
+
+# More than the pipe to a filter and the buffers of a socket have room for.
+LARGE = [insert(1) + bytes(1 << 15)] * 200
+
+
+class Stopped(Case):
+    def stopped(self, **options: object) -> Follower:
+        """A follower whose filter is stopped as soon as a session has begun, while much comes."""
+        follower = self.follower(**options)
+        self.server.to_send += [begin(0x100, 7), *LARGE, commit(0x100, 0x108)]
+        connect = follower.connect
+
+        def stop() -> object:
+            connection = connect()
+            if follower.progress.sessions == 1:
+                os.kill(follower.filter.pid(), signal.SIGSTOP)
+            return connection
+
+        self.patch(follower, "connect", stop)
+        self.addCleanup(self.go_on, follower)
+        return follower
+
+    def go_on(self, follower: Follower) -> None:
+        if follower.filter.is_running():
+            os.kill(follower.filter.pid(), signal.SIGCONT)
+
+    def then_goes_on(self, follower: Follower, held: bool) -> bool:
+        """Lets the filter go on where the test has seen all, so that the follower can end."""
+        if held:
+            self.go_on(follower)
+        return held
+
+    def ended(self) -> list[str]:
+        return [it for it in self.said if "has stood still for" in it]
+
+    def test_the_session_is_ended_and_begun_anew_once_it_goes_on(self) -> None:
+        follower = self.stopped(silence=0.6)
+        waited: list[int] = []
+
+        def holds() -> bool:
+            if self.ended() and not waited:
+                # (several delays between sessions pass)
+                time.sleep(0.3)
+                waited.append(follower.progress.sessions)
+                self.assertIsNone(follower.connection)
+                self.server.to_send[:] = [begin(0x100, 7), *LARGE, commit(0x100, 0x108)]
+                self.go_on(follower)
+            return self.confirmed() == 0x108
+
+        self.run_until(follower, holds)
+        self.assertEqual(waited, [1])
+        self.assertEqual(follower.progress.sessions, 2)
+        text = "has stood still for 1 second: the session is ended"
+        self.assertIn(f"the filter (process {follower.filter.pid()}) {text}", self.ended()[0])
+
+    def test_sooner_where_the_slot_is_about_to_be_lost(self) -> None:
+        self.patch(standing, "ENDANGERED", 0.2)
+        follower = self.stopped(silence=60.0)
+        began, slot = list[float](), follower.progress.slot
+
+        def holds() -> bool:
+            if follower.progress.is_unread and not began:
+                began.append(time.monotonic())
+                slot.wal_status, slot.told = "unreserved", time.monotonic()
+            return self.then_goes_on(follower, bool(self.ended()))
+
+        self.patch(standing, "NOTED", 0.05)
+        self.run_until(follower, holds)
+        self.assertIn("and the slot is about to be lost", self.ended()[0])
+        self.assertLess(time.monotonic() - began[0], 10.0)
+
+    def test_what_was_told_of_the_slot_before_isnt_why(self) -> None:
+        self.patch(standing, "ENDANGERED", 0.1)
+        follower = self.stopped(silence=1.0)
+        slot = follower.progress.slot
+        slot.wal_status, slot.told = "unreserved", time.monotonic()
+        began = time.monotonic()
+        self.run_until(follower, lambda: self.then_goes_on(follower, bool(self.ended())))
+        self.assertGreater(time.monotonic() - began, 1.0)
+
+    def test_one_that_gets_on_is_kept(self) -> None:
+        """Something of what the system says of it moves, though it takes nothing."""
+        count = iter(range(1 << 20))
+        self.patch(standing, "activity", lambda _: (next(count),))
+        follower = self.stopped(silence=0.3)
+        until = time.monotonic() + 2.0
+        self.run_until(follower, lambda: self.then_goes_on(follower, time.monotonic() > until))
+        self.assertEqual((self.ended(), follower.progress.sessions), ([], 1))
+
+    def test_the_end_is_waited_for_without_a_session(self) -> None:
+        follower = self.stopped(silence=0.4)
+
+        def holds() -> bool:
+            return follower.progress.is_unread or bool(self.ended())
+
+        self.patch(standing, "NOTED", 0.05)
+        disconnect, gone = follower.disconnect, list[bool]()
+
+        def note() -> None:
+            disconnect()
+            gone.append(follower.filter.is_running())
+            self.go_on(follower)
+
+        self.patch(follower, "disconnect", note)
+        self.run_until(follower, holds)
+        self.assertTrue(gone[-1])
+        self.assertFalse(follower.filter.is_running())
+
+
+class Held(Case):
+    def test_a_held_stream_ends_the_session_where_the_slot_is_about_to_be_lost(self) -> None:
+        follower = self.follower()
+        follower.start_filter()
+        follower.progress.slot.wal_status = "unreserved"
+        now = [100.0]
+        self.patch(standing, "time", unittest.mock.Mock(monotonic=lambda: now[0]))
+        follower.standing.check(60.0, is_held=True)
+        now[0] = follower.progress.slot.told = 101.0
+        follower.standing.check(60.0, is_held=True)
+        self.assertTrue(follower.progress.is_unread)
+        now[0] = 102.5
+        follower.standing.check(60.0, is_held=False)
+        follower.standing.check(60.0, is_held=True)
+        now[0] = follower.progress.slot.told = 104.6
+        with self.assertRaisesRegex(ServerError, "since the stream is held"):
+            follower.standing.check(60.0, is_held=True)
+
+
+class Activity(unittest.TestCase):
+    def test_of_a_process(self) -> None:
+        child = subprocess.Popen([sys.executable, "-c", "while True: pass"])
+        try:
+            before, until = activity(child.pid), time.monotonic() + 10
+            while activity(child.pid) == before and time.monotonic() < until:
+                time.sleep(0.01)
+            self.assertNotEqual(activity(child.pid), before)
+            os.kill(child.pid, signal.SIGSTOP)
+            time.sleep(0.1)
+            before = activity(child.pid)
+            time.sleep(0.2)
+            self.assertEqual(activity(child.pid), before)
+            self.assertEqual(len(before), 3)
+        finally:
+            child.kill()
+            child.wait()
+
+    def test_of_none(self) -> None:
+        self.assertEqual(activity(1 << 30), ())
+
+
+class Lasts(Case):
+    def test_until_the_filter_is_gone(self) -> None:
+        follower = self.follower()
+        follower.start_filter()
+        it = Standing(follower.filter, follower.progress)
+        it.found, it.is_left = it.look(), True
+        os.kill(follower.filter.pid(), signal.SIGSTOP)
+        it.found = it.look()
+        self.assertTrue(it.lasts())
+        follower.filter.kill()
+        self.assertFalse(it.lasts())
+        self.assertFalse(it.is_left)
+
+
+del Case
