@@ -1,4 +1,4 @@
-"""The folder of a feed in memory, to the byte: what each run over a store leaves there, by docs/FEED.md, and what differs in another one."""
+"""The folder of a feed in memory, to the byte: what each run over a store leaves there, by docs/FORMATS.md, and what differs in another one."""
 
 from __future__ import annotations
 

@@ -22,9 +22,10 @@ class Difference(Exception):
     """The program did something else than the model."""
 
 
-def compare(what, program, words, status, out, err, given=None):
+def compare(what, program, words, status, out, err, given=None, memory=None):
     """Runs the program and compares what it does; with a given file on standard input, the clocks of statuses aside."""
-    got = program.run(*words, given=given) if given else program.run(*words)
+    within = {} if memory is None else {"memory": memory}
+    got = program.run(*words, given=given, **within) if given else program.run(*words)
     if given:
         got = got[0], without_clocks(got[1]), got[2]
     wanted = (status, out, err)
@@ -46,11 +47,11 @@ def stop_line(fault):
     return b"" if fault is None else f"pgsub: {fault}\n".encode()
 
 
-def compare_followed(what, program, words, followed, file):
-    """Compares a `follow` over this file with what the model has followed."""
+def compare_followed(what, program, words, followed, file, memory=None):
+    """Compares a `follow` over this file, within so much memory if that is given, with what the model has followed."""
     read = followed.reader
     line = followed.told + stop_line(read.fault)
-    compare(what, program, ["follow", *words], exit_status(read), followed.written, line, file)
+    compare(what, program, ["follow", *words], exit_status(read), followed.written, line, file, memory)
 
 
 def version_words(rng, version):

@@ -16,6 +16,8 @@ SECONDS = 2.0
 SECONDS_MEGABYTE = 1.0
 PATIENCE = 300.0
 LOG = "-wal"
+# what runs a command within so many KiB of address space
+LIMITED = ("/bin/sh", "-c", 'ulimit -v "$0" && exec "$@"')
 
 
 class TimedOut(Exception):
@@ -80,12 +82,19 @@ class Program:
         """What a feed's folder has after a run other than is wanted."""
         return feed_folder.findings(Path(feed), wanted)
 
-    def run(self, *words, given="/dev/null"):
-        """Runs it: the status, standard output and standard error; a negative status is that of a signal."""
+    def run(self, *words, given="/dev/null", memory=None):
+        """Runs it, within so much memory if that is given: the status, standard output and standard error.
+
+        A negative status is that of a signal.
+        """
         create = os.O_WRONLY | os.O_CREAT | os.O_TRUNC
         actions = [(os.POSIX_SPAWN_OPEN, 0, given, os.O_RDONLY, 0), (os.POSIX_SPAWN_OPEN, 1, self.out, create, 0o600),
                    (os.POSIX_SPAWN_OPEN, 2, self.err, create, 0o600)]
-        pid = os.posix_spawn(self.path, [self.path, *words], self.environment, file_actions=actions)
+        command, environment = [self.path, *words], self.environment
+        if memory is not None:
+            # (large steps would be a large part of it)
+            command, environment = [*LIMITED, str(memory // 1024), *command], os.environ
+        pid = os.posix_spawn(command[0], command, environment, file_actions=actions)
         signal.setitimer(signal.ITIMER_REAL, PATIENCE)
         try:
             _, ended, used = os.wait4(pid, 0)

@@ -9,7 +9,7 @@ from functools import partial
 from stores.text import PAGE_SIZES
 
 from . import tables as model
-from . import keeping, wire, worked, written
+from . import keeping, memory, wire, worked, written
 from .cases import check_store, compare, stop_line
 from .program import MEMORY
 from .reader import MAX_FRAME, Reader
@@ -323,4 +323,4 @@ def page_sizes():
 
 SWEEPS = {"cuts": cuts, "bytes": byte_values, "numbers": great_numbers, "orders": orders, "changes": bad_changes,
           "foreign": foreign_frames, "rows": long_rows, "sizes": sizes,
-          "caches": caches, "pages": page_sizes, "feeds": keeping.recordings}
+          "memory": memory.memory, "caches": caches, "pages": page_sizes, "feeds": keeping.recordings}

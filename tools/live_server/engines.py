@@ -163,8 +163,8 @@ class NatsServer(Engine):
     def messages(self, stream: str = "pgsub", first: int = 1) -> Iterator[tuple[str, str, Any]]:
         """Each message of a stream from a sequence on: its subject, its id and what it says."""
         with contextlib.closing(Asker(self.port)) as asker:
-            last = asker.ask(f"STREAM.INFO.{stream}", {})["state"]["last_seq"]
-            for sequence in range(first, last + 1):
+            state = asker.ask(f"STREAM.INFO.{stream}", {})["state"]
+            for sequence in range(max(first, state["first_seq"]), state["last_seq"] + 1):
                 it = asker.ask(f"STREAM.MSG.GET.{stream}", {"seq": sequence})["message"]
                 headers = base64.b64decode(it["hdrs"]).decode().split("\r\n")
                 ids = [line.partition(": ")[2] for line in headers if line.startswith("Nats-Msg-Id:")]

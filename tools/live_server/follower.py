@@ -188,15 +188,23 @@ def is_confirmed(cluster: Cluster, slot: str, lsn: str, database: str = "shop") 
 
 
 def checkpoint_of(store: Path) -> tuple[dict[str, Any], dict[str, Any]]:
-    """The fields of both lines of a store's checkpoint, of which there may be one alone, or none."""
-    first, second, *_ = [*Path(f"{store}.connector").read_text(encoding="utf-8").splitlines(), "", ""]
-    return json.loads(first.strip() or "{}"), json.loads(second.strip() or "{}")
+    """What a store's checkpoint knows and has counted, by the line that was written last; nothing where there is none yet."""
+    text = Path(f"{store}.connector").read_text(encoding="utf-8")
+    lines = [json.loads(it) for it in text.replace("\0", " ").splitlines() if it.strip().startswith('{"version":')]
+    last: dict[str, Any] = max(lines, key=lambda it: int(it["number"]), default={})
+    return last.get("known") or {}, last.get("counted") or {}
+
+
+def remembered_of(store: Path) -> dict[str, Any]:
+    """What is remembered of a store's tables, but for what messages said since, which stands in further lines."""
+    first: dict[str, Any] = json.loads(Path(f"{store}.tables").read_text(encoding="utf-8").partition("\n")[0])
+    return first
 
 
 def is_adding(store: Path) -> bool:
     """Whether rows of some table are still to come into a copy, by the files beside it."""
     try:
-        remembered, (known, _) = json.loads(Path(f"{store}.tables").read_text(encoding="utf-8")), checkpoint_of(store)
+        remembered, (known, _) = remembered_of(store), checkpoint_of(store)
     except FileNotFoundError:
         return True
     return not store.exists() or bool(remembered.get("wanted") or known.get("adding"))

@@ -165,7 +165,8 @@ def compare_messages(nats: NatsServer, feed: Path) -> Tuple[Counted, int]:
     rows, ids = replay_messages(nats.messages())
     begun = next(at for at, it in enumerate(ids) if it.endswith(":commit"))
     base = ids[begun].partition(":")[0]
-    compare("messages of the base", ids[:begun], [f"{base}:base:{n}" for n in range(begun)])
+    number = ids[0].split(":")[2] if begun else ""
+    compare("messages of the base", ids[:begun], [f"{base}:base:{number}:{n}" for n in range(begun)])
     compare("messages", ids[begun + 1 :], list(ids_of_feed(feed, lsn_of(base))))
     return rows, len(ids)
 

@@ -116,8 +116,8 @@ class Statement(Made):
 
 
 class Words(unittest.TestCase):
-    def test_the_shares_are_the_whole(self) -> None:
-        self.assertEqual(sum(share for file, share in checks.SHARES.items() if file.startswith("docs/")), checks.WHOLE)
+    def test_the_shares_fit_the_whole(self) -> None:
+        self.assertLessEqual(sum(share for file, share in checks.SHARES.items() if file.startswith("docs/")), checks.WHOLE)
 
     def test_words_are_those_of_wc(self) -> None:
         self.assertEqual(texts.words_of("one  two\n| three-four |\n\u00a0".encode()), 6)

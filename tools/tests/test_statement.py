@@ -1,5 +1,6 @@
 """The definitions that a clause stands on."""
 
+import re
 import shutil
 import subprocess
 import sys
@@ -42,7 +43,9 @@ unused = 0
 }
 
 
-class Found(unittest.TestCase):
+class Tree(unittest.TestCase):
+    """A repository with one crate."""
+
     def setUp(self) -> None:
         room = tempfile.TemporaryDirectory()
         self.addCleanup(room.cleanup)
@@ -51,6 +54,8 @@ class Found(unittest.TestCase):
             self.write(name, text)
         (self.top / "tools").mkdir()
         shutil.copy(SCRIPT, self.top / "tools/statement")
+        for package in ("statements", "documents"):
+            shutil.copytree(SCRIPT.parent / package, self.top / "tools" / package)
 
     def write(self, name: str, text: str) -> None:
         file = self.top / name
@@ -59,7 +64,11 @@ class Found(unittest.TestCase):
 
     def printed(self, *options: str, clause: str = "low::follow.safe") -> str:
         words = [sys.executable, str(self.top / "tools/statement"), "--clause", clause, *options]
-        return subprocess.run(words, capture_output=True, text=True, check=True).stdout
+        return subprocess.run(words, capture_output=True, text=True, check=True, timeout=30).stdout
+
+
+class Found(Tree):
+    """What a clause stands on."""
 
     def stands_on(self) -> list[str]:
         return self.printed().splitlines()[:-1]
@@ -103,6 +112,73 @@ After = Unit
         )
         heads = "module _ {C : Type 0}\n    (row : C → Row) where\nmodule _ (place : C → Place) where\n"
         self.assertIn(f"-- named only from outside\n{heads}abbrev pub Within : ℕ → Type 0\nWithin n = n ≡ 0\n", self.printed("--text"))
+
+    def test_of_several_clauses_each_is_counted(self) -> None:
+        more = "\n/// A law.\npub fn law()\n    ensures { Row }\n{}\n"
+        self.write("crates/low/src/laws.rt", "ghost use Rattle.low.specs.Server.Rows.{Row};\n" + more)
+        lines = self.printed("--clause", "low::law.ensures").splitlines()
+        self.assertIn("low::follow.safe: 3 definitions, 6 lines", lines)
+        self.assertIn("low::law.ensures: 1 definitions, 2 lines", lines)
+        self.assertIn("3 definitions, 6 lines, 2 modules", lines)
+
+    def test_a_clause_that_is_not_there_is_named(self) -> None:
+        words = [sys.executable, str(self.top / "tools/statement"), "--clause", "low::follow.gone"]
+        ran = subprocess.run(words, capture_output=True, text=True, check=False, timeout=30)
+        self.assertEqual((ran.returncode, ran.stderr), (1, "statement: there is no clause low::follow.gone\n"))
+
+
+PROOFS = """## The theorem
+
+It is the clause `safe` of `low::follow`:
+
+> Whatever `follow` returns, the row stays.
+
+Nothing else. By the law `rows_stay` rows stay, which is no script: <b>.
+"""
+
+
+class Pages(Tree):
+    """The page for an auditor."""
+
+    def setUp(self) -> None:
+        super().setUp()
+        self.write("docs/PROOFS.md", PROOFS)
+        sections = "- Streaming: [Streaming Protocol](https://postgres.example/streaming)\n\n*Streaming. `low/Calls`.*\n"
+        self.write("docs/PROTOCOL.md", sections)
+        self.write("KITS", "# kits\nkit-1\n")
+        law = "ghost use Rattle.low.specs.Calls.{IsLeft};\n\npub fn rows_stay()\n    ensures { IsLeft 0 }\n{}\n"
+        self.write("crates/low/src/laws.rt", law)
+        cases = "-- Worked cases.\nuse Rattle.low.specs.Calls.{IsLeft}\n\n-- nothing is left\nnone_left : IsLeft 0\nnone_left = refl\n"
+        self.write("crates/low/proofs/CallRows.antt", cases)
+
+    def page(self) -> str:
+        file = self.top / "page.html"
+        self.printed("--html", str(file))
+        return file.read_text(encoding="utf-8")
+
+    def test_a_sentence_stands_beside_the_clause_that_it_names(self) -> None:
+        claims = self.page().split('<div class="claim">')
+        self.assertIn("low::follow.safe", claims[1])
+        self.assertIn("the row stays", claims[2])
+        self.assertIn("as above", claims[2])
+        self.assertIn("names no clause", claims[3])
+        self.assertIn("low::rows_stay.ensures", claims[4])
+        self.assertIn("no script: &lt;b&gt;.", claims[4])
+
+    def test_each_name_is_a_link_that_leads_somewhere(self) -> None:
+        page = self.page()
+        goals = set(re.findall(r'href="#([^"]+)"', page))
+        self.assertLessEqual(goals, set(re.findall(r' id="([^"]+)"', page)))
+        self.assertIn("d-low.specs.Calls-IsLeft", goals)
+        self.assertIn("d-low.specs.Server.Rows-Row", goals)
+        self.assertNotIn("<script", page)
+
+    def test_a_definition_names_its_section_and_its_examples(self) -> None:
+        page = self.page()
+        self.assertIn('<a href="https://postgres.example/streaming">Streaming Protocol</a>', page)
+        self.assertIn('<a href="#e-low.proofs.CallRows-none_left">none_left</a>', page)
+        self.assertIn("-- nothing is left", page)
+        self.assertNotIn("= refl", page)
 
 
 if __name__ == "__main__":

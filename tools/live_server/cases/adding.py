@@ -337,7 +337,7 @@ def long_transaction(place: Place) -> None:
 
 
 def synchronous(place: Place) -> None:
-    """Commits that wait for the follower may keep the slot from being made; they go on, and the table is added."""
+    """Commits that wait for the follower go on while the slot is made, and the table is added."""
     place.stock()
     place.follow("--create")
     place.set(synchronous_standby_names="pgsub")

@@ -17,7 +17,7 @@ import psycopg
 
 from ..child import Child
 from ..errors import Failed
-from ..follower import checkpoint_of
+from ..follower import checkpoint_of, remembered_of
 from ..place import MISSED, OK, REJECTED, SERVER, UNFIT, Place
 from ..rows import compare, literal, quoted, rows_of_server
 from .case import Case
@@ -137,7 +137,7 @@ def has_followed(place: Place, child: Child | None) -> bool:
 
 def told(place: Place) -> set[int]:
     """The OIDs of the tables about which something was found that may have made their rows wrong."""
-    remembered = json.loads(place.beside(".tables").read_text())
+    remembered = remembered_of(place.store)
     found: set[int] = set()
     for _, texts, _ in remembered["found"].values():
         for about in texts.values():

@@ -145,9 +145,9 @@ def verified(place: Place) -> None:
         status = child.end()
         if status == OK:
             return
-        if status != PASSING or "the published tables changed" not in child.said():
+        if status != PASSING or "not compared: " not in child.said():
             raise Failed(f"status {status}: {child.said()}")
-    raise Failed("the published tables changed at each try")
+    raise Failed("published tables were truncated at each try")
 
 
 # The planted differences. `stock` and `other` have rows (sku, name, note), and `log`, which has no key, rows (a, b).

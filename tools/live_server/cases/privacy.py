@@ -15,6 +15,8 @@ from ..place import SERVER, Place
 from .case import Case
 
 SECRET = "geheim"
+# An account that isn't root.
+OTHER = 65534
 # Reads a copy as another account does.
 READ = """
 import sqlite3, sys
@@ -36,14 +38,14 @@ def modes(place: Place, *words: str) -> dict[str, int]:
 
 
 def check_modes(place: Place, umask: int, wanted: int, *words: str) -> None:
-    """Follows under a umask, and fails unless each file has this mode."""
+    """Follows under a umask, and fails unless each file has this mode; the checkpoint, whose lock is the follower's, is its owner's alone."""
     place.stock()
     before = os.umask(umask)
     try:
         found = modes(place, *words)
     finally:
         os.umask(before)
-    wrong = {name: oct(mode) for name, mode in found.items() if mode != wanted}
+    wrong = {name: oct(mode) for name, mode in found.items() if mode != (0o600 if name.endswith(".connector") else wanted)}
     if wrong or len(found) < 4:
         raise Failed(f"modes of {len(found)} files: {wrong}")
 
@@ -103,10 +105,34 @@ def readers(place: Place) -> None:
             raise Failed(f"another account: {done.stderr.decode(errors='replace')}")
 
 
+def added_by_root(place: Place) -> None:
+    """Leaves the files of a store their owner and mode where root adds tables while the service of another account is stopped."""
+    place.stock()
+    place.follow("--create", "--mode", "640")
+    for it in (place.folder, *place.folder.iterdir()):
+        os.chown(it, OTHER, OTHER)
+    before = owners(place)
+    for command in (("add", "--table", "stock"), ("refresh", "--yes")):
+        place.run("ALTER TABLE stock ADD more int")
+        place.subcommand(command[0], "--dsn", place.dsn(), "--store", str(place.store), *command[1:])
+        if (found := owners(place)) != before:
+            raise Failed(f"{command[0]}: {found} in place of {before}")
+        place.run("ALTER TABLE stock DROP more")
+    place.follow("--mode", "640")
+    place.equal()
+
+
+def owners(place: Place) -> dict[str, tuple[int, int, int]]:
+    """Owner, group and mode of each file of the store."""
+    found = {it.name: it.stat() for it in place.folder.iterdir() if it.is_file() and it != place.log}
+    return {name: (it.st_uid, it.st_gid, it.st_mode & 0o777) for name, it in found.items()}
+
+
 CASES = (
     Case("files-for-their-owner-alone", private),
     Case("files-with-a-mode-for-others", shared),
     Case("filter-gets-no-password", filter_environment),
     Case("text-of-the-server-is-escaped", escaped),
     Case("copy-for-another-account", readers),
+    Case("add-by-root-keeps-the-owner", added_by_root, root=True),
 )

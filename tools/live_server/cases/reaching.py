@@ -120,9 +120,13 @@ def shown_password(place: Place) -> None:
 
 
 def plain_text(place: Place) -> None:
-    """Warns of a connection to another machine that isn't encrypted. (To 127.0.0.2, which isn't the address of this one.)"""
-    cluster = reached_by_tcp(place, "127.0.0.2", "host")
-    dsn = dsn_of(cluster, "127.0.0.2", "host=127.0.0.2")
+    """Plain text to another machine has to be named, and is warned of. (0.0.0.0 isn't known as an
+    address of this one.)"""
+    cluster = reached_by_tcp(place, "127.0.0.1", "host")
+    dsn = dsn_of(cluster, "0.0.0.0", "host=0.0.0.0")
+    child = place.start("--create", "--table", "stock", dsn=dsn, environment=ENVIRONMENT)
+    place.has_ended(child, SERVER, "sslmode=prefer or sslmode=disable in the connection string")
+    dsn += " sslmode=prefer"
     child = place.start("--create", "--table", "stock", dsn=dsn, environment=ENVIRONMENT)
     child.wait_for("the connection isn't encrypted")
     place.catch_up(child)

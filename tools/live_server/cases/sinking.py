@@ -3,7 +3,10 @@
 from __future__ import annotations
 
 import collections
+import contextlib
 import random
+import signal
+import sqlite3
 import threading
 import time
 from collections.abc import Sequence
@@ -14,6 +17,7 @@ from feed_replay import commits, lsn_of, replay
 from feed_text import Column, Definition, Line, Writer
 
 from ..engines import Engine, NatsServer, RedisServer
+from ..errors import Failed
 from ..feeds import log_changes, segments
 from ..follower import Supervisor, wait_until
 from ..load import LOGGED, SCHEMA, Mixed
@@ -241,6 +245,41 @@ def too_large(place: Place) -> None:
     compare_messages(nats, writer.folder)
 
 
+def last_sequence(nats: NatsServer) -> int:
+    found = nats.ask("STREAM.INFO.pgsub")
+    return int(found["state"]["last_seq"]) if "state" in found else 0
+
+
+def base_again(place: Place) -> None:
+    """A sink to NATS that is killed, or ended within two seconds, while it writes its base gets on where it is started again at once."""
+    place.run(
+        "CREATE TABLE stock (sku int PRIMARY KEY, quantity int)", "INSERT INTO stock SELECT it, 0 FROM generate_series(1, 40000) it",
+        "CREATE PUBLICATION pgsub FOR TABLE stock",
+    )
+    place.follow("--create")
+    base, nats = place.folder / "base.db", NatsServer(place.folder / "nats")
+    place.subcommand("export", "--store", str(place.store), "--into", str(base), "--text")
+    with contextlib.closing(sqlite3.connect(base)) as rows:
+        at = lsn_of(rows.execute("SELECT lsn FROM pgsub_position").fetchone()[0])
+    writer = a_feed(place)
+    for end in (at, at + 0x100):
+        writer.commit(end, [insert(str(end), "c")])
+    started(place, nats)
+    words = sink_words(place, nats, writer.folder, "--base", str(base), "--once")
+    for number in (signal.SIGKILL, signal.SIGTERM, signal.SIGKILL, signal.SIGTERM):
+        sink, before = place.started(words), last_sequence(nats)
+        wait_until(lambda before=before: last_sequence(nats) > before + 500, "publishing some rows", 60, sink.check)  # type: ignore[misc]
+        sink.signal(number)
+        began = time.monotonic()
+        status = sink.end(30)
+        if number == signal.SIGTERM and (status != PASSING or time.monotonic() - began > 2 * Patience.factor):
+            raise Failed(f"it ended with {status} after {time.monotonic() - began:.1f} s: {sink.said()}")
+    place.has_ended(place.started(words), OK, "is written")
+    _, count = compare_messages(nats, writer.folder)
+    if count != 40000 + 1 + 1 + 1:
+        raise Failed(f"{count} messages")
+
+
 def kill_part(place: Place, follower: Supervisor, rng: random.Random) -> str:
     """Kills the follower or its filter. Returns which. (Two kills of a filter in one transaction end the follower.)"""
     victim, kill = rng.choice((("filter", follower.kill_filter), ("follower", follower.kill_connector)))
@@ -301,5 +340,6 @@ CASES = (
     Case("sinks-second", second_sink),
     Case("sinks-in-the-way", in_the_way),
     Case("sinks-too-large", too_large),
+    Case("sinks-base-again", base_again),
     Case("sinks-of-a-server", of_a_server),
 )

@@ -2,12 +2,15 @@
 
 from __future__ import annotations
 
+import os
 import time
+from signal import SIGCONT, SIGSTOP
 
 from ..errors import Failed
 from ..follower import wait_until
 from ..place import SERVER, UNFIT, Place
 from .case import Case
+from .common import verify
 
 
 def moved_before_session(place: Place) -> None:
@@ -105,10 +108,93 @@ def idle_for_long(place: Place) -> None:
         return place.value(reason) == "idle_timeout"
 
     wait_until(is_given_up, "giving up the slot", 60)
-    place.ends(SERVER, "idle_timeout")
+    said = place.ends(SERVER, "idle_timeout")
+    why = "nobody followed it for idle_replication_slot_timeout"
+    if why not in said or "copies anew" not in said:
+        raise Failed(f"no cure: {said}")
     words = ("--dsn", place.dsn(), "--slot", place.slot, "--store", str(place.store))
     if "lost (idle_timeout)" not in place.subcommand("check", *words, status=SERVER):
         raise Failed("check doesn't tell it")
+
+
+def publication_made_anew(place: Place) -> None:
+    """The publication is dropped and made again, so that the server says for good that it isn't
+    there: no other session is tried."""
+    place.stock()
+    place.follow("--create")
+    place.run("INSERT INTO stock SELECT it, 0 FROM generate_series(1000, 3000) it")
+    place.run("DROP PUBLICATION pgsub", "INSERT INTO stock VALUES (4000, 0)")
+    place.run("CREATE PUBLICATION pgsub FOR TABLE stock")
+    for _ in range(3):
+        said = place.ends(SERVER, "does not exist", "--heartbeat", "0.1", seconds=30)
+        if said.count("following slot") > 1:
+            raise Failed(f"it was tried again: {said}")
+
+
+def read_only_by_default(place: Place) -> None:
+    """Where transactions are read-only by default, publication and slot are made, followed and
+    dropped all the same."""
+    place.stock(published=False)
+    database = f"ALTER DATABASE {place.database}"
+    place.run(f"{database} SET default_transaction_read_only = on")
+    try:
+        place.follow("--create", "--table", "stock")
+        if "copy begins anew" in place.log.read_text():
+            raise Failed("it was tried more than once")
+        place.equal()
+        place.subcommand("drop", "--dsn", place.dsn(), "--store", str(place.store), "--yes")
+        counts = (f"(SELECT count(*) FROM {it})" for it in ("pg_publication", "pg_replication_slots"))
+        left = place.value(f"SELECT {' + '.join(counts)}")
+    finally:
+        reset = f"{database} RESET default_transaction_read_only"
+        place.run("SET default_transaction_read_only = off", reset)
+    if left != "0":
+        raise Failed("publication or slot are left")
+def idle_while_copied(place: Place) -> None:
+    """A copy that takes longer than the server leaves an idle slot keeps its slot."""
+    place.own_server({"idle_replication_slot_timeout": "6s"})
+    place.run(
+        "CREATE TABLE stock (sku int PRIMARY KEY, body text)",
+        "INSERT INTO stock SELECT it, repeat('x', 1000) FROM generate_series(1, 40000) it",
+        "CREATE PUBLICATION pgsub FOR TABLE stock",
+    )
+    child = place.start("--create")
+    child.wait_for("copying 1 table", 60)
+    for pid in child.filters():
+        os.kill(pid, SIGSTOP)
+    for _ in range(14):
+        time.sleep(1)
+        place.run("CHECKPOINT")
+    for pid in child.filters():
+        os.kill(pid, SIGCONT)
+    place.catch_up(child)
+    child.stop()
+    place.equal()
+
+
+def renamed_database(place: Place) -> None:
+    """A database that was renamed is followed, verified and dropped by its new name."""
+    place.own_server()
+    place.stock()
+    place.follow("--create")
+    place.change()
+    place.cluster.run("ALTER DATABASE shop RENAME TO store", database="postgres")
+    place.database = "store"
+    place.change()
+    child = place.start("--create")
+    place.catch_up(child)
+    if "the database shop was renamed: it is store now" not in child.said():
+        raise Failed(f"it isn't told: {child.said()}")
+    verify(place)
+    child.stop()
+    place.equal()
+    rename = "ALTER DATABASE store RENAME TO third"
+    place.cluster.run(rename, "CREATE DATABASE store", database="postgres")
+    place.ends(UNFIT, "and not slot pgsub of store", seconds=30)
+    place.database = "third"
+    place.subcommand("drop", "--dsn", place.dsn(), "--store", str(place.store), "--yes")
+    if place.value("SELECT count(*) FROM pg_replication_slots") != "0":
+        raise Failed("the slot is left")
 
 
 CASES = (
@@ -120,4 +206,8 @@ CASES = (
     # (before, such transactions come as empty ones, and move the store)
     Case("publication-that-is-idle", idle_publication, since=15),
     Case("slot-that-was-idle-for-long", idle_for_long, since=18),
+    Case("publication-made-anew", publication_made_anew, until=17),
+    Case("read-only-by-default", read_only_by_default),
+    Case("slot-that-is-idle-while-rows-are-copied", idle_while_copied, since=18),
+    Case("database-that-was-renamed", renamed_database),
 )

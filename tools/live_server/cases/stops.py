@@ -13,7 +13,7 @@ from pathlib import Path
 from ..child import Child
 from ..errors import Failed
 from ..follower import wait_until
-from ..place import FILE, OK, PASSING, REJECTED, Place
+from ..place import FILE, OK, PASSING, REJECTED, SERVER, Place
 from .case import Case
 
 
@@ -218,7 +218,24 @@ def interrupted_twice(place: Place) -> None:
     place.equal()
 
 
+def unsendable_value(place: Place) -> None:
+    """A text that isn't UTF-8, in a database of SQL_ASCII, ends the following after some tries."""
+    place.own_server(encoding="SQL_ASCII")
+    place.run(
+        "CREATE TABLE stock (sku int PRIMARY KEY, name text)",
+        "CREATE PUBLICATION pgsub FOR TABLE stock",
+    )
+    child = place.start("--create")
+    place.catch_up(child)
+    place.run("INSERT INTO stock VALUES (1, 'good')", "INSERT INTO stock VALUES (2, E'\\377')")
+    said = place.has_ended(child, SERVER, "the server can't send a change behind", 90)
+    if "copies anew" not in said or "associated LSN" not in said:
+        raise Failed(f"no cure: {said}")
+    place.ends(SERVER, "the server can't send a change behind")
+
+
 CASES = (
+    Case("value-that-cant-be-sent", unsendable_value),
     Case("commit-that-is-rejected", rejected_commit),
     Case("transaction-above-64-megabytes", large_transaction),
     Case("row-of-100-megabytes", long_row),

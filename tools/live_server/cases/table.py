@@ -11,8 +11,10 @@ from ..errors import Unusable
 from ..options import Options
 from ..place import Place, Shared
 from . import (
-    adding, altering, copying, feeding, kinds, missing, names, operating, past, privacy, proving, publications, reaching, repairing, shapes,
-    sideroads, silence, sinking, slots, standbys, starts, stops, tabling, timelines, twice, values, verifying, versions,
+    adding, altering, copying, feeding, keys, kinds, missing, names, operating, past, privacy,
+    proving, publications, reaching, repairing, shapes, sideroads, silence, sinking, slots,
+    standbys, starts, stops, tabling, timelines, trusting, twice, undoing, undoing_related,
+    unlogged, values, verifying, versions, waiting,
 )
 from .case import Case
 from .exports import CASES as EXPORTS
@@ -20,11 +22,14 @@ from .exports import CASES as EXPORTS
 THEMES: dict[str, Sequence[Case]] = {
     "starts": (*starts.CASES, *shapes.CASES),
     "names": names.CASES,
-    "publications": publications.CASES,
+    "publications": (*publications.CASES, *unlogged.CASES),
     "values": (*values.CASES, *kinds.CASES),
     "missing": missing.CASES,
     "exports": EXPORTS,
-    "feeds": (*feeding.CASES, *tabling.CASES, *past.CASES, *twice.CASES),
+    "feeds": (
+        *feeding.CASES, *tabling.CASES, *past.CASES, *undoing.CASES, *undoing_related.CASES,
+        *twice.CASES, *keys.CASES,
+    ),
     "sinks": sinking.CASES,
     "verifying": (*verifying.CASES, *proving.CASES),
     "adding": adding.CASES,
@@ -35,11 +40,12 @@ THEMES: dict[str, Sequence[Case]] = {
     "stops": stops.CASES,
     "silence": silence.CASES,
     "standbys": standbys.CASES,
-    "reaching": reaching.CASES,
+    "reaching": (*reaching.CASES, *trusting.CASES),
     "versions": versions.CASES,
     "sideroads": sideroads.CASES,
     "privacy": privacy.CASES,
     "operating": operating.CASES,
+    "waiting": waiting.CASES,
     "altering": altering.CASES,
 }
 

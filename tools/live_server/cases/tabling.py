@@ -1,4 +1,4 @@
-"""Tables of SQLite that follow a feed: tables that are altered, and readers of another account."""
+"""Tables of SQLite that follow a feed: tables that are altered or set aside, repairs, and readers of another account."""
 
 from __future__ import annotations
 
@@ -6,15 +6,15 @@ import os
 import pwd
 import signal
 import subprocess
-from typing import Tuple
+from typing import Dict, Tuple
 
 from ..child import Child
 from ..errors import Failed
-from ..feeds import compare_tables
+from ..feeds import compare_tables, reading
 from ..follower import tables_of, wait_until
 from ..place import Place
 from .case import Case
-from .common import now_in_tables, rows_file
+from .common import PLANTED, TABLES, now_in_tables, plant, rows_file, verify
 
 STOCK = "CREATE TABLE stock (sku int PRIMARY KEY, quantity int, note text)", "INSERT INTO stock VALUES (1, 5, 'a'), (2, 0, NULL)"
 # What is done to a table, step by step: the rows are equal after each.
@@ -70,8 +70,9 @@ def shapes(place: Place) -> None:
 def read_as(place: Place, query: str) -> str:
     """What sqlite3 prints for another account, which has the file's group."""
     other, group = pwd.getpwnam("nobody").pw_uid, rows_file(place).stat().st_gid
+    words = ["sqlite3", "-readonly", "-cmd", ".timeout 5000", str(rows_file(place)), query]
     done = subprocess.run(
-        ["sqlite3", "-readonly", str(rows_file(place)), query], user=other, group=group, extra_groups=[], capture_output=True, text=True,
+        words, user=other, group=group, extra_groups=[], capture_output=True, text=True,
         check=False,
     )
     return done.stdout + done.stderr
@@ -112,7 +113,114 @@ def other_account(place: Place) -> None:
         raise Failed(f"an account without the right reads {found}")
 
 
+def reader_of(place: Place) -> str:
+    """The LSN up to which the feed may forget commits, as the tables say."""
+    return (place.beside(".feed") / "readers/tables").read_text()
+
+
+def asides(place: Place) -> Dict[str, str]:
+    """Those of the status file."""
+    found: Dict[str, str] = place.status(place.folder / "status").get("tables_aside", {})
+    return found
+
+
+def check_status(place: Place, status: int, text: str) -> None:
+    said = place.subcommand("status", "--status-file", str(place.folder / "status"), status=status)
+    if text not in said:
+        raise Failed(f"status {status} without {text!r}: {said}")
+
+
+def check_equal(place: Place) -> None:
+    now_in_tables(place)
+    compare_tables(place.cluster, rows_file(place), "pgsub", database=place.database)
+    place.subcommand("verify", "--dsn", place.dsn(), "--tables", str(rows_file(place)))
+
+
+def check_aside(place: Place, child: Child, why: str) -> None:
+    """The table `t` isn't there, and is named everywhere; the others and the reader of the feed go on."""
+    place.run("UPDATE other SET v = v + 1")
+    now_in_tables(place)
+    with reading(rows_file(place)) as base:
+        if (found := base.execute("SELECT schema, \"table\" FROM pgsub_aside").fetchall()) != [("public", "t")]:
+            raise Failed(f"set aside are {found}")
+        if base.execute("SELECT count(*) FROM sqlite_schema WHERE name = 't'").fetchone() != (0,):
+            raise Failed("rows that aren't right can be read")
+        if base.execute("SELECT v FROM other").fetchone() != (int(place.value("SELECT v FROM other")),):
+            raise Failed("the others don't go on")
+    wait_until(lambda: why in asides(place).get("public.t", ""), f"showing {why}", 20, child.check)
+    check_status(place, 1, "public.t")
+    said = place.subcommand("verify", "--dsn", place.dsn(), "--tables", str(rows_file(place)), status=1)
+    if "public.t is set aside" not in said or "--table public.t" not in said:
+        raise Failed(said)
+    before = reader_of(place)
+    place.run("UPDATE other SET v = v + 1")
+    now_in_tables(place)
+    wait_until(lambda: reader_of(place) != before, "reading on", 20, child.check)
+
+
+def set_aside(place: Place) -> None:
+    """One table whose rows nobody sends any more is set aside, the others go on, also after a restart, and it comes again by `add`."""
+    place.run(
+        "CREATE TABLE t (id int PRIMARY KEY, v text)", "INSERT INTO t SELECT it, repeat('x', it) FROM generate_series(1, 9) it",
+        "CREATE TABLE other (id int PRIMARY KEY, v int)", "INSERT INTO other VALUES (1, 1)", "CREATE TABLE bare ()",
+        "ALTER TABLE bare REPLICA IDENTITY FULL", "INSERT INTO bare DEFAULT VALUES", "INSERT INTO bare DEFAULT VALUES",
+        "CREATE TABLE pgsub_position (id int PRIMARY KEY)", "INSERT INTO pgsub_position VALUES (7)", "CREATE PUBLICATION pgsub FOR ALL TABLES",
+    )
+    words = ("--tables", str(rows_file(place)), "--status-file", str(place.folder / "status"))
+    child = place.start("--create", *words)
+    place.catch_up(child)
+    wait_until(rows_file(place).exists, "making the tables", check=child.check)
+    place.run("CREATE TABLE \"T\" (id int PRIMARY KEY)", "INSERT INTO \"T\" VALUES (1)", "INSERT INTO t VALUES (10, 'x')")
+    # (a table without columns that has rows, and gets one)
+    place.run("ALTER TABLE bare ADD COLUMN a int", "DELETE FROM bare WHERE ctid = '(0,1)'", "INSERT INTO bare VALUES (7)")
+    check_equal(place)
+    check_status(place, 0, "ok")
+    place.run("ALTER TABLE t ALTER COLUMN v TYPE int USING length(v)", "INSERT INTO t VALUES (11, 5)")
+    check_aside(place, child, "the column v has a value that isn't one of its type")
+    place.run("UPDATE t SET v = v + 1", "DELETE FROM t WHERE id = 3")
+    child.stop()
+    child = place.start(*words)
+    place.catch_up(child)
+    check_aside(place, child, "the column v has a value")
+    place.subcommand("add", "--dsn", place.dsn(), "--store", str(place.store), "--table", "t")
+    wait_until(lambda: not asides(place), "having it again", 20, child.check)
+    place.run("UPDATE t SET v = 0 WHERE id = 5")
+    check_equal(place)
+    check_status(place, 0, "ok")
+    child.stop()
+
+
+def repaired(place: Place) -> None:
+    """A repair of what somebody changed in the store leaves tables that never had it as they are right."""
+    place.run(*TABLES)
+    words = ("--tables", str(rows_file(place)), "--digests", "--status-file", str(place.folder / "status"))
+    child = place.start("--create", *words)
+    place.catch_up(child)
+    wait_until(rows_file(place).exists, "making the tables", check=child.check)
+    now_in_tables(place)
+    for name, (change, _) in PLANTED.items():
+        place.run("UPDATE stock SET note = 'x' WHERE sku = 3")
+        now_in_tables(place)
+        child.stop()
+        plant(place, place.store, change)
+        child = place.start(*words)
+        child.wait_for("following slot")
+        verify(place, "--repair")
+        place.run("UPDATE stock SET note = note || '.' WHERE sku < 20", "INSERT INTO log VALUES ('line 3', NULL)")
+        try:
+            check_equal(place)
+        except Failed as failed:
+            raise Failed(f"{name}: {failed}") from None
+        if found := asides(place):
+            raise Failed(f"{name}: set aside are {found}")
+        place.subcommand("verify", "--dsn", place.dsn(), "--tables", str(rows_file(place)), "--digests")
+    child.stop()
+    place.equal()
+
+
 CASES = (
     Case("feed-tables-altered", shapes),
+    Case("feed-tables-set-aside", set_aside),
+    Case("feed-tables-of-a-repaired-copy", repaired),
     Case("feed-tables-of-another-account", other_account, root=True),
 )
