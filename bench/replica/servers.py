@@ -11,7 +11,7 @@ from pathlib import Path
 TOP = Path(__file__).resolve().parent.parent.parent
 sys.path[:0] = [str(TOP / "connect"), str(TOP / "tools"), str(TOP / "bench")]
 from histories_model.recording import sessions_of  # noqa: E402
-from pgsub_connect.postgres import Connection  # noqa: E402
+from pgsub_connect.server.connection import Connection  # noqa: E402
 
 SETTINGS = {
     "fsync": "on",

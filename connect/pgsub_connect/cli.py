@@ -10,29 +10,32 @@ import traceback
 from collections.abc import Callable, Sequence
 from typing import Any, Protocol
 
-from . import checking, dropping, exporting, log, probing, refreshing, requesting, taking, trust, verifying
-from . import checkpoint as known_of
-from .asking import Asker
-from .checkpoint import Checkpoint
-from .comparing import require_published
-from .copying import Copier, create_slot, maker_of
+from .commands import add, check as check_module, drop, refresh, snapshot, status as status_module, verify as verify_module
+from .store import export
+from pgsub_feed import log
+from .server import transport
+from .store import checkpoint as known_of
+from .follow.server_watch import Asker
+from .store.checkpoint import Checkpoint
+from .server.followed_publications import require_published
+from .copy.copier import Copier, create_slot, maker_of
 from .errors import EngineError, FileError, FilterFault, NoSlot, Passing, ServerError, Stopped, TooLarge, Unfit, UsageError
-from .feed import awaiting, tabling
-from .feed import verifying as tables_verifying
-from .feeding import Feeding
-from .filtering import Filter, FilterEnded
-from .following import Follower
-from .interrupting import interrupt
-from .options import Options
-from .placing import check_meant
-from .postgres import Check
-from .progress import Progress
-from .recording import Aside, Recorder, Recording
-from .remembered import Remembered, print_names
-from .reporting import Reporter
-from .sinks import sinking
-from .snapshots import Snapshots, part_of
-from .words import arguments, settle_options
+from .commands import tables, wait
+from .verify import tables_file as tables_verifying
+from .follow.feed import Feeding
+from .follow.filter import Filter, FilterEnded
+from .follow.follower import Follower
+from pgsub_feed.interruption import interrupt
+from .commands.options import Options
+from .store.placing import check_meant
+from .server.connection import Check
+from .status.progress import Progress
+from .commands.record import Aside, Recorder, Recording
+from .drift.remembered import Remembered, print_names
+from .status.files import Reporter
+from .commands import sink
+from .store.snapshot import Snapshots, part_of
+from .commands.words import arguments, settle_options
 
 REJECTED, USAGE, FILE, SERVER, UNFIT, BUG, PASSING, NO_SLOT, MISSED = 1, 2, 3, 4, 5, 6, 7, 8, 9
 
@@ -86,13 +89,13 @@ def follow(options: Options) -> int:
     start = Start()
     stop_by_signals(start)
     if options.snapshot:
-        taking.check_copied(options.store, options.snapshot, "--snapshot")
+        snapshot.check_copied(options.store, options.snapshot, "--snapshot")
     check_meant(options.store)
     if not (options.create or options.no_copy or any(os.path.exists(options.store + it) for it in ("", ".connector"))):
         # (before there is a file that would stay)
         raise no_store(options)
     checkpoint = Checkpoint(options.store, start.check)
-    trust.OWN.begin(checkpoint.known.encrypted, options.accept)
+    transport.OWN.begin(checkpoint.known.encrypted, options.accept)
     progress = Progress()
     remembered = Remembered(options.store, options.mode)
     feeding = Feeding(options, checkpoint, progress, remembered)
@@ -184,14 +187,14 @@ def stoppable(call: Callable[[Options, Check], int]) -> Callable[[Options], int]
 
 
 def verify(options: Options, check: Check) -> int:
-    return tables_verifying.run(options, check) if options.tables else verifying.run(options, check)
+    return tables_verifying.run(options, check) if options.tables else verify_module.run(options, check)
 
 
 RUNS: dict[str, Callable[[Options], Any]] = {
-    "follow": follow, "record": record, "check": stoppable(checking.run), "drop": stoppable(dropping.run),
-    "export": stoppable(exporting.run), "snapshot": stoppable(taking.run),
-    "verify": stoppable(verify), "add": stoppable(requesting.run), "refresh": stoppable(refreshing.run), "names": lambda options: print_names(options.store), "status": probing.run,
-    "tables": stoppable(tabling.run), "sink": stoppable(sinking.run), "wait": stoppable(awaiting.run),
+    "follow": follow, "record": record, "check": stoppable(check_module.run), "drop": stoppable(drop.run),
+    "export": stoppable(export.run), "snapshot": stoppable(snapshot.run),
+    "verify": stoppable(verify), "add": stoppable(add.run), "refresh": stoppable(refresh.run), "names": lambda options: print_names(options.store), "status": status_module.run,
+    "tables": stoppable(tables.run), "sink": stoppable(sink.run), "wait": stoppable(wait.run),
 }
 
 
@@ -205,8 +208,8 @@ def main(words: Sequence[str]) -> int:
     def call() -> int:
         settle_options(options)
         if options.command in BESIDE and options.store:
-            known = dropping.read_known(options.store + ".connector")
-            trust.OWN.begin(known.encrypted, options.accept)
+            known = drop.read_known(options.store + ".connector")
+            transport.OWN.begin(known.encrypted, options.accept)
         return int(RUNS[options.command](options) or 0)
 
     return guarded(call)

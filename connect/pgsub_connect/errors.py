@@ -6,7 +6,7 @@ import contextlib
 import struct
 from collections.abc import Iterator
 
-from .texts import shortened
+from pgsub_feed.texts import shortened
 
 
 class Stopped(Exception):

@@ -12,16 +12,19 @@ from collections.abc import Callable, Sequence
 from pathlib import Path
 from unittest import mock
 
-from pgsub_connect import adding, confirming, following, postgres, watching
-from pgsub_connect.checkpoint import Checkpoint
-from pgsub_connect.dropping import read_known
-from pgsub_connect.filtering import Filter
-from pgsub_connect.following import Follower
-from pgsub_connect.options import Options
-from pgsub_connect.progress import Progress
-from pgsub_connect.remembered import Remembered
-from pgsub_connect.snapshots import Snapshots
-from pgsub_connect.texts import lsn_text
+from pgsub_connect.add import adder
+from pgsub_connect.follow import follower, statuses
+from pgsub_connect.server import connection
+from pgsub_connect.drift import watch
+from pgsub_connect.store.checkpoint import Checkpoint
+from pgsub_connect.commands.drop import read_known
+from pgsub_connect.follow.filter import Filter
+from pgsub_connect.follow.follower import Follower
+from pgsub_connect.commands.options import Options
+from pgsub_connect.status.progress import Progress
+from pgsub_connect.drift.remembered import Remembered
+from pgsub_connect.store.snapshot import Snapshots
+from pgsub_feed.texts import lsn_text
 
 from .fake_server import FakeServer, Quiet, Row
 from .row_filter import Store
@@ -148,9 +151,9 @@ class Case(Quiet):
         self.server = WorldServer(self.folder, self.brain, self.world)
         self.addCleanup(self.server.close)
         for where, name, by in (
-            (postgres, "TICK", 0.02), (following, "STEP", 0.02), (following, "SLEEP", 0.02), (following, "ASK", 0.02),
-            (confirming, "QUIET", 0.05), (following, "FIRST_DELAY", 0.01), (adding, "FIRST_DELAY", 0.02), (adding, "Source", WorldSource),
-            (watching.Watch, "compare", lambda *_: True), (watching.Watch, "look_again", lambda *_: True),
+            (connection, "TICK", 0.02), (follower, "STEP", 0.02), (follower, "SLEEP", 0.02), (follower, "ASK", 0.02),
+            (statuses, "QUIET", 0.05), (follower, "FIRST_DELAY", 0.01), (adder, "FIRST_DELAY", 0.02), (adder, "Source", WorldSource),
+            (watch.Watch, "compare", lambda *_: True), (watch.Watch, "look_again", lambda *_: True),
         ):
             self.patch(where, name, by)
         WorldSource.world = self.world

@@ -10,8 +10,8 @@ from typing import cast
 from unittest import mock
 
 from pgsub_connect.errors import ServerError
-from pgsub_connect.postgres import Connection
-from pgsub_connect.trust import Protection
+from pgsub_connect.server.connection import Connection
+from pgsub_connect.server.transport import Protection
 
 Row = list[str | None]
 Answer = list[Row] | ServerError | Callable[[str], list[Row]]
@@ -131,6 +131,6 @@ class Quiet(unittest.TestCase):
 
     def setUp(self) -> None:
         self.said: list[str] = []
-        patch = mock.patch("pgsub_connect.log.line", lambda level, text: self.said.append(with_level(level, text)))
+        patch = mock.patch("pgsub_feed.log.line", lambda level, text: self.said.append(with_level(level, text)))
         patch.start()
         self.addCleanup(patch.stop)

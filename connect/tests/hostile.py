@@ -6,7 +6,7 @@ import json
 from collections.abc import Iterator
 from typing import Any
 
-from pgsub_connect.jsontexts import LONGEST
+from pgsub_feed.json_texts import LONGEST
 
 DEEP = 100000
 # What is no JSON, or no object of it, or one that no program should read.

@@ -7,9 +7,9 @@ from typing import Any
 from unittest import mock
 
 from feed_text import Line
-from pgsub_connect.options import Options
-from pgsub_connect.postgres import never
-from pgsub_connect.sinks import sinking
+from pgsub_connect.commands.options import Options
+from pgsub_connect.server.connection import never
+from pgsub_connect.commands import sink
 
 from .fake_redis import FakeCalls, FakeRedis
 from .feeds import FeedCase
@@ -35,7 +35,7 @@ class SinkCase(FeedCase):
         with logged() as told:
             words: dict[str, Any] = {"url": self.url, "once": True, **more}
             options = Options(command="sink", feed=str(self.path), **words)
-            self.assertEqual(sinking.run(options, never), 0)
+            self.assertEqual(sink.run(options, never), 0)
         return told[:-1]
 
     def fails(self, kind: type[Exception], text: str, **more: Any) -> None:
@@ -51,7 +51,7 @@ class RedisCase(SinkCase):
     def setUp(self) -> None:
         super().setUp()
         self.server = FakeRedis()
-        patched = mock.patch("pgsub_connect.sinks.redis_calls.Connection", lambda *_: FakeCalls(self.server))
+        patched = mock.patch("pgsub_feed.sinks.redis_calls.Connection", lambda *_: FakeCalls(self.server))
         patched.start()
         self.addCleanup(patched.stop)
 

@@ -12,13 +12,13 @@ import threading
 import time
 from collections.abc import Callable, Iterator
 
-from pgsub_connect.catalog import Column as CatalogColumn
-from pgsub_connect.catalog import Part, Shape
-from pgsub_connect.catalog import Table as CatalogTable
-from pgsub_connect.messages import relation as relation_body
-from pgsub_connect.postgres import Check
-from pgsub_connect.publishing import Column, Table
-from pgsub_connect.texts import parse_lsn
+from pgsub_connect.server.catalog import Column as CatalogColumn
+from pgsub_connect.server.catalog import Part, Shape
+from pgsub_connect.server.catalog import Table as CatalogTable
+from pgsub_connect.copy.messages import relation as relation_body
+from pgsub_connect.server.connection import Check
+from pgsub_connect.server.publications import Column, Table
+from pgsub_feed.texts import parse_lsn
 
 from .fake_server import FakeServer
 from .row_filter import Store, Subscriber

@@ -7,13 +7,13 @@ import dataclasses
 import unittest
 from unittest import mock
 
-from pgsub_connect import adding
-from pgsub_connect.adding import Adder
-from pgsub_connect.checkpoint import Checkpoint
+from pgsub_connect.add import adder as adder_module
+from pgsub_connect.add.adder import Adder
+from pgsub_connect.store.checkpoint import Checkpoint
 from pgsub_connect.errors import NoSlot, Passing, ServerError, Stopped
-from pgsub_connect.found import About
-from pgsub_connect.remembered import Remembered
-from pgsub_connect.replacing import Rows
+from pgsub_connect.drift.findings import About
+from pgsub_connect.drift.remembered import Remembered
+from pgsub_connect.add.replacement import Rows
 
 from .adding_case import OTHER, THIRD, Case, Run, T
 from .row_filter import Store
@@ -48,7 +48,7 @@ class Added(Case):
 
     def test_tables_that_the_initial_copy_has_left_for_later(self) -> None:
         """All of them are left out from the first session on, since their rows are a part at most; none needs a session of its own."""
-        self.patch(adding, "MOST", 1)
+        self.patch(adder_module, "MOST", 1)
         self.followed()
         self.spoil()
         Remembered(self.store).want_later([T, OTHER, THIRD])

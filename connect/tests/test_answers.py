@@ -6,10 +6,10 @@ from __future__ import annotations
 import unittest
 from collections.abc import Callable
 
-from pgsub_connect import catalog, facts, server
-from pgsub_connect.catalog import Partition, check_tree, ways_to
+from pgsub_connect.server import catalog, preflight, session
+from pgsub_connect.server.catalog import Partition, check_tree, ways_to
 from pgsub_connect.errors import ServerError, WrongAnswer, understood
-from pgsub_connect.postgres import Connection
+from pgsub_connect.server.connection import Connection
 
 from .fake_server import FakeServer, Quiet, Row, connection_to
 
@@ -32,17 +32,17 @@ class Reading(Quiet):
     def test_each(self) -> None:
         """It gives a value, or it is the server's error."""
         calls: tuple[Callable[[Connection], object], ...] = (
-            server.identify,
-            lambda it: server.left_at(it, 2, 1),
-            lambda it: server.slot_position(it, "pgsub"),
-            server.sender_timeout,
-            server.log_end,
-            server.postmaster_start,
+            session.identify,
+            lambda it: session.left_at(it, 2, 1),
+            lambda it: session.slot_position(it, "pgsub"),
+            session.sender_timeout,
+            session.log_end,
+            session.postmaster_start,
             lambda it: catalog.read_catalog(it, ["pgsub"]),
-            lambda it: facts.server_facts(it, "pgsub"),
-            facts.role_facts,
-            lambda it: facts.slot_facts(it, "pgsub"),
-            lambda it: facts.tables_facts(it, "SELECT"),
+            lambda it: preflight.server_facts(it, "pgsub"),
+            preflight.role_facts,
+            lambda it: preflight.slot_facts(it, "pgsub"),
+            lambda it: preflight.tables_facts(it, "SELECT"),
         )
         rejected = 0
         for rows in ANSWERS:

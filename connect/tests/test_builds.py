@@ -8,10 +8,10 @@ import tempfile
 import unittest
 from unittest import mock
 
-from pgsub_connect import builds
+from pgsub_connect import version as version_module
 from pgsub_connect.errors import Passing
-from pgsub_connect.filtering import Filter
-from pgsub_connect.words import version
+from pgsub_connect.follow.filter import Filter
+from pgsub_connect.commands.words import version
 
 FAKE = os.path.join(os.path.dirname(os.path.abspath(__file__)), "fake_filter.py")
 TEXT = "version 0.1.0+1\ncommit abc\nkit a-kit logic 1\nprogram 0123456789abcdef\n"
@@ -36,15 +36,15 @@ class Case(unittest.TestCase):
     def own(self, text: str = TEXT) -> None:
         """This connector is of a build."""
         self.write(text)
-        patched = mock.patch.object(builds, "OWN", builds.read_build(self.folder))
+        patched = mock.patch.object(version_module, "OWN", version_module.read_build(self.folder))
         patched.start()
         self.addCleanup(patched.stop)
 
     def test_a_checkout_takes_any(self) -> None:
-        self.assertEqual(builds.OWN, {})
+        self.assertEqual(version_module.OWN, {})
         self.child.start()
         self.write("version 9\n")
-        builds.check_program(self.program)
+        version_module.check_program(self.program)
 
     def test_the_same(self) -> None:
         self.own()
@@ -70,9 +70,9 @@ class Case(unittest.TestCase):
         self.own()
         os.mkdir(self.folder + "/bin")
         os.symlink(self.program, self.folder + "/bin/pgsub")
-        builds.check_program(self.folder + "/bin/pgsub")
+        version_module.check_program(self.folder + "/bin/pgsub")
         with mock.patch.dict(os.environ, {"PATH": self.folder + "/bin"}):
-            builds.check_program("pgsub")
+            version_module.check_program("pgsub")
 
 
 if __name__ == "__main__":

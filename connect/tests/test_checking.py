@@ -9,14 +9,15 @@ import json
 import unittest
 from unittest import mock
 
-from pgsub_connect import checking, facts
-from pgsub_connect.checking import ERROR, OK, WARNING, Purpose, Result, results
+from pgsub_connect.commands import check
+from pgsub_connect.server import preflight
+from pgsub_connect.commands.check import ERROR, OK, Purpose, Result, WARNING, results
 from pgsub_connect.errors import ServerError, UsageError
-from pgsub_connect.facts import Facts, Publication, Role, Slot, TableFacts, server_facts, slot_facts, source_wanted
-from pgsub_connect.making import Wanted
-from pgsub_connect.options import Options
-from pgsub_connect.trust import Protection
-from pgsub_connect.words import arguments
+from pgsub_connect.server.preflight import Facts, Publication, Role, Slot, TableFacts, server_facts, slot_facts, source_wanted
+from pgsub_connect.server.publication_setup import Wanted
+from pgsub_connect.commands.options import Options
+from pgsub_connect.server.transport import Protection
+from pgsub_connect.commands.words import arguments
 from tests.fake_server import FakeServer, connection_to
 
 SETTINGS = {
@@ -201,17 +202,17 @@ class Asking(unittest.TestCase):
 
     def test_what_a_copy_requires(self) -> None:
         with self.assertRaisesRegex(ServerError, "wal_level: replica") as raised:
-            checking.require(connection_to(self.server(150018)), Options(), copies=True)
+            check.require(connection_to(self.server(150018)), Options(), copies=True)
         self.assertTrue(raised.exception.is_lasting())
         with self.assertRaisesRegex(UsageError, "--failover needs PostgreSQL 17, and this is 15.18"):
-            checking.require(connection_to(self.server(150018)), Options(failover=True), copies=True)
+            check.require(connection_to(self.server(150018)), Options(failover=True), copies=True)
 
 
 class Printing(unittest.TestCase):
     def printed(self, found: Facts, **options: object) -> tuple[int, str]:
         out = io.StringIO()
-        with mock.patch.object(checking, "all_facts", lambda *_: found), contextlib.redirect_stdout(out):
-            status = checking.run(Options(publication=["pgsub"], **options))  # type: ignore[arg-type]
+        with mock.patch.object(check, "all_facts", lambda *_: found), contextlib.redirect_stdout(out):
+            status = check.run(Options(publication=["pgsub"], **options))  # type: ignore[arg-type]
         return status, out.getvalue()
 
     def test_lines(self) -> None:
@@ -227,7 +228,7 @@ class Printing(unittest.TestCase):
 
     def test_what_a_start_makes(self) -> None:
         for words, makes in (("--create --table t", True), ("--table t", True), ("--create --no-copy", True), ("--no-copy", False)):
-            purpose = checking.purpose_of(arguments(["check", *words.split()]))
+            purpose = check.purpose_of(arguments(["check", *words.split()]))
             self.assertEqual((purpose.makes, purpose.copies), (makes, "--no-copy" not in words), words)
 
     def test_warnings_are_no_error(self) -> None:
@@ -244,13 +245,13 @@ class Members(unittest.TestCase):
         self.server.answer("'rds_replication'", [["rds_replication"]])
 
     def test_the_server_is_asked_by_trying(self) -> None:
-        with mock.patch.object(facts, "Connection", self.server.connect):
-            found = facts.all_facts("", "pgsub", Wanted(["pgsub"]), lambda: None)
+        with mock.patch.object(preflight, "Connection", self.server.connect):
+            found = preflight.all_facts("", "pgsub", Wanted(["pgsub"]), lambda: None)
         self.assertEqual((found.has_replicated, found.replicators), (True, "rds_replication"))
         self.assertEqual([it.level for it in results(found, Purpose()) if it.name == "role"], [OK])
 
     def test_a_copy_begins_where_the_server_lets_it(self) -> None:
-        checking.require(connection_to(self.server), Options(), copies=True)
+        check.require(connection_to(self.server), Options(), copies=True)
 
 
 class Connecting(unittest.TestCase):
@@ -262,8 +263,8 @@ class Connecting(unittest.TestCase):
                 raise ServerError("no pg_hba.conf entry for replication connection")
             return server.connect(dsn)
 
-        with mock.patch.object(facts, "Connection", connect):
-            found = facts.all_facts("", "pgsub", Wanted(["pgsub"]), lambda: None)
+        with mock.patch.object(preflight, "Connection", connect):
+            found = preflight.all_facts("", "pgsub", Wanted(["pgsub"]), lambda: None)
         self.assertIn("pg_hba.conf", found.replication_error)
         self.assertEqual(server.opened, server.closed)
 

@@ -10,13 +10,13 @@ import unittest
 from typing import Any
 from unittest import mock
 
-from pgsub_connect import checkpoint as known_of
-from pgsub_connect.checkpoint import MISSING, SIZE, Checkpoint, Counted, Known, check_gap
-from pgsub_connect.checkpoint_lines import line_of
-from pgsub_connect.dropping import locked, read_known
+from pgsub_connect.store import checkpoint as known_of
+from pgsub_connect.store.checkpoint import Checkpoint, Counted, Known, MISSING, SIZE, check_gap
+from pgsub_connect.store.checkpoint_lines import line_of
+from pgsub_connect.commands.drop import locked, read_known
 from pgsub_connect.errors import FileError, Passing, Stopped, Unfit
-from pgsub_connect.resting import locked_checkpoint
-from pgsub_connect.words import KINDS
+from pgsub_connect.store.at_rest import locked_checkpoint
+from pgsub_connect.commands.words import KINDS
 
 from .fake_server import Quiet
 
@@ -116,7 +116,7 @@ class File(FileCase):
                     read_known(self.store + ".connector")
 
     def test_a_later_version(self) -> None:
-        with mock.patch("pgsub_connect.checkpoint_lines.VERSION", 3):
+        with mock.patch("pgsub_connect.store.checkpoint_lines.VERSION", 3):
             self.open().write(True, position=5)
         with self.assertRaisesRegex(FileError, r"of another version of this program \(3\)"):
             self.open_again()

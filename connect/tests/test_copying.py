@@ -12,20 +12,21 @@ from collections.abc import Callable, Sequence
 from typing import cast
 from unittest import mock
 
-from pgsub_connect import checkpoint as known_of
-from pgsub_connect import copying, making, reading, waiting
-from pgsub_connect.catalog import Catalog, Partition
-from pgsub_connect.catalog import Table as CatalogTable
-from pgsub_connect.checkpoint import Checkpoint
-from pgsub_connect.copying import CHANGED, Copier, Tries, altered_tables, create_slot
+from pgsub_connect.store import checkpoint as known_of
+from pgsub_connect.copy import copier as copier_module, table_reader
+from pgsub_connect.server import publication_setup, waits as waits_module
+from pgsub_connect.server.catalog import Catalog, Partition
+from pgsub_connect.server.catalog import Table as CatalogTable
+from pgsub_connect.store.checkpoint import Checkpoint
+from pgsub_connect.copy.copier import CHANGED, Copier, Tries, altered_tables, create_slot
 from pgsub_connect.errors import Passing, ServerError, Stopped, Unfit, UsageError
-from pgsub_connect.filtering import Filter, FilterEnded
-from pgsub_connect.messages import InsertHeads, begin, commit, frame, inserts, relation
-from pgsub_connect.options import Options
-from pgsub_connect.progress import Progress
-from pgsub_connect.publishing import Column, Table
-from pgsub_connect.remembered import Remembered
-from pgsub_connect.snapshots import part_of
+from pgsub_connect.follow.filter import Filter, FilterEnded
+from pgsub_connect.copy.messages import InsertHeads, begin, commit, frame, inserts, relation
+from pgsub_connect.commands.options import Options
+from pgsub_connect.status.progress import Progress
+from pgsub_connect.server.publications import Column, Table
+from pgsub_connect.drift.remembered import Remembered
+from pgsub_connect.store.snapshot import part_of
 from tests.fake_server import FakeServer, Quiet, Row
 from tests.row_filter import Store, Subscriber
 from tests.vectors import PGSUB, a_catalog, a_table
@@ -102,14 +103,14 @@ class Copying(Quiet):
         server.answer("pg_drop_replication_slot", self.slot_dropped)
         server.lines = [b"1\t5\n", b"2\t\\N\n"]
         self.tables = [STOCK]
-        for module in (copying, making, waiting, reading):
+        for module in (copier_module, publication_setup, waits_module, table_reader):
             self.patch(module, "Connection", server.connect)
-        self.patch(reading, "LOOK", 0.001)
-        self.patch(copying, "published_tables", lambda *_: list(self.tables))
-        self.patch(making, "publishable_tables", lambda _: ['"public"."stock"'])
+        self.patch(table_reader, "LOOK", 0.001)
+        self.patch(copier_module, "published_tables", lambda *_: list(self.tables))
+        self.patch(publication_setup, "publishable_tables", lambda _: ['"public"."stock"'])
         self.patch(Copier, "sleep", lambda copier, seconds: self.slept.append(seconds))
         self.slept: list[float] = []
-        self.patch(copying, "read_catalog", lambda _, names: Catalog(tuple(names), 0, 0, {}, {}, {}, {}))
+        self.patch(copier_module, "read_catalog", lambda _, names: Catalog(tuple(names), 0, 0, {}, {}, {}, {}))
 
     def made(self) -> dict[str, int]:
         """The publications that are remembered as made, in the file."""
@@ -151,7 +152,7 @@ class Locks(Copying):
         """Lets a command take long, and returns what is told of it."""
 
         def wait(_: str) -> list[Row]:
-            with mock.patch("time.monotonic", return_value=time.monotonic() + waiting.FIRST):
+            with mock.patch("time.monotonic", return_value=time.monotonic() + waits_module.FIRST):
                 for connection in list(self.server.open):
                     connection.check()
             return []
@@ -198,8 +199,8 @@ class Sent(Copying):
 
     def test_parts(self) -> None:
         """A part ends with the block that fills it, and each part is a transaction."""
-        self.patch(reading, "PART", 200)
-        self.patch(reading, "BLOCK", 1)
+        self.patch(table_reader, "PART", 200)
+        self.patch(table_reader, "BLOCK", 1)
         self.server.lines = [b"%d\t0\n" % number for number in range(5)]
         self.copier().run()
         wanted, lines = [frame(1, begin(1)), frame(0, relation(STOCK))], self.server.lines
@@ -292,7 +293,7 @@ class Order(Copying):
         for after in ([other], [STOCK, Table(16390, "public", "new", "r", "d", None, None, [])]):
             left = [[STOCK], after, after]
             self.setUp()
-            self.patch(copying, "published_tables", lambda *_, left=left: left.pop(0))
+            self.patch(copier_module, "published_tables", lambda *_, left=left: left.pop(0))
             self.copier().run()
             self.assertEqual(list(self.later()), [after[-1].oid])
             self.assertEqual(self.progress.copied_rows, 2 if len(after) > 1 else 0)
@@ -345,7 +346,7 @@ class Order(Copying):
 
     def test_a_table_that_goes_meanwhile_is_forgotten(self) -> None:
         """Nothing of it was stored, so nothing is wrong."""
-        self.patch(copying, "read_catalog", lambda *_: a_catalog(a_table(16385, "stock")))
+        self.patch(copier_module, "read_catalog", lambda *_: a_catalog(a_table(16385, "stock")))
 
         def lock(_: str) -> list[Row]:
             self.tables = []
@@ -360,17 +361,17 @@ class Order(Copying):
 
     def test_a_table_that_is_published_beside_the_slot_is_named(self) -> None:
         """What is told of it says its name."""
-        self.patch(copying, "read_catalog", lambda *_: a_catalog(a_table(16385, "stock")))
+        self.patch(copier_module, "read_catalog", lambda *_: a_catalog(a_table(16385, "stock")))
         both = [STOCK, dataclasses.replace(STOCK, oid=16395, name="more")]
         looks = iter([[STOCK], both, both])
-        self.patch(copying, "published_tables", lambda *_: next(looks))
+        self.patch(copier_module, "published_tables", lambda *_: next(looks))
         self.copier().run()
         remembered = Remembered(self.store)
         text = "table public.more (16395) isn't copied yet: it was published while the slot was made"
         self.assertEqual((self.later(), remembered.found_of(16395)), ({16395: ""}, [text]))
 
     def test_a_table_that_others_keep_locked_is_added_by_itself(self) -> None:
-        self.patch(reading, "PATIENCE", 0.02)
+        self.patch(table_reader, "PATIENCE", 0.02)
         self.server.answer("LOCK TABLE", ServerError("could not obtain lock", "55P03"))
         self.copier().run()
         self.assertEqual((self.later(), self.server.told("COPY (")), ({16385: ""}, []))
@@ -442,7 +443,7 @@ class Ends(Copying):
 
     def test_publications_that_change_at_each_attempt(self) -> None:
         numbers = iter(range(1000))
-        self.patch(copying, "read_catalog", lambda *_: a_catalog(publication=dataclasses.replace(PGSUB, oid=next(numbers))))
+        self.patch(copier_module, "read_catalog", lambda *_: a_catalog(publication=dataclasses.replace(PGSUB, oid=next(numbers))))
         with self.assertRaisesRegex(Passing, f"{CHANGED}; 20 attempts to copy"):
             self.copier().run()
         self.assertEqual((len(self.slept), set(self.slept)), (19, {1.0}))
@@ -461,7 +462,7 @@ class Ends(Copying):
         def connect(*_: object, **__: object) -> object:
             raise ServerError("no route")
 
-        self.patch(copying, "Connection", connect)
+        self.patch(copier_module, "Connection", connect)
         with self.assertRaises(Passing):
             self.copier().run()
 
@@ -513,7 +514,7 @@ class Ends(Copying):
 
     def test_a_slot_that_is_lost_while_rows_come(self) -> None:
         """Nothing can follow on the copy, so it ends at once, and the next start copies anew."""
-        self.patch(copying, "LOOK", 0.0)
+        self.patch(copier_module, "LOOK", 0.0)
         self.server.answer("SELECT s.wal_status", lambda _: [["lost" if self.server.told("COPY (") else "reserved"]])
         self.server.answer("COPY (", [])
         with self.assertRaisesRegex(ServerError, "the slot pgsub is lost: .*max_slot_wal_keep_size") as raised:
@@ -528,7 +529,7 @@ class Ends(Copying):
             with self.subTest(version):
                 self.setUp()
                 self.server.server_version = version
-                self.patch(copying, "LOOK", 0.0)
+                self.patch(copier_module, "LOOK", 0.0)
                 self.server.answer("SELECT s.wal_status", [["reserved"]])
                 self.server.answer("ALTER_REPLICATION_SLOT", ServerError("it is active for PID 7", "55006"))
                 self.copier().run()
@@ -536,7 +537,7 @@ class Ends(Copying):
 
     def test_a_slot_is_looked_at_while_a_filter_opens_its_store(self) -> None:
         self.server.server_version = 180000
-        self.patch(copying, "LOOK", 0.0)
+        self.patch(copier_module, "LOOK", 0.0)
         self.server.answer("SELECT s.wal_status", [["reserved"]])
         looks, start = list[int](), FakeFilter.start
 
@@ -551,7 +552,7 @@ class Ends(Copying):
         self.assertEqual(set(looks), {1})
 
     def test_how_often_depends_on_when_it_is_ended(self) -> None:
-        for said, often, warned in ((None, copying.LOOK, False), ("0", copying.LOOK, False), ("86400", copying.LOOK, False), ("30", 10.0, False), ("3", 1.0, True)):
+        for said, often, warned in ((None, copier_module.LOOK, False), ("0", copier_module.LOOK, False), ("86400", copier_module.LOOK, False), ("30", 10.0, False), ("3", 1.0, True)):
             with self.subTest(said):
                 self.setUp()
                 self.server.server_version = 170000 if said is None else 180000
@@ -566,7 +567,7 @@ class Ends(Copying):
         self.copier().run()
         self.assertEqual(self.server.told("SELECT s.wal_status"), [])
         self.setUp()
-        self.patch(copying, "LOOK", 0.0)
+        self.patch(copier_module, "LOOK", 0.0)
         self.server.answer("SELECT s.wal_status", [["extended"]])
         self.copier().run()
         self.assertLess(self.server.index("pg_copy_logical_replication_slot"), self.server.index("SELECT s.wal_status"))
@@ -657,7 +658,7 @@ class Kept(Copying):
 
     def test_a_table_that_was_published_meanwhile(self) -> None:
         """What is told of it says its name, and goes once the table is added."""
-        self.patch(copying, "read_catalog", lambda *_: a_catalog(a_table(16385, "stock"), a_table(16390, "other")))
+        self.patch(copier_module, "read_catalog", lambda *_: a_catalog(a_table(16385, "stock"), a_table(16390, "other")))
         self.cut()
         self.position = 2
         self.tables.append(dataclasses.replace(OTHER, oid=16395, name="more"))
@@ -672,9 +673,9 @@ class Kept(Copying):
 
     def test_a_table_that_leaves_while_the_slot_is_made(self) -> None:
         """It isn't copied, and not remembered."""
-        self.patch(copying, "read_catalog", lambda *_: a_catalog(a_table(16385, "stock"), a_table(16390, "other")))
+        self.patch(copier_module, "read_catalog", lambda *_: a_catalog(a_table(16385, "stock"), a_table(16390, "other")))
         looks = iter([[STOCK, OTHER], [STOCK]])
-        self.patch(copying, "published_tables", lambda *_: next(looks, [STOCK]))
+        self.patch(copier_module, "published_tables", lambda *_: next(looks, [STOCK]))
         self.copier().run()
         remembered = Remembered(self.store)
         self.assertEqual(remembered.catalog and list(remembered.catalog.tables), [16385])
@@ -753,8 +754,8 @@ class Kept(Copying):
 
     def test_several_connections(self) -> None:
         """Each part is one transaction, with the rows of one table."""
-        self.patch(reading, "PART", 300)
-        self.patch(reading, "BLOCK", 1)
+        self.patch(table_reader, "PART", 300)
+        self.patch(table_reader, "BLOCK", 1)
         self.server.lines = [b"%d\t%d\n" % (it, it * it) for it in range(200)]
         self.copier(jobs=2).run()
         self.assertGreater(self.server.opened, 4)
@@ -856,7 +857,7 @@ class Slots(Copying):
         self.assertEqual((again.made, again.publications()), ({"pgsub": 777}, ["pgsub"]))
 
     def test_a_slot_goes_where_nothing_comes_of_it(self) -> None:
-        self.patch(copying, "read_catalog", mock.Mock(side_effect=Stopped))
+        self.patch(copier_module, "read_catalog", mock.Mock(side_effect=Stopped))
         with self.assertRaises(Stopped):
             create_slot(self.options(), lambda: None, Remembered(self.store))
         self.assertEqual(self.server.told("DROP_REPL"), ['DROP_REPLICATION_SLOT "pgsub"'])
@@ -895,14 +896,14 @@ class Waiting(Quiet):
         self.server = FakeServer()
         self.server.answer("pg_stat_activity", [["5", "app", "shop", "70"], ["6", "x", "y", None]])
         self.server.answer("pg_prepared_xacts", [["gid'1", "app", "other", "700"]])
-        patch = mock.patch.object(waiting, "Connection", self.server.connect)
+        patch = mock.patch.object(waits_module, "Connection", self.server.connect)
         patch.start()
         self.addCleanup(patch.stop)
 
     def test_it_is_told_after_ten_seconds_and_each_minute(self) -> None:
         clock = [100.0]
         with mock.patch("time.monotonic", lambda: clock[0]):
-            waits = waiting.Waiting("", "pgsub", lambda: None)
+            waits = waits_module.Waiting("", "pgsub", lambda: None)
             for now, lines in ((109.9, 0), (110.0, 1), (169.0, 1), (170.1, 2), (200.0, 2)):
                 clock[0] = now
                 waits.check()
@@ -916,20 +917,20 @@ class Waiting(Quiet):
 
     def test_locks(self) -> None:
         self.server.answer("pg_blocking_pids(4711)", [["8", "app", "shop", "12"]])
-        with mock.patch.object(waiting, "FIRST", 0):
-            waiting.Waiting("", "pgsub", lambda: None, waiting.lock_text("the copy", 4711)).check()
+        with mock.patch.object(waits_module, "FIRST", 0):
+            waits_module.Waiting("", "pgsub", lambda: None, waits_module.lock_text("the copy", 4711)).check()
         self.assertEqual(self.said, ["the copy waits for the locks of process 8 (app, database shop) for 12 s"])
 
     def test_what_takes_long_without_a_lock(self) -> None:
         self.server.answer("pg_blocking_pids(4711)", [])
-        with mock.patch.object(waiting, "FIRST", 0):
-            waiting.Waiting("", "pgsub", lambda: None, waiting.lock_text("the copy", 4711)).check()
+        with mock.patch.object(waits_module, "FIRST", 0):
+            waits_module.Waiting("", "pgsub", lambda: None, waits_module.lock_text("the copy", 4711)).check()
         self.assertEqual((self.said, self.server.opened, self.server.closed), ([], 1, 1))
 
     def test_a_standby(self) -> None:
         self.server.answer("pg_is_in_recovery", [["t"]])
-        with mock.patch.object(waiting, "FIRST", 0):
-            waiting.Waiting("", "pgsub", lambda: None).check()
+        with mock.patch.object(waits_module, "FIRST", 0):
+            waits_module.Waiting("", "pgsub", lambda: None).check()
         self.assertIn("pg_log_standby_snapshot()", self.said[0])
 
     def test_a_signal_is_heard(self) -> None:
@@ -937,7 +938,7 @@ class Waiting(Quiet):
             raise Stopped
 
         with self.assertRaises(Stopped):
-            waiting.Waiting("", "pgsub", stop).check()
+            waits_module.Waiting("", "pgsub", stop).check()
 
 
 if __name__ == "__main__":

@@ -7,12 +7,12 @@ import unittest
 from collections.abc import Callable
 from unittest import mock
 
-from pgsub_connect.adding import Adder
-from pgsub_connect.checkpoint import Checkpoint
-from pgsub_connect.dropping import read_known
-from pgsub_connect.following import Follower
-from pgsub_connect.remembered import Remembered
-from pgsub_connect.replacing import Leaving
+from pgsub_connect.add.adder import Adder
+from pgsub_connect.store.checkpoint import Checkpoint
+from pgsub_connect.commands.drop import read_known
+from pgsub_connect.follow.follower import Follower
+from pgsub_connect.drift.remembered import Remembered
+from pgsub_connect.add.replacement import Leaving
 
 from .adding_case import Case, Run, T
 from .small_world import WorldSource

@@ -6,9 +6,9 @@ import dataclasses
 import unittest
 from collections.abc import Sequence
 
-from pgsub_connect.catalog import Catalog, Part, Partition, Publication, Table, note_since, ways_to
-from pgsub_connect.differences import NAMES, PUBLICATION, VALUES, Difference, differences, shape_differences
-from pgsub_connect.found import NOTHING, About
+from pgsub_connect.server.catalog import Catalog, Part, Partition, Publication, Table, note_since, ways_to
+from pgsub_connect.drift.differences import Difference, NAMES, PUBLICATION, VALUES, differences, shape_differences
+from pgsub_connect.drift.findings import About, NOTHING
 
 from .vectors import ID, NAME, PGSUB, a_catalog, a_shape, a_table
 

@@ -4,9 +4,9 @@ from __future__ import annotations
 
 import unittest
 
-from pgsub_connect.digests import MOST_CHUNKS, Field, NotText, Plan, Queries, Summing, Sums, chunks_for, fields_in, fields_of, text_of
-from pgsub_connect.publishing import Column, Table
-from pgsub_connect.values import Malformed
+from pgsub_connect.verify.digests import Field, MOST_CHUNKS, NotText, Plan, Queries, Summing, Sums, chunks_for, fields_in, fields_of, text_of
+from pgsub_connect.server.publications import Column, Table
+from pgsub_feed.tables.values import Malformed
 
 from .stores import Cell, spelled
 

@@ -7,10 +7,10 @@ import re
 import unittest
 from unittest import mock
 
-from pgsub_connect import doubting
-from pgsub_connect.catalog import Catalog, Partition
-from pgsub_connect.differences import differences
-from pgsub_connect.doubting import resolved
+from pgsub_connect.drift import doubts
+from pgsub_connect.server.catalog import Catalog, Partition
+from pgsub_connect.drift.differences import differences
+from pgsub_connect.drift.doubts import resolved
 from pgsub_connect.errors import ServerError
 
 from .fake_server import FakeServer, Row, connection_to
@@ -115,7 +115,7 @@ class Values(Case):
             resolved(connection_to(self.server), a_catalog(T), a_catalog(AGAIN))
 
     def test_no_time_is_left(self) -> None:
-        with mock.patch.object(doubting, "ALL", 0):
+        with mock.patch.object(doubts, "ALL", 0):
             self.assertEqual(self.resolved(a_catalog(T), a_catalog(AGAIN)), (set(), set()))
         self.assertEqual(self.server.told("SELECT EXISTS"), [])
 

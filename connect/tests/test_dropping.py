@@ -7,11 +7,11 @@ import json
 import os
 from unittest import mock
 
-from pgsub_connect import dropping
-from pgsub_connect.checkpoint import Checkpoint
-from pgsub_connect.dropping import Dropper, ask_terminal, files_of
+from pgsub_connect.commands import drop
+from pgsub_connect.store.checkpoint import Checkpoint
+from pgsub_connect.commands.drop import Dropper, ask_terminal, files_of
 from pgsub_connect.errors import FileError, Passing, ServerError, Unfit
-from pgsub_connect.options import Options
+from pgsub_connect.commands.options import Options
 from tests.fake_server import FakeServer, Quiet, Row
 
 FILES = ("", "-wal", "-shm", ".connector", ".tables", ".copying", ".copying-wal")
@@ -39,7 +39,7 @@ class Dropping(Quiet):
             "SELECT p.oid FROM pg_catalog.pg_publication p",
             lambda command: [[oid] for name, oid in self.publications.items() if command.endswith(f"'{name}'")],
         )
-        patch = mock.patch.object(dropping, "Connection", server.connect)
+        patch = mock.patch.object(drop, "Connection", server.connect)
         patch.start()
         self.addCleanup(patch.stop)
         self.asked: list[str] = []
@@ -122,7 +122,7 @@ class Dropping(Quiet):
 
     def test_an_active_slot(self) -> None:
         self.slots = [["t", "t"]]
-        with mock.patch.object(dropping, "PATIENCE", 0):
+        with mock.patch.object(drop, "PATIENCE", 0):
             self.refused(Passing, "the slot s1 is active")
 
     def test_a_connector_at_work(self) -> None:

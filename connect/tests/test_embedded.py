@@ -5,7 +5,7 @@ from __future__ import annotations
 import unittest
 from collections.abc import Callable
 
-from pgsub_connect.embedded import ROOM, Fault, Library, Room, Subscriber, with_room
+from pgsub_connect.embedded import Fault, Library, ROOM, Room, Subscriber, with_room
 
 
 class Rooms(unittest.TestCase):

@@ -13,13 +13,13 @@ from collections.abc import Sequence
 from typing import Any
 from unittest import mock
 
-from pgsub_connect import exporting
+from pgsub_connect.store import export as export_module
 from pgsub_connect.cli import FILE, UNFIT, USAGE, main
 from pgsub_connect.errors import FileError, Passing, Stopped, Unfit, UsageError
-from pgsub_connect.exporting import run
-from pgsub_connect.options import Options
-from pgsub_connect.postgres import never
-from pgsub_connect.remembered import Relation, Remembered
+from pgsub_connect.store.export import run
+from pgsub_connect.commands.options import Options
+from pgsub_connect.server.connection import never
+from pgsub_connect.drift.remembered import Relation, Remembered
 
 from .stores import StoreCase, spelled
 from .vectors import ID, NAME, a_catalog, a_shape, a_table, logged
@@ -211,7 +211,7 @@ class Keys(Case):
         self.store.table(3, "one", [(1, "a", 23, -1)])
         self.store.row(3, "5")
         self.store.row(3, None)
-        with mock.patch.object(exporting, "ROOM", 0):
+        with mock.patch.object(export_module, "ROOM", 0):
             told = self.export()
         self.assertEqual(["null in the key" in it for it in told], [True] * 3)
         self.assertEqual(self.rows("SELECT * FROM t1"), [(1, 1), (2, None), (3, 3), (None, 1)])
@@ -224,7 +224,7 @@ class Keys(Case):
         for key in ("0", "-0", "1"):
             self.store.row(1, key, key)
         for room in (0, 1 << 20):
-            with mock.patch.object(exporting, "ROOM", room):
+            with mock.patch.object(export_module, "ROOM", room):
                 self.assertIn("equal keys", self.export()[0])
             self.assertEqual(self.rows("SELECT a, b FROM t"), [(0.0, "0"), (0.0, "-0"), (1.0, "1")])
 
@@ -488,7 +488,7 @@ class Files(Case):
                 run(self.options(), never)
 
     def test_a_disk_that_is_full(self) -> None:
-        with mock.patch.object(exporting.Export, "begin", side_effect=sqlite3.OperationalError("database or disk is full")):
+        with mock.patch.object(export_module.Export, "begin", side_effect=sqlite3.OperationalError("database or disk is full")):
             with self.assertRaisesRegex(Passing, "disk is full"):
                 run(self.options(), never)
         self.assertEqual(self.left(), [])
@@ -516,7 +516,7 @@ class Memory(Case):
                 tracemalloc.stop()
 
         self.store.table(1, "t")
-        with mock.patch.object(exporting, "ROOM", 1 << 15):
+        with mock.patch.object(export_module, "ROOM", 1 << 15):
             self.assertLess(peak(1000), 1.3 * peak(250))
 
 

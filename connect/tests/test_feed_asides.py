@@ -8,9 +8,9 @@ import sqlite3
 
 from feed_text import About, Column, Line
 from pgsub_connect.errors import FileError
-from pgsub_connect.feed import tabling
-from pgsub_connect.feed.rowsfile import Rows
-from pgsub_connect.postgres import never
+from pgsub_connect.commands import tables
+from pgsub_feed.tables.file import Rows
+from pgsub_connect.server.connection import never
 
 from .feeds import ID, NAME, delete, insert, table, truncate, update
 from .test_feed_tables import TablesCase
@@ -66,7 +66,7 @@ class Altered(AsideCase):
     def test_the_last_line_names_the_cure(self) -> None:
         (self.folder / "copy.connector").touch()
         with logged() as told:
-            self.assertEqual(tabling.run(self.options(), never), 1)
+            self.assertEqual(tables.run(self.options(), never), 1)
         self.assertRegex(told[-1], f"^error: {self.into} lacks public.stock, .*: pgsub-connect add --store {self.folder}/copy --table public.stock$")
 
     def test_its_rows_come_anew(self) -> None:
@@ -104,7 +104,7 @@ class Altered(AsideCase):
         """What is set aside is told once the file has it."""
         self.feed.put(self.feed.text(0x300, [insert("9", "z", of=OTHER)])[:-20] + bytes(20))
         with logged() as told, self.assertRaises(FileError):
-            tabling.run(self.options(), never)
+            tables.run(self.options(), never)
         self.assertEqual(self.tables(), ["bag", "other", "stock"])
         self.assertEqual([it for it in told if "set aside" in it], [])
 
@@ -135,7 +135,7 @@ class Altered(AsideCase):
         self.run_it(1)
         base, self.into = self.into, str(self.folder / "rows2.db")
         with logged():
-            self.assertEqual(tabling.run(self.options(base=base), never), 1)
+            self.assertEqual(tables.run(self.options(base=base), never), 1)
         self.assertEqual(self.asides()[0][:2], ("public.stock", "0/200"))
 
 
@@ -172,7 +172,7 @@ class Others(AsideCase):
         self.plant("DROP TABLE stock")
         self.take(delete("1", "a"))
         with logged(), self.assertRaisesRegex(FileError, "no such table"):
-            tabling.run(self.options(), never)
+            tables.run(self.options(), never)
 
     def test_a_view_of_what_is_gone(self) -> None:
         """It fails where it is read, and nothing else does."""

@@ -9,12 +9,12 @@ from typing import Any
 
 from feed_text import Column, Definition, Line
 from pgsub_connect.errors import FileError
-from pgsub_connect.feed import tabling
-from pgsub_connect.feed.applying import Applier
-from pgsub_connect.feed.digesting import Digest, read_digests
-from pgsub_connect.feed.reading import Reader
-from pgsub_connect.feed.rowsfile import Rows
-from pgsub_connect.postgres import never
+from pgsub_connect.commands import tables
+from pgsub_feed.tables.applier import Applier
+from pgsub_feed.tables.digests import Digest, read_digests
+from pgsub_feed.reader.segments import Reader
+from pgsub_feed.tables.file import Rows
+from pgsub_connect.server.connection import never
 
 from .feeds import ID, NAME, delete, insert, table, truncate, update
 from .test_feed_tables import TablesCase
@@ -46,7 +46,7 @@ class DigestsCase(TablesCase):
     def keep(self, **more: Any) -> dict[int, Digest]:
         """Takes what is there. Returns the digests."""
         with logged():
-            tabling.run(self.options(**more), never)
+            tables.run(self.options(**more), never)
         return self.digests()
 
     def has(self, *rows: list[str | None], oid: int = 1) -> None:

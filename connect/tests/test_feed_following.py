@@ -18,13 +18,13 @@ from unittest import mock
 from feed_text import About, Column, Line, entry_text
 from pgsub_connect.cli import Start, stop_by_signals
 from pgsub_connect.errors import Passing, Unfit
-from pgsub_connect.feed import awaiting, tabling
-from pgsub_connect.feed.faults import Damaged
-from pgsub_connect.feed.parts import Commit
-from pgsub_connect.feed.polling import Poll
-from pgsub_connect.feed.rowsfile import Rows
-from pgsub_connect.options import Options
-from pgsub_connect.postgres import never
+from pgsub_connect.commands import tables as tables_module, wait
+from pgsub_feed.faults import Damaged
+from pgsub_feed.reader.commits import Commit
+from pgsub_feed.reader.polling import Poll
+from pgsub_feed.tables.file import Rows
+from pgsub_connect.commands.options import Options
+from pgsub_connect.server.connection import never
 
 from .feeds import ID, NAME, FeedCase, delete, insert, table, truncate, update
 from .vectors import logged
@@ -118,7 +118,7 @@ class FollowingCase(FeedCase):
         def call() -> int:
             start = Start()
             stop_by_signals(start)
-            return tabling.run(self.options, start.check)
+            return tables_module.run(self.options, start.check)
 
         self.child = self.fork(call)
 
@@ -132,7 +132,7 @@ class FollowingCase(FeedCase):
         while not os.path.exists(self.into):
             time.sleep(0.01)
         with logged():
-            self.assertEqual(awaiting.run(Options(command="wait", tables=self.into, lsn=lsn, within=50), never), 0)
+            self.assertEqual(wait.run(Options(command="wait", tables=self.into, lsn=lsn, within=50), never), 0)
 
     def write(self, end: int, lines: list[Line], rng: random.Random) -> None:
         """Writes a commit in pieces; sometimes it is cut off, and written again."""
@@ -182,21 +182,21 @@ class Following(FollowingCase):
         for at in (0, 0x100, 0x150, 0x1000, self.feed.at):
             self.options = Options(command="tables", feed=str(self.path), into=f"{self.folder}/{at}.db", once=True, at=at)
             with logged():
-                self.assertEqual(tabling.run(self.options, never), 0)
+                self.assertEqual(tables_module.run(self.options, never), 0)
             self.assertEqual(read(self.options.into), (at & ~0xFF, history.rows[at & ~0xFF]))
         self.options.at = self.feed.at + 1
         with logged(), self.assertRaisesRegex(Passing, "the feed has reached 0/2800, and 0/2801 not yet"):
-            tabling.run(self.options, never)
+            tables_module.run(self.options, never)
         self.feed.confirm(self.feed.at + 1)
         with logged():
-            self.assertEqual(tabling.run(self.options, never), 0)
+            self.assertEqual(tables_module.run(self.options, never), 0)
 
     def test_what_is_confirmed_behind_the_last_look(self) -> None:
         """Then that isn't the last one: what the feed has up to the LSN may have come since."""
         self.feed.commit(0x100, [insert("1", "a", of=KEYED)])
         self.feed.commit(0x200, [insert("2", "b", of=KEYED)], About(0x1FF, 2, 0))
         self.options.once, self.options.at = True, 0x200
-        look, settle = Poll.next, tabling.Tables.settle
+        look, settle = Poll.next, tables_module.Tables.settle
 
         def look_before(poll: Poll) -> Commit | None:
             commit = look(poll)
@@ -204,15 +204,15 @@ class Following(FollowingCase):
                 self.feed.confirm(0x200)
             return commit
 
-        def settle_before(tables: tabling.Tables) -> None:
+        def settle_before(tables: tables_module.Tables) -> None:
             settle(tables)
             self.feed.confirm(0x200)
 
-        with logged(), mock.patch.object(tabling.Tables, "settle", settle_before), self.assertRaisesRegex(Passing, "has reached 0/100, and 0/200 not"):
-            tabling.run(self.options, never)
+        with logged(), mock.patch.object(tables_module.Tables, "settle", settle_before), self.assertRaisesRegex(Passing, "has reached 0/100, and 0/200 not"):
+            tables_module.run(self.options, never)
         self.feed.confirm(0x100)
         with logged(), mock.patch.object(Poll, "next", look_before):
-            self.assertEqual(tabling.run(self.options, never), 0)
+            self.assertEqual(tables_module.run(self.options, never), 0)
         self.assertEqual(read(self.into), (0x200, (Counter([(1, "a"), (2, "b")]), Counter())))
 
     def test_many_commits_in_one_transaction(self) -> None:
@@ -227,7 +227,7 @@ class Following(FollowingCase):
             settled.append(at)
 
         with logged(), mock.patch.object(Rows, "settle", note):
-            tabling.run(self.options, never)
+            tables_module.run(self.options, never)
         self.assertLess(len(settled), 10)
         self.assertEqual(read(self.into)[0], 0xFF00)
 
@@ -237,8 +237,8 @@ class Following(FollowingCase):
         self.feed.put(text.replace(b'"n":1', b'"n":2'))
         for once in (True, False):
             self.options.once = once
-            with logged(), self.assertRaisesRegex(Damaged, "reading 6 Counts"), mock.patch("pgsub_connect.feed.polling.PATIENCE", 0.1):
-                tabling.run(self.options, never)
+            with logged(), self.assertRaisesRegex(Damaged, "reading 6 Counts"), mock.patch("pgsub_feed.reader.polling.PATIENCE", 0.1):
+                tables_module.run(self.options, never)
             self.assertEqual(read(self.into), (0, (Counter(), Counter())))
 
     def test_lines_that_are_mended(self) -> None:
@@ -264,7 +264,7 @@ class Following(FollowingCase):
 
         def run_it() -> object:
             with logged():
-                tabling.run(self.options, never)
+                tables_module.run(self.options, never)
             return read(self.into)
 
         for end in (0x200, 0x300):
@@ -291,7 +291,7 @@ class Transactions(FollowingCase):
         self.feed.commit(0x200, [insert("2", "b", of=KEYED)])
         self.options.once = True
         with logged(), mock.patch.object(Rows, "set_up", traced):
-            tabling.run(self.options, never)
+            tables_module.run(self.options, never)
         words = [it.split()[0] for it in told if it.startswith(("BEGIN", "INSERT INTO \"keyed\"", "UPDATE pgsub_position", "COMMIT"))]
         self.assertEqual(words, ["BEGIN", "UPDATE", "COMMIT", "BEGIN", "INSERT", "INSERT", "UPDATE", "COMMIT"])
 
@@ -299,11 +299,11 @@ class Transactions(FollowingCase):
         self.feed.commit(0x100, [insert("1", "a", of=KEYED)])
         self.options.once = True
         with logged():
-            tabling.run(self.options, never)
+            tables_module.run(self.options, never)
         rows = Rows(self.into)
         self.feed.commit(0x200, [insert("2", "b", of=KEYED)])
         with logged():
-            tabling.run(self.options, never)
+            tables_module.run(self.options, never)
         with contextlib.closing(rows.db), self.assertRaisesRegex(Exception, "another process has written it meanwhile"):
             rows.begin()
 
@@ -315,13 +315,13 @@ class Back(FollowingCase):
         """A copy of the file, as of an LSN."""
         into = f"{self.folder}/back-{at}.db"
         with logged():
-            tabling.run(Options(command="tables", feed=str(self.path), into=into, base=self.into, once=True, at=at, **more), never)
+            tables_module.run(Options(command="tables", feed=str(self.path), into=into, base=self.into, once=True, at=at, **more), never)
         return into
 
     def run_it(self) -> None:
         self.options.once = True
         with logged():
-            tabling.run(self.options, never)
+            tables_module.run(self.options, never)
 
     def test_to_each_lsn(self) -> None:
         history = History(random.Random(30), 60)
@@ -353,7 +353,7 @@ class Back(FollowingCase):
             self.copied(0x200)
         new = Options(command="tables", feed=str(self.path), base=str(self.folder / "base.db"), into=f"{self.folder}/new.db", once=True, at=0x200)
         with logged():
-            self.assertEqual(tabling.run(new, never), 0)
+            self.assertEqual(tables_module.run(new, never), 0)
         self.assertEqual(read(new.into)[1][0], Counter([(1, "a"), (2, "b")]))
 
     def test_there_and_back(self) -> None:

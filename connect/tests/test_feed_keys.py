@@ -10,12 +10,12 @@ from pathlib import Path
 from unittest import mock
 
 from feed_text import Cell, Column, Definition, Line
-from pgsub_connect.exporting import run as export
-from pgsub_connect.feed.rowsfile import Rows
-from pgsub_connect.feed.tabling import Tables
-from pgsub_connect.options import Options
-from pgsub_connect.postgres import never
-from pgsub_connect.remembered import Remembered
+from pgsub_connect.store.export import run as export
+from pgsub_feed.tables.file import Rows
+from pgsub_connect.commands.tables import Tables
+from pgsub_connect.commands.options import Options
+from pgsub_connect.server.connection import never
+from pgsub_connect.drift.remembered import Remembered
 
 from .feeds import delete, insert, table, truncate, update
 from .stores import Store
@@ -114,7 +114,7 @@ class Made(KeysCase):
         """Another account keeps the tables, say."""
         self.look("id")
         denied = PermissionError(13, "Permission denied")
-        with mock.patch("pgsub_connect.feed.keys.stamp_of", side_effect=denied):
+        with mock.patch("pgsub_feed.tables.primary_keys.stamp_of", side_effect=denied):
             self.take(put("1", "a"))
             told = self.run_it()
         self.assertRegex("".join(told), f"copy.tables: Permission denied: {ALONE}")

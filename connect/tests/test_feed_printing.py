@@ -12,8 +12,8 @@ from unittest import mock
 
 from feed_text import UNSENT, About, Column, Line
 from pgsub_connect.cli import UNFIT, USAGE
-from pgsub_connect.feed.identifying import index_text
-from pgsub_connect.feed.printing import main
+from pgsub_feed.formats.keys import index_text
+from pgsub_feed.command import main
 
 from .feeds import ID, STOCK, FeedCase, delete, insert, table, truncate, update
 from .vectors import logged
@@ -61,7 +61,7 @@ class PrintingCase(FeedCase):
     def print(self, *words: str, status: int = 0, terminal: bool = False) -> str:
         out = io.BytesIO()
         text = Terminal(out) if terminal else io.TextIOWrapper(out)
-        with mock.patch.object(sys, "stdout", text), mock.patch("pgsub_connect.feed.printing.stop_by_signals"):
+        with mock.patch.object(sys, "stdout", text), mock.patch("pgsub_feed.command.stop_by_signals"):
             self.assertEqual(main(["--feed", str(self.path), *words]), status)
         text.flush()
         return out.getvalue().decode()

@@ -11,13 +11,13 @@ from unittest import mock
 import pgsub_connect.feed
 from feed_text import UNSENT, About, Column, Line, closing_line, segment_head
 from pgsub_connect.errors import FileError, Unfit
-from pgsub_connect.feed import parts
-from pgsub_connect.feed.decoding import oid, parsed
-from pgsub_connect.feed.faults import Damaged
-from pgsub_connect.feed.parts import Change, Missed, Part, TableLine
-from pgsub_connect.feed.polling import Poll
-from pgsub_connect.feed.reading import Reader, read_confirmed, segments
-from pgsub_connect.postgres import never
+from pgsub_feed.reader import commits
+from pgsub_feed.reader.lines import oid, parsed
+from pgsub_feed.faults import Damaged
+from pgsub_feed.reader.commits import Change, Missed, Part, TableLine
+from pgsub_feed.reader.polling import Poll
+from pgsub_feed.reader.segments import Reader, read_confirmed, segments
+from pgsub_connect.server.connection import never
 
 from .feeds import ID, NAME, STOCK, FeedCase, delete, insert, table, truncate, update
 
@@ -61,7 +61,7 @@ class Lines(Case):
             ("c", 0, None, ["1", "é\n\x1f\x7f\"\\𝄞"]), ("u", 1, ["1", None], ["1", b"\0\xff"]), ("d", 2, ["1", ""], None),
             ("t", 3, None, None),
         ])
-        self.assertEqual(missed, Missed(relation, 4, "u", "K", ["1", None], ["1", parts.UNSENT]))
+        self.assertEqual(missed, Missed(relation, 4, "u", "K", ["1", None], ["1", commits.UNSENT]))
 
     def test_of_a_commit_without_any(self) -> None:
         self.feed.commit(0x100)
@@ -182,7 +182,7 @@ class Cutting(Case):
         reader = self.reader()
         while reader.next():
             pass
-        self.assertEqual(reader.cursor(), parts.Cursor(0x100, 1024, 0x100))
+        self.assertEqual(reader.cursor(), commits.Cursor(0x100, 1024, 0x100))
         self.file(0x100).unlink()
         os.truncate(self.file(), size)
         self.assertIsNone(reader.next())

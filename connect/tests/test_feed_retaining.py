@@ -6,9 +6,9 @@ import os
 from unittest import mock
 
 from pgsub_connect.errors import FileError
-from pgsub_connect.feed.noting import Noted
-from pgsub_connect.feed.reading import segments
-from pgsub_connect.feed.retaining import Limits, feed_bytes, read_readers, retire
+from pgsub_feed.reader.positions import Noted
+from pgsub_feed.reader.segments import segments
+from pgsub_connect.follow.retention import Limits, feed_bytes, read_readers, retire
 
 from .feeds import FeedCase, insert
 

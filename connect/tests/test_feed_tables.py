@@ -14,16 +14,17 @@ from unittest import mock
 from feed_text import Cell, Column, Line
 from pgsub_connect.cli import FILE, UNFIT, USAGE, main
 from pgsub_connect.errors import FileError, Passing, Unfit
-from pgsub_connect.exporting import run as export
-from pgsub_connect.feed import awaiting, beginning, tabling
-from pgsub_connect.feed.awaiting import Awaited
-from pgsub_connect.feed.noting import Noted
-from pgsub_connect.feed.reading import segments
-from pgsub_connect.feed.retaining import Limits, retire
-from pgsub_connect.feed.viewing import View
-from pgsub_connect.options import Options
-from pgsub_connect.postgres import Check, never
-from pgsub_connect.snapshots import copy
+from pgsub_connect.store.export import run as export
+from pgsub_connect.commands import tables as tables_module, wait
+from pgsub_feed.tables import first_rows
+from pgsub_connect.commands.wait import Awaited
+from pgsub_feed.reader.positions import Noted
+from pgsub_feed.reader.segments import segments
+from pgsub_connect.follow.retention import Limits, retire
+from pgsub_feed.tables.view import View
+from pgsub_connect.commands.options import Options
+from pgsub_connect.server.connection import Check, never
+from pgsub_connect.store.snapshot import copy
 
 from .feeds import ID, NAME, STOCK, FeedCase, delete, insert, table, truncate, update
 from .stores import Store
@@ -47,7 +48,7 @@ class TablesCase(FeedCase):
     def run_it(self, status: int = 0, **more: Any) -> list[str]:
         """Takes what is there, and returns what is told beside the last line."""
         with logged() as told:
-            self.assertEqual(tabling.run(self.options(**more), never), status)
+            self.assertEqual(tables_module.run(self.options(**more), never), status)
         self.assertEqual(sorted(it for it in os.listdir(self.folder) if it.startswith("rows")), ["rows.db"])
         return told[:-1]
 
@@ -408,7 +409,7 @@ class Beginning(TablesCase):
         self.take(insert("2", "b"))
         with contextlib.closing(sqlite3.connect(self.into, isolation_level=None)) as base:
             base.execute("BEGIN IMMEDIATE")
-            with mock.patch("pgsub_connect.feed.rowsfile.BUSY", 0.05), self.assertRaisesRegex(Passing, "database is locked"):
+            with mock.patch("pgsub_feed.tables.file.BUSY", 0.05), self.assertRaisesRegex(Passing, "database is locked"):
                 self.run_it()
 
     def test_another_feed(self) -> None:
@@ -433,7 +434,7 @@ class Beginning(TablesCase):
         self.feed.end()
         self.path.joinpath(f"{0:016X}").unlink()
         self.take(update(["1", "a"], ["2", "b"]))
-        with mock.patch("pgsub_connect.exporting.log"):
+        with mock.patch("pgsub_connect.store.export.log"):
             self.run_it(store=str(self.folder / "copy.db"))
         self.assertEqual((self.rows("SELECT * FROM stock"), self.rows("SELECT lsn FROM pgsub_position")), ([(2, "b")], [("0/200",)]))
 
@@ -470,14 +471,14 @@ class Beginning(TablesCase):
             go_on()
 
         patched = ("copy", copy_slowly) if "base" in more else ("export", export_slowly)
-        with mock.patch("pgsub_connect.exporting.log"), mock.patch.object(beginning, *patched):
+        with mock.patch("pgsub_connect.store.export.log"), mock.patch.object(first_rows, *patched):
             self.run_it(reader="rows", **more)
         self.assertEqual((self.rows("SELECT * FROM stock"), self.rows("SELECT lsn FROM pgsub_position")), ([(2, "b")], [("0/600",)]))
         self.assertEqual((self.path / "readers/rows").read_text(), "0/600\n")
         return [base for base, _ in segments(str(self.path))]
 
     def test_what_a_new_reader_needs_stays(self) -> None:
-        with mock.patch.object(beginning, "is_followed", lambda _: True):
+        with mock.patch.object(first_rows, "is_followed", lambda _: True):
             self.assertEqual(self.beside_another_reader(store=self.store(0x300)), [0x300, 0x400, 0x500])
 
     def test_what_one_needs_that_begins_with_an_older_copy_stays(self) -> None:
@@ -502,7 +503,7 @@ class Beginning(TablesCase):
             retire(str(self.path), Limits(), self.at, 0.0)
             return status
 
-        with mock.patch.object(beginning, "is_followed", lambda _: True), mock.patch.object(beginning, "export", export_slowly):
+        with mock.patch.object(first_rows, "is_followed", lambda _: True), mock.patch.object(first_rows, "export", export_slowly):
             self.run_it(reader="rows", store=self.store(0x300, "b"), at=0x100)
         self.assertEqual((self.rows("SELECT * FROM stock"), self.rows("SELECT lsn FROM pgsub_position")), ([(1, "a")], [("0/100",)]))
 
@@ -525,7 +526,7 @@ class Beginning(TablesCase):
         store.close()
         self.take()
         self.take(update(["b", "1", "a"], ["c", "1", "a"], of=table(columns=[Column("Id", 25), ID, Column("ID", 25)])))
-        with mock.patch("pgsub_connect.exporting.log"):
+        with mock.patch("pgsub_connect.store.export.log"):
             self.run_it(store=str(self.folder / "copy.db"))
         self.assertEqual(self.rows("SELECT * FROM stock"), [("c", 1, "a")])
 
@@ -555,7 +556,7 @@ class Beginning(TablesCase):
         self.take()
         one = table(1, "bare", [Column("a", 23)], letter="f")
         self.take(delete(None, of=one), insert("7", of=one))
-        with mock.patch("pgsub_connect.exporting.log"):
+        with mock.patch("pgsub_connect.store.export.log"):
             self.run_it(store=str(self.folder / "copy.db"))
         self.assertEqual(self.rows("SELECT * FROM bare"), [(None,), (None,), (7,)])
         os.unlink(self.into)
@@ -565,7 +566,7 @@ class Beginning(TablesCase):
         self.take()
         none = table(1, "bare", [], letter="f")
         self.take(delete(of=none), insert(of=none), insert(of=none))
-        with mock.patch("pgsub_connect.exporting.log"):
+        with mock.patch("pgsub_connect.store.export.log"):
             self.run_it(store=str(self.folder / "copy.db"))
         self.assertEqual(self.rows("SELECT * FROM bare"), [(None,)] * 4)
 
@@ -641,7 +642,7 @@ class Initial(TablesCase):
         self.run_it()
         self.write("PRAGMA max_page_count = 1; CREATE TABLE large AS SELECT zeroblob(1000000)")
         with logged(), self.assertRaisesRegex(Passing, "disk is full"):
-            tabling.run(self.options(init=self.init), never)
+            tables_module.run(self.options(init=self.init), never)
         self.assertEqual((self.rows("SELECT * FROM stock"), self.tables()), ([(1, "a")], ["stock"]))
 
 
@@ -677,7 +678,7 @@ class Waiting(TablesCase):
             self.path = self.path.rename(self.folder / os.fsdecode(name))
             self.feed.folder, self.feed.path = self.path, self.path / self.feed.path.name
             self.run_it()
-            self.assertEqual(awaiting.read_file(self.into), (0x100, str(self.path)))
+            self.assertEqual(wait.read_file(self.into), (0x100, str(self.path)))
             with contextlib.closing(View(self.into, never)) as view:
                 self.assertEqual(view.folder, str(self.path))
         self.feed.confirm(0x180)

@@ -7,8 +7,8 @@ from collections.abc import Sequence
 
 from feed_text import About, Column, Definition, Line, lsn_text
 from pgsub_connect.cli import UNFIT
-from pgsub_connect.feed import restoring
-from pgsub_connect.replacing import XID
+from pgsub_feed.undo import restore_sql
+from pgsub_connect.add.replacement import XID
 
 from .feeds import ID, NAME, STOCK, delete, insert, table, truncate, update
 from .test_feed_printing import PrintingCase
@@ -142,7 +142,7 @@ class Script(Undoing):
 
     def test_what_a_user_may_have_is_named_by_its_schema(self) -> None:
         """While rows are changed the session's own search path is in force."""
-        found = re.search(r"restored text.*?EXECUTE command", restoring.CHANGE, re.S)
+        found = re.search(r"restored text.*?EXECUTE command", restore_sql.CHANGE, re.S)
         assert found
         commands = "".join(re.findall(r"'((?:[^']|'')*)'", found[0]))
         self.assertNotRegex(commands, r"(?<!\.)\b(?:count|pgsub_(?!catalog))\w*\b(?<!\$)\(")

@@ -15,13 +15,14 @@ from unittest import mock
 from feed_text import About
 from feed_text import Column as TextColumn
 from pgsub_connect.errors import FileError, Passing, Stopped, Unfit
-from pgsub_connect.feed import tabling, verifying
-from pgsub_connect.feed.trail import Gone, Trail
-from pgsub_connect.meeting import chosen
-from pgsub_connect.options import Options
-from pgsub_connect.postgres import never
-from pgsub_connect.publishing import Column, Table
-from pgsub_connect.words import arguments
+from pgsub_connect.commands import tables
+from pgsub_connect.verify import tables_file
+from pgsub_feed.reader.trail import Gone, Trail
+from pgsub_connect.verify.meeting_point import chosen
+from pgsub_connect.commands.options import Options
+from pgsub_connect.server.connection import never
+from pgsub_connect.server.publications import Column, Table
+from pgsub_connect.commands.words import arguments
 
 from .fake_server import connection_to
 from .feeds import ID, NAME, delete, insert, table, truncate, update
@@ -82,9 +83,9 @@ class VerifyCase(TablesCase):
         with contextlib.ExitStack() as stack:
             self.said = stack.enter_context(logged())
             stack.enter_context(contextlib.redirect_stdout(out))
-            stack.enter_context(mock.patch.multiple("pgsub_connect.digests.Queries", sums=sums, texts=texts))
-            stack.enter_context(mock.patch.object(verifying, "Source", self.source))
-            self.assertEqual(verifying.run(options, never), status)
+            stack.enter_context(mock.patch.multiple("pgsub_connect.verify.digests.Queries", sums=sums, texts=texts))
+            stack.enter_context(mock.patch.object(tables_file, "Source", self.source))
+            self.assertEqual(tables_file.run(options, never), status)
         return [json.loads(line) for line in out.getvalue().splitlines()]
 
     def equal(self, **more: Any) -> None:
@@ -124,7 +125,7 @@ class Server(VerifyCase):
         self.run_it(digests=True)
         self.take(update(["1", "name 1"], ["1", "b"]), delete("1", "", of=OF_WHOLE), truncate(table(9, "else")))
         self.run_it()
-        with mock.patch("pgsub_connect.feed.viewing.View.texts") as texts:
+        with mock.patch("pgsub_feed.tables.view.View.texts") as texts:
             self.equal(digests=True)
         self.assertEqual(texts.called, False)
         self.server.tables[1][3] = ["3", "other"]
@@ -197,7 +198,7 @@ class Server(VerifyCase):
     def test_tables_that_were_not_chosen(self) -> None:
         self.into += ".chosen"
         with logged():
-            tabling.run(self.options(table=["stock"]), never)
+            tables.run(self.options(table=["stock"]), never)
         self.equal()
         self.assertIn(f"{self.into} was made without 1 table: public.whole", self.said)
         self.fails(Unfit, "was made without public.whole", table=["whole"])
@@ -285,7 +286,7 @@ class Server(VerifyCase):
 
     def test_what_is_not_there_in_time(self) -> None:
         self.point = 0x20000
-        with mock.patch.object(verifying, "PATIENCE", 0.05):
+        with mock.patch.object(tables_file, "PATIENCE", 0.05):
             self.fails(Passing, "the feed .* doesn't have all, and 0/20000 wasn't reached in 0 seconds")
             self.confirm(0x20000)
             self.take(insert("11", "x"))
@@ -312,7 +313,7 @@ class Server(VerifyCase):
         self.fails(Passing, "being added just now, or refused: public.whole", store=str(store))
 
     def test_a_file_that_is_taken_back_meanwhile(self) -> None:
-        with mock.patch.object(verifying, "wait", lambda path, trail, point, check: trail.has(point)):
+        with mock.patch.object(tables_file, "wait", lambda path, trail, point, check: trail.has(point)):
             self.meanwhile = lambda: self.plant("UPDATE pgsub_position SET lsn = '0/100'")
             self.fails(Passing, "rows.db was taken back to 0/100 meanwhile")
 
@@ -328,13 +329,13 @@ class Server(VerifyCase):
     def test_a_file_of_something_else(self) -> None:
         for path, text in ((self.into + ".none", "there is no file"), (str(self.path / "confirmed"), "has no tables that follow a feed")):
             with self.assertRaisesRegex(FileError, text):
-                verifying.run(Options(tables=path), never)
+                tables_file.run(Options(tables=path), never)
 
     def test_ended(self) -> None:
-        with mock.patch.object(verifying, "with_server", side_effect=Stopped), self.assertRaisesRegex(Passing, "ended before"):
-            verifying.run(Options(tables=self.into), never)
-        with mock.patch.object(verifying, "with_server", side_effect=sqlite3.DatabaseError("x")), self.assertRaisesRegex(FileError, "rows.db: x"):
-            verifying.run(Options(tables=self.into), never)
+        with mock.patch.object(tables_file, "with_server", side_effect=Stopped), self.assertRaisesRegex(Passing, "ended before"):
+            tables_file.run(Options(tables=self.into), never)
+        with mock.patch.object(tables_file, "with_server", side_effect=sqlite3.DatabaseError("x")), self.assertRaisesRegex(FileError, "rows.db: x"):
+            tables_file.run(Options(tables=self.into), never)
 
 
 class Files(VerifyCase):
@@ -380,7 +381,7 @@ class Files(VerifyCase):
         self.take(delete("77", "none"))
         with logged():
             for path in (self.into, self.other):
-                tabling.run(Options(command="tables", feed=str(self.path), into=path, once=True), never)
+                tables.run(Options(command="tables", feed=str(self.path), into=path, once=True), never)
                 self.assertEqual(self.verified(1, other=self.other), [])
                 self.assertIn("public.stock is set aside in", self.said[0])
 
@@ -471,12 +472,12 @@ class Words(TablesCase):
         """The publications are those of the store beside whose feed it is."""
         self.take(insert("1", "a"))
         self.run_it()
-        self.assertEqual(verifying.store_of(self.into), "")
+        self.assertEqual(tables_file.store_of(self.into), "")
         store = str(self.folder / "copy.db")
         self.path.rename(store + ".feed")
         with contextlib.closing(sqlite3.connect(self.into, isolation_level=None)) as base:
             base.execute("UPDATE pgsub_feed SET folder = ?", (store + ".feed",))
-        self.assertEqual(verifying.store_of(self.into), "")
+        self.assertEqual(tables_file.store_of(self.into), "")
         open(store + ".connector", "w").close()
-        self.assertEqual(verifying.store_of(self.into), store)
-        self.assertEqual([verifying.store_of(it) for it in (store, store + ".connector")], ["", ""])
+        self.assertEqual(tables_file.store_of(self.into), store)
+        self.assertEqual([tables_file.store_of(it) for it in (store, store + ".connector")], ["", ""])

@@ -13,19 +13,19 @@ from typing import Any
 from unittest import mock
 
 from feed_text import Column, lsn_text
-from pgsub_connect import beside, feeding
-from pgsub_connect.beside import Beside, words_of
+from pgsub_connect.follow import feed as feed_module, tables_process
+from pgsub_connect.follow.tables_process import Beside, words_of
 from pgsub_connect.errors import FileError, Unfit
-from pgsub_connect.feed.noting import Noted, make_folder
-from pgsub_connect.feed.reading import CONFIRMED, Reader, read_confirmed, segments
-from pgsub_connect.feeding import Feeding, Keeper, Reached
-from pgsub_connect.filtering import FilterEnded
-from pgsub_connect.following import Follower
-from pgsub_connect.metrics import metrics_text
-from pgsub_connect.options import Options
-from pgsub_connect.progress import Progress
-from pgsub_connect.remembered import Remembered, replace_file
-from pgsub_connect.words import arguments
+from pgsub_feed.reader.positions import Noted, make_folder
+from pgsub_feed.reader.segments import CONFIRMED, Reader, read_confirmed, segments
+from pgsub_connect.follow.feed import Feeding, Keeper, Reached
+from pgsub_connect.follow.filter import FilterEnded
+from pgsub_connect.follow.follower import Follower
+from pgsub_connect.status.metrics import metrics_text
+from pgsub_connect.commands.options import Options
+from pgsub_connect.status.progress import Progress
+from pgsub_connect.drift.remembered import Remembered, replace_file
+from pgsub_connect.commands.words import arguments
 
 from .fake_server import Quiet
 from .feeds import ID, FeedCase, insert, table, truncate
@@ -52,8 +52,8 @@ class Followed(Case):
     def setUp(self) -> None:
         super().setUp()
         self.feed = self.store + ".feed"
-        self.patch(feeding, "QUIET", 0.02)
-        self.patch(feeding, "BUSY", 0.02)
+        self.patch(feed_module, "QUIET", 0.02)
+        self.patch(feed_module, "BUSY", 0.02)
 
     def fed(self, feed: str | None = None, **options: object) -> Follower:
         """A follower whose feed is checked, and that is about to run."""
@@ -99,7 +99,7 @@ class Followed(Case):
         self.assertEqual(oct(stat.S_IMODE(os.stat(self.feed).st_mode)), "0o700")
 
     def test_what_the_end_confirms_is_told(self) -> None:
-        self.patch(feeding, "QUIET", 30.0)
+        self.patch(feed_module, "QUIET", 30.0)
         self.server.to_send = [begin(0x100, 7), inserted(1), commit(0x100, 0x108)]
         follower = self.fed()
         self.run_until(follower, lambda: self.confirmed() == 0x108)
@@ -166,7 +166,7 @@ class Followed(Case):
         follower = self.fed()
         with self.assertRaises(FilterEnded) as ended:
             self.run_until(follower, lambda: False)
-        self.assertEqual((ended.exception.status, ended.exception.said), (3, feeding.NOT_A_FEED))
+        self.assertEqual((ended.exception.status, ended.exception.said), (3, feed_module.NOT_A_FEED))
         self.assertTrue(any("Name an empty folder by --feed, with --without-feed" in it for it in self.said), self.said)
         self.unlock()
         follower = self.fed(feed=self.folder + "/other", without_feed=True)
@@ -181,7 +181,7 @@ class Followed(Case):
         before = self.ends()
         with open(self.store, "w", encoding="ascii") as file:
             file.write(str(0x50))
-        with mock.patch.object(feeding, "position_in", lambda _: 0x50), self.assertRaisesRegex(Unfit, "0/50, and was at 0/108 before"):
+        with mock.patch.object(feed_module, "position_in", lambda _: 0x50), self.assertRaisesRegex(Unfit, "0/50, and was at 0/108 before"):
             self.fed()
         self.unlock()
         Path(self.store + "-wal").write_text("x")
@@ -203,7 +203,7 @@ class Followed(Case):
         checkpoint = Path(self.store + ".connector").read_bytes()
         self.follow_once(0x208)
         before = self.segments()
-        self.patch(feeding, "position_in", lambda path: int(Path(path).read_text()))
+        self.patch(feed_module, "position_in", lambda path: int(Path(path).read_text()))
         Path(self.store).write_text(str(0x108))
         for put_back in (None, checkpoint):
             os.unlink(self.store + ".connector")
@@ -221,7 +221,7 @@ class Followed(Case):
         """A commit that isn't confirmed, as where its filter was killed; and what a keepalive alone has confirmed."""
         self.follow_once()
         self.follow_once(0x208)
-        self.patch(feeding, "position_in", lambda path: int(Path(path).read_text()))
+        self.patch(feed_module, "position_in", lambda path: int(Path(path).read_text()))
         for position, confirmed in ((0x108, 0x207), (0x108, 0x108), (0x208, 0x400)):
             Path(self.store).write_text(str(position))
             os.unlink(self.store + ".connector")
@@ -233,7 +233,7 @@ class Followed(Case):
         """As a power cut may leave one that isn't confirmed. A segment that begins above the store tells that there were others."""
         self.follow_once()
         self.follow_once(0x208)
-        self.patch(feeding, "position_in", lambda path: int(Path(path).read_text()))
+        self.patch(feed_module, "position_in", lambda path: int(Path(path).read_text()))
         Path(self.store).write_text(str(0x108))
         os.unlink(self.store + ".connector")
         path = Path(f"{self.feed}/{0x108:016X}")
@@ -247,11 +247,11 @@ class Followed(Case):
 
     def test_a_store_that_is_busy_is_waited_for(self) -> None:
         """Unseen it would be opened with its feed later. None is of no use."""
-        self.patch(feeding, "AGAIN", 0)
+        self.patch(feed_module, "AGAIN", 0)
         for ends, position in (((FilterEnded(12, "busy"), FilterEnded(-9, ""), 0x50), 0x50), ((FilterEnded(3, "none"),), None)):
             other = mock.Mock(start=mock.Mock(side_effect=ends), serve=mock.Mock(side_effect=FilterEnded(0, "")))
-            with mock.patch.object(feeding, "Filter", lambda *_, other=other: other):
-                self.assertEqual(feeding.opened_at(mock.Mock(), lambda: None), position)
+            with mock.patch.object(feed_module, "Filter", lambda *_, other=other: other):
+                self.assertEqual(feed_module.opened_at(mock.Mock(), lambda: None), position)
             self.assertEqual((other.start.call_count, other.kill.call_count), (len(ends), len(ends)))
         self.assertEqual(self.said[0], "warning: the filter ended with status 12: busy: the store is tried again in 0 seconds")
         self.assertEqual(len(self.said), 2)
@@ -296,7 +296,7 @@ class Refused(Quiet):
         Path(rows).write_text("x")
         with self.assertRaisesRegex(FileError, "rows.db is there and has no tables that follow a feed"):
             self.feeding(tables=rows).check()
-        with mock.patch.object(beside, "is_tables", lambda _: True), self.assertRaisesRegex(Unfit, "has the tables of an older copy"):
+        with mock.patch.object(tables_process, "is_tables", lambda _: True), self.assertRaisesRegex(Unfit, "has the tables of an older copy"):
             self.feeding(tables=rows).check()
         self.assertFalse(os.path.exists(self.store + ".feed"))
 
@@ -320,7 +320,7 @@ class Kept(FeedCase):
     def setUp(self) -> None:
         super().setUp()
         self.said: list[str] = []
-        patched = mock.patch("pgsub_connect.log.line", lambda level, text: self.said.append(f"{level}: {text}"))
+        patched = mock.patch("pgsub_feed.log.line", lambda level, text: self.said.append(f"{level}: {text}"))
         patched.start()
         self.addCleanup(patched.stop)
         for end in range(0x100, 0x600, 0x100):
@@ -358,7 +358,7 @@ class Kept(FeedCase):
 
     def test_confirmed_is_written_so_often(self) -> None:
         keeper = self.keeper(confirmed=0x600)
-        with mock.patch.object(feeding, "replace_file", wraps=replace_file) as written:
+        with mock.patch.object(feed_module, "replace_file", wraps=replace_file) as written:
             keeper.tend(100.0)
             keeper.tend(100.3)
             self.assertEqual(written.call_count, 1)
@@ -426,10 +426,10 @@ class Tables(FeedCase):
     def setUp(self) -> None:
         super().setUp()
         self.said: list[str] = []
-        delay = mock.patch.object(beside, "FIRST_DELAY", 0.02)
+        delay = mock.patch.object(tables_process, "FIRST_DELAY", 0.02)
         delay.start()
         self.addCleanup(delay.stop)
-        patch = mock.patch("pgsub_connect.log.line", lambda level, text: self.said.append(f"{level}: {text}"))
+        patch = mock.patch("pgsub_feed.log.line", lambda level, text: self.said.append(f"{level}: {text}"))
         patch.start()
         self.addCleanup(patch.stop)
         self.into, self.progress = str(self.folder / "rows.db"), Progress()

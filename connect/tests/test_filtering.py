@@ -10,11 +10,9 @@ import unittest
 from pathlib import Path
 from unittest import mock
 
-from pgsub_connect import filtering
+from pgsub_connect.follow import filter as filter_module
 from pgsub_connect.errors import FilterFault, Stopped
-from pgsub_connect.filtering import (
-    COPY_DONE, HEADERS, MISSED, PIECE, ROOM, STATUS_HEAD, Filter, FilterEnded, Missing, asking, flushed, header, missing_of, without_received,
-)
+from pgsub_connect.follow.filter import COPY_DONE, Filter, FilterEnded, HEADERS, MISSED, Missing, PIECE, ROOM, STATUS_HEAD, asking, flushed, header, missing_of, without_received
 
 from .fake_server import Quiet
 from .vectors import begin, commit, delete, insert, keepalive
@@ -141,7 +139,7 @@ class Ends(Case):
                 raise Stopped
 
         child, began = self.filter(), time.monotonic()
-        with mock.patch.object(filtering, "LOOK", 0.02), self.assertRaises(Stopped):
+        with mock.patch.object(filter_module, "LOOK", 0.02), self.assertRaises(Stopped):
             child.start(check)
         self.assertLess(time.monotonic() - began, 10.0)
         self.assertFalse(child.is_running())

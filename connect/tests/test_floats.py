@@ -6,7 +6,7 @@ import math
 import struct
 import unittest
 
-from pgsub_connect.floats import printed_float, stored_float
+from pgsub_feed.tables.floats import printed_float, stored_float
 
 # (Some lie at the bound of what is rounded to them, where Python prints fewer digits.)
 DOUBLES = {

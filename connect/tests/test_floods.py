@@ -12,9 +12,9 @@ from unittest import mock
 
 from server_messages import described, row
 
-from pgsub_connect import notices, postgres, results
+from pgsub_connect.server import connection as connection_module, notices, rows as rows_module
 from pgsub_connect.errors import ServerError, Stopped, WrongAnswer
-from pgsub_connect.postgres import Connection
+from pgsub_connect.server.connection import Connection
 
 from . import small_server
 from .small_server import SmallServer, answered, error, message
@@ -65,7 +65,7 @@ class Floods(Case):
             lambda it: it.run("SET x"),
         )
         for call in calls:
-            with mock.patch.object(results, "MOST", 1 << 18), self.assertRaisesRegex(
+            with mock.patch.object(rows_module, "MOST", 1 << 18), self.assertRaisesRegex(
                 WrongAnswer, "is longer than"
             ):
                 call(self.flood(described(1), row(b"x" * 100) * 100))
@@ -129,15 +129,15 @@ class Floods(Case):
 
     def test_a_slow_line_has_more_time(self) -> None:
         """By what has come: a large catalog isn't cut where the line is slow."""
-        rows = results.Rows()
+        rows = rows_module.Rows()
         rows.add(
-            mock.Mock(pgresult_ptr=None, nfields=2, get_value=lambda *_: b"x" * results.SLOWEST)
+            mock.Mock(pgresult_ptr=None, nfields=2, get_value=lambda *_: b"x" * rows_module.SLOWEST)
         )
         self.assertEqual(rows.seconds(), 2.0)
 
     def test_texts_that_come_again_are_kept_once(self) -> None:
-        rows = results.Rows()
-        for it in range(3 * results.KEPT):
+        rows = rows_module.Rows()
+        for it in range(3 * rows_module.KEPT):
             rows.add(
                 mock.Mock(
                     pgresult_ptr=None,
@@ -146,9 +146,9 @@ class Floods(Case):
                 )
             )
         self.assertIs(rows.rows[0][0], rows.rows[1][0])
-        self.assertEqual(rows.rows[-1], ["16384", str(3 * results.KEPT - 1), None])
+        self.assertEqual(rows.rows[-1], ["16384", str(3 * rows_module.KEPT - 1), None])
         self.assertLess(
-            rows.taken, 3 * results.KEPT * (results.ROW + 3 * results.VALUE + 2 * results.TEXT)
+            rows.taken, 3 * rows_module.KEPT * (rows_module.ROW + 3 * rows_module.VALUE + 2 * rows_module.TEXT)
         )
 
 
@@ -157,16 +157,16 @@ class Moved(unittest.TestCase):
         """Whatever the length and the place are. What is around them stays."""
         for length in (
             1,
-            postgres.PAGE,
-            postgres.MOVED - 1,
-            postgres.MOVED,
-            3 * postgres.MOVED + 4097,
+            connection_module.PAGE,
+            connection_module.MOVED - 1,
+            connection_module.MOVED,
+            3 * connection_module.MOVED + 4097,
         ):
-            for before in (0, 5, postgres.PAGE):
+            for before in (0, 5, connection_module.PAGE):
                 content = os.urandom(length)
                 memory = ctypes.create_string_buffer(b"x" * before + content + b"y" * 5000)
                 self.assertTrue(
-                    postgres.moved(ctypes.addressof(memory) + before, length) == content
+                    connection_module.moved(ctypes.addressof(memory) + before, length) == content
                 )
                 self.assertEqual(
                     (memory.raw[:before], memory.raw[before + length :]),

@@ -13,21 +13,24 @@ import unittest
 from collections.abc import Callable, Iterator, Sequence
 from unittest import mock
 
-from pgsub_connect import confirming, following, postgres, server, snapshots, trust, watching
-from pgsub_connect.awake import Awake
-from pgsub_connect.checkpoint import Checkpoint
+from pgsub_connect.follow import follower as follower_module, statuses
+from pgsub_connect.server import connection as connection_module, session, transport
+from pgsub_connect.store import snapshot
+from pgsub_connect.drift import watch
+from pgsub_connect.follow.awake import Awake
+from pgsub_connect.store.checkpoint import Checkpoint
 from pgsub_connect.errors import FilterFault, Passing, ServerError, Unconnected, Unfit
-from pgsub_connect.filtering import Filter, FilterEnded, flushed
-from pgsub_connect.following import Follower
-from pgsub_connect.found import About
-from pgsub_connect.options import Options
-from pgsub_connect.progress import Progress
-from pgsub_connect.remembered import Remembered
-from pgsub_connect.resting import read_request
-from pgsub_connect.server import Server
-from pgsub_connect.snapshots import Snapshots
-from pgsub_connect.texts import lsn_text, parse_lsn
-from pgsub_connect.trust import Protection
+from pgsub_connect.follow.filter import Filter, FilterEnded, flushed
+from pgsub_connect.follow.follower import Follower
+from pgsub_connect.drift.findings import About
+from pgsub_connect.commands.options import Options
+from pgsub_connect.status.progress import Progress
+from pgsub_connect.drift.remembered import Remembered
+from pgsub_connect.store.at_rest import read_request
+from pgsub_connect.server.session import Server
+from pgsub_connect.store.snapshot import Snapshots
+from pgsub_feed.texts import lsn_text, parse_lsn
+from pgsub_connect.server.transport import Protection
 
 from .fake_server import FakeServer, Quiet, Row
 from .small_server import READY, SmallServer, error
@@ -58,11 +61,11 @@ class Case(Quiet):
         self.server = SmallServer(self.folder, self.brain)
         self.addCleanup(self.server.close)
         for where, name, by in (
-            (postgres, "TICK", 0.02), (following, "STEP", 0.02), (confirming, "QUIET", 0.3),
-            (following, "SLEEP", 0.02), (following, "FIRST_DELAY", 0.02),
+            (connection_module, "TICK", 0.02), (follower_module, "STEP", 0.02), (statuses, "QUIET", 0.3),
+            (follower_module, "SLEEP", 0.02), (follower_module, "FIRST_DELAY", 0.02),
         ):
             self.patch(where, name, by)
-        self.patch(watching.Watch, "compare", lambda *_: True)
+        self.patch(watch.Watch, "compare", lambda *_: True)
 
     def patch(self, where: object, name: str, by: object) -> None:
         patch = mock.patch.object(where, name, by)
@@ -107,7 +110,7 @@ class Case(Quiet):
 
     def set_clock(self, clock: list[float]) -> None:
         """Has a follower's time be what the list says."""
-        for where in (following, confirming):
+        for where in (follower_module, statuses):
             self.patch(where, "time", mock.Mock(monotonic=lambda: clock[0], sleep=time.sleep))
 
     def confirmed(self) -> int:
@@ -131,11 +134,11 @@ class Sessions(Case):
         began = time.monotonic()
         self.run_until(follower, lambda: self.confirmed() == 0x1000 + 1999)
         # (one each time that what waits is passed on, and a few at the beginning and the end)
-        self.assertLess(synced.call_count, 6 + (time.monotonic() - began) / confirming.QUIET)
+        self.assertLess(synced.call_count, 6 + (time.monotonic() - began) / statuses.QUIET)
         self.assertGreaterEqual(self.checkpoint.read().confirmed, 0x1000 + 1999)
 
     def test_a_keepalive_that_asks_is_answered_at_once(self) -> None:
-        self.patch(confirming, "QUIET", 30.0)
+        self.patch(statuses, "QUIET", 30.0)
         follower = self.follower()
         follower.confirming.last_moved = time.monotonic()
         self.server.to_send = [keepalive(0x1000, asks=True)]
@@ -143,20 +146,20 @@ class Sessions(Case):
 
     def test_a_keepalive_for_which_commits_wait_is_passed_on_at_once(self) -> None:
         """As soon as the syncs take a small part of the time."""
-        self.patch(confirming, "QUIET", 30.0)
+        self.patch(statuses, "QUIET", 30.0)
         self.brain.answer("SHOW synchronous_standby_names", [["*"]])
         follower = self.follower()
         follower.confirming.last_moved = time.monotonic()
         self.server.to_send = [keepalive(0x1000)]
         self.run_until(follower, lambda: self.confirmed() == 0x1000)
         follower.confirming.noted_in = 2.0
-        self.assertEqual(follower.confirming.quiet(), 2.0 * confirming.PART)
+        self.assertEqual(follower.confirming.quiet(), 2.0 * statuses.PART)
         self.progress.is_waited_for = False
         self.assertEqual(follower.confirming.quiet(), 30.0)
 
     def test_it_waits_awake_where_commits_wait_for_it(self) -> None:
         """For the next commit, and for what the filter says of the last one."""
-        with mock.patch.object(following, "processors", return_value=2.0):
+        with mock.patch.object(follower_module, "processors", return_value=2.0):
             follower = self.follower()
         waits = set[tuple[bool, str | None]]()
         serve = follower.filter.serve
@@ -177,7 +180,7 @@ class Sessions(Case):
         self.assertEqual(waits, {(True, "status"), (False, "commit")})
 
     def test_it_sleeps_where_the_filter_needs_the_processor(self) -> None:
-        with mock.patch.object(following, "processors", return_value=1.5):
+        with mock.patch.object(follower_module, "processors", return_value=1.5):
             follower = self.follower()
         self.progress.is_waited_for = True
         self.assertIsNone(follower.awake())
@@ -192,13 +195,13 @@ class Sessions(Case):
             seen.append(connection is follower.connection)
             return True
 
-        self.patch(watching.Watch, "compare", compare)
+        self.patch(watch.Watch, "compare", compare)
         self.run_until(follower, lambda: self.server.sessions == 1)
         self.assertEqual(seen, [False])
 
     def test_a_status_that_waited_at_the_end_of_a_session_is_noted(self) -> None:
         """The next session repeats it, so it has to be on the disk before."""
-        self.patch(confirming, "QUIET", 30.0)
+        self.patch(statuses, "QUIET", 30.0)
         follower = self.follower()
         follower.confirming.last_moved = time.monotonic()
         ends = iter([True])
@@ -295,9 +298,9 @@ class Sessions(Case):
 
     def test_a_server_that_hangs_while_a_table_is_added(self) -> None:
         """Nothing of the session is read meanwhile, so it is asked on another connection."""
-        self.patch(postgres, "LEAST_LIMIT", 0.05)
-        self.patch(postgres, "CONNECT_LIMIT", 0.05)
-        self.patch(server, "QUICK", 0.05)
+        self.patch(connection_module, "LEAST_LIMIT", 0.05)
+        self.patch(connection_module, "CONNECT_LIMIT", 0.05)
+        self.patch(session, "QUICK", 0.05)
         follower = self.follower(silence=30.0)
         follower.confirming.last_sent, now, self.progress.server_started = time.monotonic(), time.monotonic(), 1000
         for heard, lets_in, refusal, fails in (
@@ -352,9 +355,9 @@ class Meets(Case):
     def setUp(self) -> None:
         super().setUp()
         for name in ("LOOK", "SOON"):
-            self.patch(snapshots, name, 0.01)
-        self.patch(following, "SOON", 0.01)
-        self.patch(following, "ASK", 0.05)
+            self.patch(snapshot, name, 0.01)
+        self.patch(follower_module, "SOON", 0.01)
+        self.patch(follower_module, "ASK", 0.05)
         self.request = self.store + ".request"
         self.taken: list[int] = []
         self.patch(Snapshots, "take", self.take)
@@ -431,7 +434,7 @@ class Fits(Case):
         """Checks the timeline of a server, where the last session had this one and the store is there."""
         follower = self.follower()
         self.checkpoint.write(False, timeline=timeline, started=started, position=position)
-        connection = postgres.Connection(self.server.dsn())
+        connection = connection_module.Connection(self.server.dsn())
         self.addCleanup(connection.close)
         follower.fitting.check_timeline(connection, now, position)
 
@@ -502,15 +505,15 @@ class Fits(Case):
 
     def test_each_session_is_judged(self) -> None:
         """What is warned of is told once, until it is another thing. The checkpoint keeps that TLS was in use, and so does the process."""
-        follower, own = self.follower_alone(), trust.Trust()
+        follower, own = self.follower_alone(), transport.Trust()
         plain, unverified = Protection("plain", (), False), Protection("tls", (), False)
         for protection, warnings, kept in ((plain, 1, False), (plain, 1, False), (unverified, 2, True), (unverified, 2, True)):
-            with mock.patch.object(trust, "protection_of", return_value=protection), mock.patch.object(trust, "OWN", own):
+            with mock.patch.object(transport, "protection_of", return_value=protection), mock.patch.object(transport, "OWN", own):
                 self.connect(follower)
                 follower.disconnect()
             self.assertEqual(sum("warning: the connection is" in it for it in self.said), warnings)
             self.assertIs(self.checkpoint.read().encrypted, kept)
-        with mock.patch.object(trust, "protection_of", return_value=plain), mock.patch.object(trust, "OWN", own):
+        with mock.patch.object(transport, "protection_of", return_value=plain), mock.patch.object(transport, "OWN", own):
             with self.assertRaisesRegex(Unfit, "isn't encrypted, and the connections were encrypted before.*--accept plaintext"):
                 self.connect(follower)
 

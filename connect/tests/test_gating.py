@@ -11,18 +11,20 @@ import unittest
 from collections.abc import Iterator
 from unittest import mock
 
-from pgsub_connect import addable, adding, following, gating, verifying
+from pgsub_connect.add import addable, adder
+from pgsub_connect.follow import follower, gate
+from pgsub_connect.commands import verify
 from pgsub_connect.errors import Delayed, Passing, ServerError, Stopped, Unrepaired
-from pgsub_connect.filtering import flushed
-from pgsub_connect.gating import Gating, Making, is_shared, too_large_to_copy
-from pgsub_connect.holding import Hold
-from pgsub_connect.meeting import Request
-from pgsub_connect.options import Options
-from pgsub_connect.postgres import never
-from pgsub_connect.progress import Progress
-from pgsub_connect.resting import read_request
-from pgsub_connect.snapshots import Snapshots
-from pgsub_connect.texts import lsn_text
+from pgsub_connect.follow.filter import flushed
+from pgsub_connect.follow.gate import Gating, Making, is_shared, too_large_to_copy
+from pgsub_connect.follow.hold import Hold
+from pgsub_connect.verify.meeting_point import Request
+from pgsub_connect.commands.options import Options
+from pgsub_connect.server.connection import never
+from pgsub_connect.status.progress import Progress
+from pgsub_connect.store.at_rest import read_request
+from pgsub_connect.store.snapshot import Snapshots
+from pgsub_feed.texts import lsn_text
 
 from .adding_case import OTHER, Run, T
 from .adding_case import Case as AddingCase
@@ -79,11 +81,11 @@ class Looks(Quiet):
         self.server = FakeServer()
         self.ends: list[Row | ServerError] = []
         self.server.answer("pg_locks", self.answer)
-        patch = mock.patch.object(gating, "Connection", self.server.connect)
+        patch = mock.patch.object(gate, "Connection", self.server.connect)
         patch.start()
         self.addCleanup(patch.stop)
         self.now = [100.0]
-        patch = mock.patch.object(gating, "time", mock.Mock(monotonic=lambda: self.now[0]))
+        patch = mock.patch.object(gate, "time", mock.Mock(monotonic=lambda: self.now[0]))
         patch.start()
         self.addCleanup(patch.stop)
         self.hold, self.progress, self.gone = Hold(), Progress(), list[str]()
@@ -191,7 +193,7 @@ class Requests(StoreCase):
         self.snapshots = Snapshots(self.path, None, 0.0)
         self.snapshots.delays_commits = lambda standbys: True
         for name in ("LOOK", "SOON"):
-            self.patch(f"pgsub_connect.snapshots.{name}", 0.0)
+            self.patch(f"pgsub_connect.store.snapshot.{name}", 0.0)
 
     @contextlib.contextmanager
     def asked(self, **more: object) -> Iterator[None]:
@@ -236,16 +238,16 @@ class Requests(StoreCase):
                 self.assertFalse(self.snapshots.hold.is_held)
 
     def test_a_store_that_takes_long_to_copy(self) -> None:
-        self.patch("pgsub_connect.gating.COPIED", 1)
-        self.patch("pgsub_connect.gating.is_shared", lambda _: False)
+        self.patch("pgsub_connect.follow.gate.COPIED", 1)
+        self.patch("pgsub_connect.follow.gate.is_shared", lambda _: False)
         with self.asked(maker=4711):
             self.snapshots.is_due(0x130)
             self.assertIn("take the follower out of synchronous_standby_names", self.error())
             self.assertFalse(self.snapshots.hold.is_held)
 
     def test_a_file_system_that_shares_blocks(self) -> None:
-        self.patch("pgsub_connect.gating.COPIED", 1)
-        self.patch("pgsub_connect.gating.is_shared", lambda _: True)
+        self.patch("pgsub_connect.follow.gate.COPIED", 1)
+        self.patch("pgsub_connect.follow.gate.is_shared", lambda _: True)
         self.assertEqual(too_large_to_copy(self.path), "")
         self.assertIsInstance(is_shared(self.path), bool)
         self.assertFalse(is_shared("/proc/self/stat"))
@@ -325,7 +327,7 @@ class Synchronous(AddingCase):
 
     def test_commits_wait_for_too_long(self) -> None:
         """As where the slot waits for no transaction and isn't made: it is tried again later."""
-        self.patch(gating, "MOST", 0.2)
+        self.patch(gate, "MOST", 0.2)
         tries: list[int] = []
 
         def hook(name: str) -> None:
@@ -346,8 +348,8 @@ class Synchronous(AddingCase):
 
     def test_rows_that_take_too_long(self) -> None:
         """The table is refused, and another session begins at once."""
-        self.patch(adding, "LONGEST_WAIT", 0.0)
-        self.patch(following, "FIRST_DELAY", 60.0)
+        self.patch(adder, "LONGEST_WAIT", 0.0)
+        self.patch(follower, "FIRST_DELAY", 60.0)
         self.want(T)
 
         def hook(name: str) -> None:
@@ -397,10 +399,10 @@ class Tries(unittest.TestCase):
 
     def tries(self, *results: object) -> tuple[object, int]:
         tried = mock.Mock(side_effect=results)
-        quick = mock.patch.object(verifying, "PAUSE", 0.0)
-        with mock.patch.object(verifying, "repair_once", tried), quick, logged():
+        quick = mock.patch.object(verify, "PAUSE", 0.0)
+        with mock.patch.object(verify, "repair_once", tried), quick, logged():
             try:
-                return verifying.repair(Options(), verifying.Compared(), never), tried.call_count
+                return verify.repair(Options(), verify.Compared(), never), tried.call_count
             except Passing as error:
                 return error, tried.call_count
 
@@ -419,7 +421,7 @@ class Sizes(unittest.TestCase):
         server = FakeServer()
         server.answer("size", [["16385", str(size)]])
         source = mock.Mock(plain=server.connect(""), standbys=lambda: standbys)
-        verifying.check_sizes(Options(dsn=dsn), source, [table(T, "t")])
+        verify.check_sizes(Options(dsn=dsn), source, [table(T, "t")])
 
     def test_small_ones(self) -> None:
         self.check("pgsub", 1000)
@@ -443,7 +445,7 @@ class Repairs(RepairsCase):
         self.brain.answer("pg_locks", lambda _: [[lsn_text(self.world.end), "t"]])
 
     def test_it_is_given_up_where_commits_wait_for_too_long(self) -> None:
-        self.patch(gating, "MOST", 0.3)
+        self.patch(gate, "MOST", 0.3)
         run = self.running()
         with contextlib.closing(Request(self.store, 5.0, never, repairs=True)) as request:
             request.hold(4711)

@@ -12,15 +12,15 @@ import unittest
 from collections.abc import Callable, Iterator
 from unittest import mock
 
-from pgsub_connect import snapshots
-from pgsub_connect.confirming import Confirming
+from pgsub_connect.store import snapshot
+from pgsub_connect.follow.statuses import Confirming
 from pgsub_connect.errors import ServerError, Stopped
-from pgsub_connect.following import Follower
-from pgsub_connect.holding import Hold, count_below
-from pgsub_connect.postgres import never
-from pgsub_connect.progress import Progress
-from pgsub_connect.resting import read_request
-from pgsub_connect.snapshots import Snapshots
+from pgsub_connect.follow.follower import Follower
+from pgsub_connect.follow.hold import Hold, count_below
+from pgsub_connect.server.connection import never
+from pgsub_connect.status.progress import Progress
+from pgsub_connect.store.at_rest import read_request
+from pgsub_connect.store.snapshot import Snapshots
 
 from .stores import StoreCase
 from .vectors import begin, commit, insert, keepalive, logged, start, stop, stream_abort, stream_commit
@@ -169,7 +169,7 @@ class Requests(StoreCase):
         self.request, self.copy = self.path + ".request", self.folder + "/copy"
         self.snapshots = Snapshots(self.path, None, 0.0)
         for name in ("LOOK", "SOON"):
-            self.patch(f"pgsub_connect.snapshots.{name}", 0.0)
+            self.patch(f"pgsub_connect.store.snapshot.{name}", 0.0)
 
     @contextlib.contextmanager
     def asked(self, **more: object) -> Iterator[None]:
@@ -227,7 +227,7 @@ class Requests(StoreCase):
     def test_who_asked_is_gone_while_the_file_is_made(self) -> None:
         """Nothing of it stays."""
         for is_taken_back in (False, True):
-            with contextlib.ExitStack() as going, logged(), mock.patch.object(snapshots, "fold", lambda _, going=going: going.close()):
+            with contextlib.ExitStack() as going, logged(), mock.patch.object(snapshot, "fold", lambda _, going=going: going.close()):
                 going.enter_context(self.asked())
                 if is_taken_back:
                     going.callback(os.unlink, self.request)
@@ -237,7 +237,7 @@ class Requests(StoreCase):
 
     def cut(self, error: Exception, **more: object) -> str | None:
         """Begins a copy that was asked for, in which an error comes. What the request says then of an error."""
-        with contextlib.ExitStack() as going, mock.patch.object(snapshots, "CHUNK", 4096):
+        with contextlib.ExitStack() as going, mock.patch.object(snapshot, "CHUNK", 4096):
             if more:
                 going.enter_context(self.asked(**more))
                 self.assertFalse(self.snapshots.is_due(0x130))
@@ -271,7 +271,7 @@ class Requests(StoreCase):
         self.snapshots.path, self.snapshots.asked = self.copy, True
         for error, again in ((ServerError("lost"), True), (Stopped(), False)):
             self.assertTrue(self.snapshots.is_due(0x130))
-            with mock.patch.object(snapshots, "CHUNK", 4096), self.assertRaises(type(error)), logged():
+            with mock.patch.object(snapshot, "CHUNK", 4096), self.assertRaises(type(error)), logged():
                 self.snapshots.take(0x130, mock.Mock(side_effect=[None, error]))
             self.assertEqual(os.listdir(self.folder), ["copy.db"])
             self.assertEqual(self.snapshots.is_due(0x130), again)

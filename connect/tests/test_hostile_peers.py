@@ -7,7 +7,7 @@ import json
 from unittest import mock
 
 from pgsub_connect.errors import EngineError, Passing, TooLarge, Unfit
-from pgsub_connect.sinks.relations import Relations
+from pgsub_feed.sinks.relations import Relations
 
 from .fake_nats import FakeNats
 from .feeds import insert

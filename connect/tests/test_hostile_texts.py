@@ -10,16 +10,17 @@ from collections.abc import Callable
 from typing import Any
 from unittest import mock
 
-from pgsub_connect import jsontexts, snapshots
-from pgsub_connect.checkpoint import Checkpoint
+from pgsub_feed import json_texts
+from pgsub_connect.store import snapshot
+from pgsub_connect.store.checkpoint import Checkpoint
 from pgsub_connect.cli import BUG, FILE, main
-from pgsub_connect.dropping import made_publications, read_remembered
+from pgsub_connect.commands.drop import made_publications, read_remembered
 from pgsub_connect.errors import FileError
-from pgsub_connect.jsontexts import Unreadable, parsed
-from pgsub_connect.postgres import never
-from pgsub_connect.remembered import Remembered
-from pgsub_connect.resting import read_request
-from pgsub_connect.snapshots import Snapshots
+from pgsub_feed.json_texts import Unreadable, parsed
+from pgsub_connect.server.connection import never
+from pgsub_connect.drift.remembered import Remembered
+from pgsub_connect.store.at_rest import read_request
+from pgsub_connect.store.snapshot import Snapshots
 
 from .fake_server import Quiet
 from .hostile import TEXTS, altered
@@ -37,18 +38,18 @@ class Parsed(Quiet):
 
     def test_kinds(self) -> None:
         kinds: tuple[tuple[Callable[[Any], object], list[Any], list[Any]], ...] = (
-            (jsontexts.object_of, [{}], [[], "x", 5, None]),
-            (jsontexts.list_of, [[]], [{}, "x", None]),
-            (jsontexts.text_of, ["x"], [5, None]),
-            (jsontexts.whole_of, [0, (1 << 64) - 1], [-1, 1 << 64, True, 1.0, "1", None]),
-            (jsontexts.number_of, [0, -1.5], [True, "1", None, 10**400]),
-            (jsontexts.flag_of, [True], [1, 0, None, "true"]),
+            (json_texts.object_of, [{}], [[], "x", 5, None]),
+            (json_texts.list_of, [[]], [{}, "x", None]),
+            (json_texts.text_of, ["x"], [5, None]),
+            (json_texts.whole_of, [0, (1 << 64) - 1], [-1, 1 << 64, True, 1.0, "1", None]),
+            (json_texts.number_of, [0, -1.5], [True, "1", None, 10**400]),
+            (json_texts.flag_of, [True], [1, 0, None, "true"]),
             (
-                jsontexts.oid_of,
+                json_texts.oid_of,
                 [5, "5", (1 << 32) - 1],
                 [1 << 32, "x", "-5", "\u0665", "99999999999", 1.5],
             ),
-            (jsontexts.lsn_of, ["0/1"], [5, "1", "0/x", None]),
+            (json_texts.lsn_of, ["0/1"], [5, "1", "0/x", None]),
         )
         for call, right, wrong in kinds:
             for it in right:
@@ -62,13 +63,13 @@ class Parsed(Quiet):
         os.mkfifo(folder + "/pipe")
         os.symlink("pipe", folder + "/link")
         for name, follows in (("pipe", True), ("link", True), ("", True)):
-            self.assertRaises(Unreadable, jsontexts.read_plain, f"{folder}/{name}", 10, follows)
+            self.assertRaises(Unreadable, json_texts.read_plain, f"{folder}/{name}", 10, follows)
         with open(folder + "/file", "w") as file:
             file.write("x" * 11)
-        self.assertRaises(Unreadable, jsontexts.read_plain, folder + "/file", 10)
-        self.assertEqual(jsontexts.read_plain(folder + "/file", 11), b"x" * 11)
+        self.assertRaises(Unreadable, json_texts.read_plain, folder + "/file", 10)
+        self.assertEqual(json_texts.read_plain(folder + "/file", 11), b"x" * 11)
         os.symlink("file", folder + "/other")
-        self.assertRaises(OSError, jsontexts.read_plain, folder + "/other", 20, False)
+        self.assertRaises(OSError, json_texts.read_plain, folder + "/other", 20, False)
 
 
 class Files(StoreCase):
@@ -164,7 +165,7 @@ class Files(StoreCase):
 
     def test_a_request(self) -> None:
         """The follower goes on whatever it says, and makes only new files beside the store."""
-        self.enterContext(mock.patch.object(snapshots, "LOOK", 0.0))
+        self.enterContext(mock.patch.object(snapshot, "LOOK", 0.0))
         right = {
             "into": self.folder + "/new.db",
             "hold": 5.0,

@@ -6,10 +6,10 @@ import json
 import unittest
 from unittest import mock
 
-from pgsub_connect.lag import Lag
-from pgsub_connect.noting import EPOCH, Noting
-from pgsub_connect.progress import STATES, Progress
-from pgsub_connect.remembered import Remembered
+from pgsub_connect.status.lag import Lag
+from pgsub_connect.follow.stream_log import EPOCH, Noting
+from pgsub_connect.status.progress import Progress, STATES
+from pgsub_connect.drift.remembered import Remembered
 
 from . import vectors
 
@@ -62,7 +62,7 @@ class Behind(unittest.TestCase):
             self.lag.confirmed = now
             self.lag.note_answer(float(now), float(now), None, now)
         self.assertEqual((len(self.lag.asked), self.lag.seconds(101.0)), (1, 0.0))
-        with mock.patch("pgsub_connect.lag.MOST", 3):
+        with mock.patch("pgsub_connect.status.lag.MOST", 3):
             self.lag = Lag()
         for now in range(1, 101):
             self.lag.note_answer(float(now), float(now), None, now)

@@ -8,7 +8,7 @@ import re
 import unittest
 from unittest import mock
 
-from pgsub_connect import log
+from pgsub_feed import log
 
 
 def said(level: str, text: str) -> list[str]:

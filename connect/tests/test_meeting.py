@@ -10,18 +10,18 @@ import unittest
 from collections.abc import Iterator
 from unittest import mock
 
-from pgsub_connect import meeting
-from pgsub_connect.checkpoint import FOLLOWING, Known
-from pgsub_connect.copying import CHANGED
+from pgsub_connect.verify import meeting_point
+from pgsub_connect.store.checkpoint import FOLLOWING, Known
+from pgsub_connect.copy.copier import CHANGED
 from pgsub_connect.errors import NoSlot, Passing, ServerError, Stopped, Unfit
-from pgsub_connect.holding import write_request
-from pgsub_connect.meeting import Request, Source
-from pgsub_connect.options import Options
-from pgsub_connect.postgres import Check, never
-from pgsub_connect.publishing import Table
-from pgsub_connect.snapshots import Snapshots, position_in
-from pgsub_connect.unchanged import ALTERED, LOCKED, MOVED
-from pgsub_connect.verifying import meet
+from pgsub_connect.follow.hold import write_request
+from pgsub_connect.verify.meeting_point import Request, Source
+from pgsub_connect.commands.options import Options
+from pgsub_connect.server.connection import Check, never
+from pgsub_connect.server.publications import Table
+from pgsub_connect.store.snapshot import Snapshots, position_in
+from pgsub_connect.verify.unchanged import ALTERED, LOCKED, MOVED
+from pgsub_connect.commands.verify import meet
 
 from .fake_server import FakeServer, Quiet, Row
 from .stores import StoreCase
@@ -111,7 +111,7 @@ class Asks(StoreCase):
         self.assertEqual(self.left(), {"copy.db", "copy.db.connector"})
 
     def test_a_follower_that_doesnt_answer(self) -> None:
-        with mock.patch.object(meeting, "PATIENCE", 0.02):
+        with mock.patch.object(meeting_point, "PATIENCE", 0.02):
             self.ask("hasn't answered in 0 seconds")
 
     def test_a_follower_that_ends(self) -> None:
@@ -161,11 +161,11 @@ class Servers(Quiet):
         self.server.answer("pg_is_in_recovery", [["f"]])
         self.server.answer("CREATE_REPLICATION_SLOT", [["x", "0/200", "snap", "pgoutput"]])
         self.tables = [self.table]
-        self.replace("pgsub_connect.meeting.LOOK", 0.001)
+        self.replace("pgsub_connect.verify.meeting_point.LOOK", 0.001)
         for where in ("meeting", "copying", "waiting"):
             self.replace(f"pgsub_connect.{where}.Connection", self.server.connect)
-        self.replace("pgsub_connect.meeting.published_tables", lambda *_: list(self.tables))
-        self.replace("pgsub_connect.copying.are_so_named", lambda *_: True)
+        self.replace("pgsub_connect.verify.meeting_point.published_tables", lambda *_: list(self.tables))
+        self.replace("pgsub_connect.copy.copier.are_so_named", lambda *_: True)
 
     def replace(self, name: str, by: object) -> None:
         patch = mock.patch(name, by)
@@ -286,7 +286,7 @@ class Servers(Quiet):
 
     def test_what_is_renamed_behind_the_snapshot_is_left_out(self) -> None:
         source = self.two()
-        self.replace("pgsub_connect.copying.are_so_named", lambda _, tables: 2 not in [it.oid for it in tables])
+        self.replace("pgsub_connect.copy.copier.are_so_named", lambda _, tables: 2 not in [it.oid for it in tables])
         source.see("snap", leaves=True)
         self.assertEqual(([it.oid for it in source.tables], source.left), ([1], {2: ALTERED}))
 

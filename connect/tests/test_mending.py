@@ -12,14 +12,14 @@ from types import SimpleNamespace
 from typing import cast
 from unittest import mock
 
-from pgsub_connect import sides
-from pgsub_connect.digests import Plan, Queries, text_of
-from pgsub_connect.meeting import Source
-from pgsub_connect.mending import Changes, Mender, NoChange, changes_of
-from pgsub_connect.messages import relation
-from pgsub_connect.postgres import never
-from pgsub_connect.publishing import Column, Table
-from pgsub_connect.sides import Copy, Sides
+from pgsub_connect.verify import sides
+from pgsub_connect.verify.digests import Plan, Queries, text_of
+from pgsub_connect.verify.meeting_point import Source
+from pgsub_connect.verify.repair_rows import Changes, Mender, NoChange, changes_of
+from pgsub_connect.copy.messages import relation
+from pgsub_connect.server.connection import never
+from pgsub_connect.server.publications import Column, Table
+from pgsub_connect.verify.sides import Copy, Sides
 
 from .fake_server import connection_to
 from .row_filter import Store, Subscriber
@@ -96,7 +96,7 @@ class Written(Case):
 
         with contextlib.ExitStack() as stack:
             self.said = stack.enter_context(logged())
-            stack.enter_context(mock.patch.multiple("pgsub_connect.digests.Queries", sums=sums, texts=texts))
+            stack.enter_context(mock.patch.multiple("pgsub_connect.verify.digests.Queries", sums=sums, texts=texts))
             copy = stack.enter_context(contextlib.closing(Copy(self.path, self.path, 0x130, never)))
             with contextlib.suppress(FileNotFoundError):
                 os.unlink(self.file)

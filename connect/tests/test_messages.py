@@ -8,8 +8,8 @@ import struct
 import unittest
 
 from pgsub_connect.errors import WrongAnswer
-from pgsub_connect.messages import InsertHeads, begin, cells_length, commit, frame, inserts, relation, unescaped
-from pgsub_connect.publishing import Column, Table
+from pgsub_connect.copy.messages import InsertHeads, begin, cells_length, commit, frame, inserts, relation, unescaped
+from pgsub_connect.server.publications import Column, Table
 
 ESCAPES = {b"b": b"\b", b"f": b"\f", b"n": b"\n", b"r": b"\r", b"t": b"\t", b"v": b"\v"}
 

@@ -6,10 +6,10 @@ import dataclasses
 import tempfile
 import unittest
 
-from pgsub_connect.catalog import Partition
-from pgsub_connect.noting import Noting, changes_text, relation_of
-from pgsub_connect.progress import Progress
-from pgsub_connect.remembered import Remembered
+from pgsub_connect.server.catalog import Partition
+from pgsub_connect.follow.stream_log import Noting, changes_text, relation_of
+from pgsub_connect.status.progress import Progress
+from pgsub_connect.drift.remembered import Remembered
 
 from . import vectors
 from .vectors import ID, NAME, a_catalog, a_shape, a_table, begin, commit, delete, insert, keepalive, relation, update

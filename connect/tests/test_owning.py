@@ -12,16 +12,18 @@ from collections.abc import Callable, Iterator
 from typing import Any
 from unittest import mock
 
-from pgsub_connect import exporting, owning, resting
+from pgsub_connect.store import at_rest, export
+from pgsub_feed import ownership
 from pgsub_connect.errors import FileError
-from pgsub_connect.feed import beginning, noting
-from pgsub_connect.mending import Changes
-from pgsub_connect.options import Options
-from pgsub_connect.placing import placed
-from pgsub_connect.postgres import never
-from pgsub_connect.remembered import Remembered, replace_file
-from pgsub_connect.requesting import noted
-from pgsub_connect.snapshots import Snapshots, meant
+from pgsub_feed.tables import first_rows
+from pgsub_feed.reader import positions
+from pgsub_connect.verify.repair_rows import Changes
+from pgsub_connect.commands.options import Options
+from pgsub_connect.store.placing import placed
+from pgsub_connect.server.connection import never
+from pgsub_connect.drift.remembered import Remembered, replace_file
+from pgsub_connect.commands.add import noted
+from pgsub_connect.store.snapshot import Snapshots, meant
 
 from .fake_server import Quiet
 from .stores import StoreCase
@@ -94,15 +96,15 @@ class Given(Case):
             lock(file, flags)
 
         with touched.noted(), mock.patch("fcntl.flock", plant), mock.patch.object(
-            resting, "is_followed", lambda _: True
+            at_rest, "is_followed", lambda _: True
         ):
-            file = resting.put_request(
+            file = at_rest.put_request(
                 self.path, self.path + ".request", self.folder + "/asked", never
             )
         assert file is not None
         self.addCleanup(os.close, file)
         self.is_as_it_was(touched)
-        self.assertEqual(resting.read_request(self.path + ".request"), {})
+        self.assertEqual(at_rest.read_request(self.path + ".request"), {})
 
     def test_a_copy_that_is_a_link(self) -> None:
         """What root reads is what the follower has copied."""
@@ -113,7 +115,7 @@ class Given(Case):
             if not request:
                 os.unlink(self.path + ".request")
             with self.assertRaisesRegex(FileError, "a link in the place of a copy"):
-                resting.wait_for_copy(
+                at_rest.wait_for_copy(
                     self.path, self.path + ".request", self.folder + "/asked", never
                 )
 
@@ -144,21 +146,21 @@ class Given(Case):
             self.plant(name)
 
         with touched.noted(), mock.patch("os.mkdir", plant), self.assertRaises(OSError):
-            noting.make_folder(path, 0o644)
+            positions.make_folder(path, 0o644)
         self.is_as_it_was(touched)
 
     def test_a_request_that_is_changed(self) -> None:
         """Who asks changes its own file alone, and a follower nothing that a link leads to."""
-        from pgsub_connect.holding import write_own_request, write_request
+        from pgsub_connect.follow.hold import write_own_request, write_request
 
         request = self.folder + "/asked"
         file = os.open(request, os.O_RDWR | os.O_CREAT, 0o600)
         self.addCleanup(os.close, file)
         write_own_request(request, file, into="a long text")
         write_own_request(request, file, into="x")
-        self.assertEqual(resting.read_request(request), {"into": "x"})
+        self.assertEqual(at_rest.read_request(request), {"into": "x"})
         write_request(request, into="y")
-        self.assertEqual(resting.read_request(request), {"into": "y"})
+        self.assertEqual(at_rest.read_request(request), {"into": "y"})
         self.plant(request)
         write_own_request(request, file, into="z")
         write_request(request, into="z")
@@ -302,13 +304,13 @@ class Links(Case):
             "",
         ):
             path = path if path == "/" else f"{self.folder}/{path}"
-            self.assertEqual(owning.real(path), os.path.realpath(path), path)
+            self.assertEqual(ownership.real(path), os.path.realpath(path), path)
         for path in ("d", "e"):
-            self.assertTrue(os.path.islink(owning.real(f"{self.folder}/{path}")))
+            self.assertTrue(os.path.islink(ownership.real(f"{self.folder}/{path}")))
         before = os.getcwd()
         os.chdir(self.folder)
         self.addCleanup(os.chdir, before)
-        self.assertEqual(owning.real("b/x"), os.path.realpath("b/x"))
+        self.assertEqual(ownership.real("b/x"), os.path.realpath("b/x"))
 
     def test_of_another_account(self) -> None:
         self.foreign(self.folder + "/far/new.db", self.folder + "/link")
@@ -316,7 +318,7 @@ class Links(Case):
             with self.assertRaisesRegex(
                 FileError, r"link: a link of another account \(\d+\) isn't followed"
             ):
-                owning.real(f"{self.folder}/{path}")
+                ownership.real(f"{self.folder}/{path}")
 
     def test_nothing_is_made_or_removed_where_it_leads(self) -> None:
         """As in a sticky folder, where the name of the new file is taken by a link."""
@@ -324,11 +326,11 @@ class Links(Case):
         for suffix in ("-wal", "-journal"):
             shutil.copy(self.victim, self.folder + "/far/app.db" + suffix)
         with logged(), self.assertRaisesRegex(FileError, "isn't followed"):
-            exporting.run(Options(command="export", store=self.path, into=self.into), never)
+            export.run(Options(command="export", store=self.path, into=self.into), never)
         with self.assertRaisesRegex(FileError, "isn't followed"), placed(self.into, 0o600):
             self.fail("it was followed")
         with self.assertRaisesRegex(FileError, "isn't followed"):
-            beginning.check_file(self.into)
+            first_rows.check_file(self.into)
         snapshots = Snapshots(self.path, self.into, 0.0)
         with logged() as told:
             snapshots.take(0x130, never)
@@ -338,6 +340,6 @@ class Links(Case):
 
     def test_a_folder_on_the_way(self) -> None:
         self.foreign("far", self.folder + "/way")
-        for call in (meant, resting.has_log):
+        for call in (meant, at_rest.has_log):
             with self.assertRaisesRegex(FileError, "way: a link of another account"):
                 call(self.folder + "/way/copy.db")

@@ -10,15 +10,15 @@ import unittest
 from collections.abc import Sequence
 from unittest import mock
 
-from pgsub_connect.checkpoint import Checkpoint
+from pgsub_connect.store.checkpoint import Checkpoint
 from pgsub_connect.errors import ServerError
-from pgsub_connect.filtering import PIECE, REJECTED, ROOM, Filter, FilterEnded
-from pgsub_connect.following import Follower
-from pgsub_connect.options import Options
-from pgsub_connect.progress import Progress
-from pgsub_connect.recording import Aside, Recording
-from pgsub_connect.remembered import Remembered
-from pgsub_connect.snapshots import Snapshots
+from pgsub_connect.follow.filter import Filter, FilterEnded, PIECE, REJECTED, ROOM
+from pgsub_connect.follow.follower import Follower
+from pgsub_connect.commands.options import Options
+from pgsub_connect.status.progress import Progress
+from pgsub_connect.commands.record import Aside, Recording
+from pgsub_connect.drift.remembered import Remembered
+from pgsub_connect.store.snapshot import Snapshots
 
 from .vectors import a_catalog, a_table, begin, commit, insert, keepalive, logged, relation
 

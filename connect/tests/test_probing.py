@@ -11,7 +11,7 @@ import time
 import unittest
 
 from pgsub_connect import cli
-from pgsub_connect.progress import Progress, time_text
+from pgsub_connect.status.progress import Progress, time_text
 
 
 class Probes(unittest.TestCase):

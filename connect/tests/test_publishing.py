@@ -6,10 +6,10 @@ import re
 import unittest
 from unittest import mock
 
-from pgsub_connect import making
+from pgsub_connect.server import publication_setup
 from pgsub_connect.errors import ServerError, Stopped
-from pgsub_connect.making import Maker, Wanted, identity, names_of, publishable_tables
-from pgsub_connect.publishing import Column, Leaves, Table, published_tables, put_columns, united, with_cure
+from pgsub_connect.server.publication_setup import Maker, Wanted, identity, names_of, publishable_tables
+from pgsub_connect.server.publications import Column, Leaves, Table, published_tables, put_columns, united, with_cure
 from tests.fake_server import FakeServer, Quiet, Row, connection_to
 
 KEY, OTHER = Column("id", 23, -1, True), Column("Q\"x", 25, -1, False)
@@ -113,7 +113,7 @@ class Cut(unittest.TestCase):
     def test_names_that_are_made_of_others_are_whole(self) -> None:
         """Letters of several bytes too: the server would cut within them."""
         for name in ("p" * 63, "\u0416" * 31, "p\U0001f600" * 12):
-            part = making.cut(name)
+            part = publication_setup.cut(name)
             self.assertTrue(name.startswith(part))
             self.assertIn(len(part.encode()), range(37, 41))
 
@@ -187,7 +187,7 @@ class Making(Quiet):
         self.theirs: tuple[str, ...] = ()
         server.answer("SELECT p.oid FROM pg_catalog.pg_publication p", self.oid)
         server.answer("c.relkind IN ('r', 'p') AND NOT", [["public", "stock"], ["public", "audit"]])
-        patch = mock.patch.object(making, "Connection", server.connect)
+        patch = mock.patch.object(publication_setup, "Connection", server.connect)
         patch.start()
         self.addCleanup(patch.stop)
 

@@ -8,12 +8,13 @@ import time
 import unittest
 from unittest import mock
 
-from pgsub_connect import cli, trust
+from pgsub_connect import cli
+from pgsub_connect.server import transport
 from pgsub_connect.errors import FileError, UsageError
-from pgsub_connect.filtering import COPY_DONE, flushed
-from pgsub_connect.options import Options
-from pgsub_connect.postgres import Connection
-from pgsub_connect.recording import Recorder, Recording
+from pgsub_connect.follow.filter import COPY_DONE, flushed
+from pgsub_connect.commands.options import Options
+from pgsub_connect.server.connection import Connection
+from pgsub_connect.commands.record import Recorder, Recording
 
 from .fake_server import FakeServer, Quiet
 from .small_server import SmallServer
@@ -200,8 +201,8 @@ class Versions(Case):
             self.assertEqual(len([it for it in file if not it.startswith("#")]), 8)
 
     def test_plain_text_is_warned_of(self) -> None:
-        plain = trust.Protection("plain", (), False)
-        with mock.patch.object(trust, "protection_of", return_value=plain), mock.patch.object(trust, "OWN", trust.Trust()):
+        plain = transport.Protection("plain", (), False)
+        with mock.patch.object(transport, "protection_of", return_value=plain), mock.patch.object(transport, "OWN", transport.Trust()):
             self.record(seconds=0.01)
         self.assertIn("warning: the connection isn't encrypted", self.said[0])
 

@@ -14,16 +14,17 @@ from collections.abc import Iterator
 from typing import Any
 from unittest import mock
 
-from pgsub_connect import refreshing, requesting, resting, snapshots
-from pgsub_connect.catalog import Catalog, Part, Partition
+from pgsub_connect.commands import add, refresh as refresh_module
+from pgsub_connect.store import at_rest, snapshot
+from pgsub_connect.server.catalog import Catalog, Part, Partition
 from pgsub_connect.errors import FileError, Passing, ServerError, Stopped, Unfit
-from pgsub_connect.found import NOTHING, About
-from pgsub_connect.options import Options
-from pgsub_connect.postgres import Check, never
-from pgsub_connect.refreshing import CHANGED, EXTRA, MISSING, OTHER, Told, compared
-from pgsub_connect.remembered import Remembered
-from pgsub_connect.snapshots import Snapshots
-from pgsub_connect.words import arguments
+from pgsub_connect.drift.findings import About, NOTHING
+from pgsub_connect.commands.options import Options
+from pgsub_connect.server.connection import Check, never
+from pgsub_connect.commands.refresh import CHANGED, EXTRA, MISSING, OTHER, Told, compared
+from pgsub_connect.drift.remembered import Remembered
+from pgsub_connect.store.snapshot import Snapshots
+from pgsub_connect.commands.words import arguments
 
 from .fake_server import FakeServer, Quiet
 from .small_world import table
@@ -110,9 +111,9 @@ class Case(Quiet):
         self.server = FakeServer()
         self.now = a_catalog(ONE, TWO, THREE)
         for where, what, by in (
-            (requesting, "Connection", self.server.connect), (refreshing, "Connection", self.server.connect), (requesting, "LOOK", 0.005), (requesting, "WAIT", 0.005),
-            (refreshing, "read_catalog", lambda *_: self.now), (resting, "LOOK", 0.005), (snapshots, "LOOK", 0.005),
-            (requesting, "published_tables", lambda *_: [table(it.oid, it.name) for it in self.now.tables.values()]),
+            (add, "Connection", self.server.connect), (refresh_module, "Connection", self.server.connect), (add, "LOOK", 0.005), (add, "WAIT", 0.005),
+            (refresh_module, "read_catalog", lambda *_: self.now), (at_rest, "LOOK", 0.005), (snapshot, "LOOK", 0.005),
+            (add, "published_tables", lambda *_: [table(it.oid, it.name) for it in self.now.tables.values()]),
         ):
             patch = mock.patch.object(where, what, by)
             patch.start()
@@ -122,8 +123,8 @@ class Case(Quiet):
         return Options(store=self.store, publication=["pgsub"], table=list(names), yes=yes)
 
     def refresh(self, status: int, yes: bool = True, answer: bool = False, check: Check = never) -> list[dict[str, object]]:
-        with contextlib.redirect_stdout(io.StringIO()) as out, mock.patch.object(refreshing, "ask_terminal", lambda *_: answer):
-            self.assertEqual(refreshing.run(self.options(yes=yes), check), status)
+        with contextlib.redirect_stdout(io.StringIO()) as out, mock.patch.object(refresh_module, "ask_terminal", lambda *_: answer):
+            self.assertEqual(refresh_module.run(self.options(yes=yes), check), status)
         return [json.loads(it) for it in out.getvalue().splitlines()]
 
     def wanted(self) -> dict[int, str]:
@@ -163,27 +164,27 @@ class Case(Quiet):
 class Adds(Case):
     def test_by_the_follower(self) -> None:
         with self.followed() as asked:
-            self.assertEqual(requesting.run(self.options("one", "public.two", "one"), never), 0)
+            self.assertEqual(add.run(self.options("one", "public.two", "one"), never), 0)
         self.assertEqual((asked, self.wanted()), ([[1, 2]], {}))
         self.assertEqual(sorted(os.listdir(os.path.dirname(self.store))), ["copy.db", "copy.db.connector", "copy.db.tables"])
 
     def test_by_the_next_start(self) -> None:
-        self.assertEqual(requesting.run(self.options("two"), never), 0)
+        self.assertEqual(add.run(self.options("two"), never), 0)
         self.assertEqual(self.wanted(), {2: ""})
         self.assertIn("the next start adds public.two", self.said[-1])
 
     def test_refused(self) -> None:
         with self.followed(why="public.one can't be read"):
-            self.assertEqual(requesting.run(self.options("one"), never), 1)
+            self.assertEqual(add.run(self.options("one"), never), 1)
         self.assertIn("error: public.one can't be read", self.said)
         with self.followed("it is too large"), self.assertRaisesRegex(ServerError, "adds none: it is too large") as raised:
-            requesting.run(self.options("one"), never)
+            add.run(self.options("one"), never)
         self.assertTrue(raised.exception.is_lasting())
         self.assertFalse(os.path.exists(self.store + ".request"))
 
     def test_a_table_that_is_not_published(self) -> None:
         with self.assertRaisesRegex(Unfit, "no published table four"):
-            requesting.run(self.options("four"), never)
+            add.run(self.options("four"), never)
 
     def test_an_end_while_it_waits(self) -> None:
         """The follower goes on with it, or the next start does."""
@@ -197,11 +198,11 @@ class Adds(Case):
             is_taken = bool(self.wanted()) and not os.path.exists(self.store + ".request")
 
         with self.followed(why=None):
-            self.assertEqual(requesting.run(self.options("one"), check), 0)
+            self.assertEqual(add.run(self.options("one"), check), 0)
         self.assertIn("goes on with it", self.said[-1])
         self.assertEqual(self.wanted(), {1: ""})
         with self.assertRaisesRegex(Passing, "the next start adds public.one"):
-            requesting.wait(self.options(), {1: "public.one"}, never)
+            add.wait(self.options(), {1: "public.one"}, never)
 
     def test_words(self) -> None:
         options = arguments("add --store s --table one --table two".split())
@@ -312,7 +313,7 @@ class Refreshes(Case):
 
     def test_it_needs_a_terminal(self) -> None:
         with contextlib.redirect_stdout(io.StringIO()), mock.patch("sys.stdin.isatty", lambda: False), self.assertRaisesRegex(Unfit, "refresh asks on"):
-            refreshing.run(self.options(yes=False), never)
+            refresh_module.run(self.options(yes=False), never)
 
 
 if __name__ == "__main__":

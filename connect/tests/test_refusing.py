@@ -4,12 +4,12 @@ from __future__ import annotations
 
 import unittest
 
-from pgsub_connect import adding
-from pgsub_connect.checkpoint import Checkpoint
-from pgsub_connect.dropping import read_known
+from pgsub_connect.add import adder
+from pgsub_connect.store.checkpoint import Checkpoint
+from pgsub_connect.commands.drop import read_known
 from pgsub_connect.errors import NoSlot, Passing, ServerError, Unconnected, Unfit
-from pgsub_connect.found import About
-from pgsub_connect.remembered import Remembered
+from pgsub_connect.drift.findings import About
+from pgsub_connect.drift.remembered import Remembered
 
 from .adding_case import OTHER, THIRD, Case, Run, T
 from .small_world import WorldSource, insert
@@ -51,7 +51,7 @@ class InTheWay(Case):
 
     def test_following_goes_on_without_a_slot(self) -> None:
         self.want(T)
-        self.patch(adding, "LONGEST_DELAY", 0.02)
+        self.patch(adder, "LONGEST_DELAY", 0.02)
         self.fails("make_slot", *[NoSlot("late")] * 10000)
         run = Run(self)
         self.assertTrue(run.until(lambda: len([it for it in self.said if "made no slot" in it]) > 3), self.said)
@@ -96,10 +96,10 @@ class InTheWay(Case):
     def test_for_good(self) -> None:
         """A table that can't be read is refused, and the next start tries it again; what was found of it goes then."""
         for moment, errors in (
-            ("see", [ServerError("permission denied", "42501")]), ("COPY", [ServerError("bad bytes", "22021")] * adding.ATTEMPTS),
+            ("see", [ServerError("permission denied", "42501")]), ("COPY", [ServerError("bad bytes", "22021")] * adder.ATTEMPTS),
         ):
             self.want(T)
-            self.patch(adding, "LONGEST_DELAY", 0.02)
+            self.patch(adder, "LONGEST_DELAY", 0.02)
             self.fails(moment, *errors)
             self.refused(str(errors[0]))
             self.fails("none")

@@ -12,10 +12,10 @@ import tempfile
 import unittest
 from unittest import mock
 
-from pgsub_connect.catalog import Part, Partition
+from pgsub_connect.server.catalog import Part, Partition
 from pgsub_connect.errors import FileError, Passing
-from pgsub_connect.found import MOST, NOTHING, About, Found
-from pgsub_connect.remembered import Relation, Remembered, print_names
+from pgsub_connect.drift.findings import About, Found, MOST, NOTHING
+from pgsub_connect.drift.remembered import Relation, Remembered, print_names
 
 from .vectors import ID, NAME, PGSUB, a_catalog, a_shape, a_table
 

@@ -11,21 +11,21 @@ import unittest
 from collections.abc import Callable, Iterator
 from unittest import mock
 
-from pgsub_connect import snapshots
-from pgsub_connect.digests import Plan, text_of
+from pgsub_connect.store import snapshot
+from pgsub_connect.verify.digests import Plan, text_of
 from pgsub_connect.errors import Passing, Unrepaired
-from pgsub_connect.found import About
-from pgsub_connect.holding import Hold
-from pgsub_connect.meeting import Request
-from pgsub_connect.mending import Changes, changes_of
-from pgsub_connect.messages import relation as relation_body
-from pgsub_connect.postgres import never
-from pgsub_connect.publishing import Table
-from pgsub_connect.remembered import Remembered
-from pgsub_connect.repairing import Repairing, Unusable, messages_in
-from pgsub_connect.replacing import XID
-from pgsub_connect.snapshots import Snapshots
-from pgsub_connect.watching import Watch
+from pgsub_connect.drift.findings import About
+from pgsub_connect.follow.hold import Hold
+from pgsub_connect.verify.meeting_point import Request
+from pgsub_connect.verify.repair_rows import Changes, changes_of
+from pgsub_connect.copy.messages import relation as relation_body
+from pgsub_connect.server.connection import never
+from pgsub_connect.server.publications import Table
+from pgsub_connect.drift.remembered import Remembered
+from pgsub_connect.follow.repair import Repairing, Unusable, messages_in
+from pgsub_connect.add.replacement import XID
+from pgsub_connect.store.snapshot import Snapshots
+from pgsub_connect.drift.watch import Watch
 
 from .adding_case import OTHER, T, THIRD, Case, Run
 from .row_filter import Store
@@ -200,13 +200,13 @@ class Repaired(Repairs):
 
     def test_a_copy_that_takes_long(self) -> None:
         """Nothing is passed on meanwhile."""
-        run, real = self.running(), snapshots.fold
+        run, real = self.running(), snapshot.fold
 
         def fold(path: str) -> None:
             time.sleep(0.2)
             real(path)
 
-        self.patch(snapshots, "fold", fold)
+        self.patch(snapshot, "fold", fold)
         self.hook = lambda name: self.change() if name == "slot" else None
         self.repair()
         self.ends(run)
@@ -248,7 +248,7 @@ class Repaired(Repairs):
         self.assertTrue(run.until(lambda: self.is_stored(run)), (self.said, run.raised))
         with self.compared() as request:
             request_path = request.request
-            with mock.patch("pgsub_connect.meeting.is_followed", return_value=False), contextlib.suppress(Passing):
+            with mock.patch("pgsub_connect.verify.meeting_point.is_followed", return_value=False), contextlib.suppress(Passing):
                 request.pass_on([T])
             self.assertTrue(run.until(lambda: run.snapshots.hold.is_sent or not os.path.exists(request_path)))
         self.ends(run)
@@ -384,7 +384,7 @@ class Files(Case):
     def test_whose_it_is(self) -> None:
         self.messages(b"")
         path = self.folder + "/changes"
-        with mock.patch("pgsub_connect.repairing.os.getuid", return_value=os.getuid() + 1), mock.patch("os.fstat") as about:
+        with mock.patch("pgsub_connect.follow.repair.os.getuid", return_value=os.getuid() + 1), mock.patch("os.fstat") as about:
             about.return_value = os.stat_result((0o100600, 0, 0, 1, os.getuid() + 2, 0, 0, 0, 0, 0))
             with self.assertRaisesRegex(Unusable, "somebody else"):
                 next(messages_in(path, 5))

@@ -9,10 +9,10 @@ import unittest
 from collections.abc import Iterator
 
 from pgsub_connect.errors import ServerError
-from pgsub_connect.messages import NULL
-from pgsub_connect.noting import final_lsn
-from pgsub_connect.publishing import Column, Table
-from pgsub_connect.replacing import XID, Leaving, Rows, payload_of
+from pgsub_connect.copy.messages import NULL
+from pgsub_connect.follow.stream_log import final_lsn
+from pgsub_connect.server.publications import Column, Table
+from pgsub_connect.add.replacement import Leaving, Rows, XID, payload_of
 
 from .row_filter import Fault, Store, Subscriber, number, read_tuple, spelled
 from .vectors import (

@@ -8,14 +8,16 @@ import re
 import unittest
 from unittest import mock
 
-from pgsub_connect import asking, reporting, server
-from pgsub_connect.asking import Asker, SlotWarning
-from pgsub_connect.checkpoint import Counted
+from pgsub_connect.follow import server_watch
+from pgsub_connect.status import files
+from pgsub_connect.server import session
+from pgsub_connect.follow.server_watch import Asker, SlotWarning
+from pgsub_connect.store.checkpoint import Counted
 from pgsub_connect.errors import ServerError
-from pgsub_connect.metrics import metrics_text
-from pgsub_connect.options import Options
-from pgsub_connect.progress import STATES, Progress
-from pgsub_connect.reporting import Replaced, Reporter, program_version
+from pgsub_connect.status.metrics import metrics_text
+from pgsub_connect.commands.options import Options
+from pgsub_connect.status.progress import Progress, STATES
+from pgsub_connect.status.files import Replaced, Reporter, program_version
 
 from .fake_server import FakeServer, Quiet
 
@@ -63,7 +65,7 @@ class Files(Quiet):
         with mock.patch("time.monotonic", lambda: clock[0]):
             for now, works in ((0, False), (1, True), (2, False), (3, True), (70, True), (71, False)):
                 clock[0] = 1000.0 + now
-                with mock.patch.object(reporting, "replace", side_effect=None if works else OSError(28, "No space left on device")):
+                with mock.patch.object(files, "replace", side_effect=None if works else OSError(28, "No space left on device")):
                     file.write("x\n")
                 self.assertEqual(len(self.said), 2 if now == 71 else 1, now)
 
@@ -175,7 +177,7 @@ class Asks(Quiet):
     def setUp(self) -> None:
         super().setUp()
         self.server = FakeServer()
-        patch = mock.patch.object(asking, "Connection", self.server.connect)
+        patch = mock.patch.object(server_watch, "Connection", self.server.connect)
         patch.start()
         self.addCleanup(patch.stop)
         self.server.answer("pg_postmaster_start_time", [["7"]])
@@ -223,7 +225,7 @@ class Asks(Quiet):
             self.assertIs(self.progress.was_promoted, promoted)
 
     def test_the_thread_ends(self) -> None:
-        with mock.patch.object(asking, "SHOWN", 0.001):
+        with mock.patch.object(server_watch, "SHOWN", 0.001):
             asker = Asker(Options(status_file="x"), self.progress)
         asker.start()
         while not self.progress.lag.end:
@@ -239,8 +241,8 @@ class Standbys(unittest.TestCase):
             ("", False), ("pgsub", True), ("PgSub", True), ("pgsub2", False), ("*", True), ("FIRST 2 (a, pgsub)", True), ("ANY 1 (a,b)", False),
             ('"pgsub"', True), ('a, "say ""pgsub"""', False), ('"pgsub, a"', False),
         ):
-            self.assertIs(server.waits_for(standbys, "pgsub"), waits, standbys)
-        self.assertTrue(server.waits_for('a, "say ""so"""', 'say "so"'))
+            self.assertIs(session.waits_for(standbys, "pgsub"), waits, standbys)
+        self.assertTrue(session.waits_for('a, "say ""so"""', 'say "so"'))
 
 
 class Ends(unittest.TestCase):
@@ -250,7 +252,7 @@ class Ends(unittest.TestCase):
             (0x2000028, 0x2000000, 0x2000000), (0x2000018, 0x2000000, 0x2000018), (0x2002028, 0x2002000, 0x2002028),
             (0x2002018, 0x2001FF8, 0x2002018),
         ):
-            self.assertEqual(server.exact_end(end, flushed, 1 << 24), exact, hex(end))
+            self.assertEqual(session.exact_end(end, flushed, 1 << 24), exact, hex(end))
 
 
 if __name__ == "__main__":

@@ -17,13 +17,14 @@ import unittest
 from collections.abc import Iterator
 from unittest import mock
 
-from pgsub_connect import exporting, resting, taking
+from pgsub_connect.store import at_rest as at_rest_module, export
+from pgsub_connect.commands import snapshot
 from pgsub_connect.cli import FILE, PASSING, USAGE, main
 from pgsub_connect.errors import FileError, Passing, Stopped
-from pgsub_connect.options import Options
-from pgsub_connect.postgres import never
-from pgsub_connect.resting import at_rest, own_name
-from pgsub_connect.snapshots import Snapshots
+from pgsub_connect.commands.options import Options
+from pgsub_connect.server.connection import never
+from pgsub_connect.store.at_rest import at_rest, own_name
+from pgsub_connect.store.snapshot import Snapshots
 
 from .stores import StoreCase
 from .vectors import logged
@@ -84,12 +85,12 @@ class Held(Case):
         open(self.path + ".connector", "w").close()
         with at_rest(self.path, self.into, never) as (path, is_copy):
             self.assertEqual((path, is_copy), (self.path, False))
-            self.assertIsNone(resting.locked_checkpoint(self.path))
+            self.assertIsNone(at_rest_module.locked_checkpoint(self.path))
             with self.assertRaisesRegex(sqlite3.OperationalError, "locked"):
                 self.store.base.execute("PRAGMA busy_timeout = 0")
                 self.store.row(1, "2", "y")
         self.store.row(1, "2", "y")
-        self.assertFalse(resting.is_followed(self.path))
+        self.assertFalse(at_rest_module.is_followed(self.path))
 
     def test_open_elsewhere(self) -> None:
         self.store.base.execute("BEGIN EXCLUSIVE")
@@ -110,7 +111,7 @@ class Held(Case):
         options.store = self.folder + "/killed.db"
         before = {suffix: os.stat(options.store + suffix).st_size for suffix in ("", "-wal")}
         with logged():
-            exporting.run(options, never)
+            export.run(options, never)
         self.assertEqual(self.rows(), [(1, "x"), (2, "y")])
         self.assertEqual({suffix: os.stat(options.store + suffix).st_size for suffix in ("", "-wal")}, before)
         self.assertEqual(self.left() - {"copy.db-wal", "copy.db-shm"}, {"killed.db", "killed.db-wal", "rows.db"})
@@ -127,7 +128,7 @@ class Held(Case):
         options.store = self.folder + "/link.db"
         os.symlink("far/killed.db", options.store)
         with logged():
-            exporting.run(options, never)
+            export.run(options, never)
             self.assertEqual(self.rows(), [(1, "x"), (2, "y")])
             snapshots = Snapshots(options.store, self.folder + "/snapshot.db", 0.0)
             snapshots.take(0x130, never)
@@ -152,7 +153,7 @@ class Held(Case):
         """The system says of a write only that there is no room."""
         open(self.path + "-wal", "wb").write(b"x")
         for command in ("export", "snapshot"):
-            with logged() as told, mock.patch("pgsub_connect.snapshots.copied", side_effect=OSError(errno.ENOSPC, "No space left on device")):
+            with logged() as told, mock.patch("pgsub_connect.store.snapshot.copied", side_effect=OSError(errno.ENOSPC, "No space left on device")):
                 self.assertEqual(main([command, "--store", self.path, "--into", self.into]), PASSING)
             self.assertEqual((told[-1], self.left()), (f"error: {self.into}: No space left on device", {"copy.db-wal"}))
 
@@ -160,13 +161,13 @@ class Held(Case):
         open(self.path + ".connector", "w").close()
         with mock.patch("os.open", side_effect=PermissionError(13, "Permission denied")):
             with self.assertRaisesRegex(FileError, "Permission"):
-                resting.locked_checkpoint(self.path)
+                at_rest_module.locked_checkpoint(self.path)
 
 
 class Asked(Case):
     def test_export(self) -> None:
         with self.followed(), logged() as told:
-            self.assertEqual(exporting.run(self.options(), never), 0)
+            self.assertEqual(export.run(self.options(), never), 0)
         self.assertEqual(self.rows(), [(1, "x")])
         self.assertEqual(self.left(), {"rows.db"})
         self.assertIn("its follower is asked for a copy", told[0])
@@ -174,28 +175,28 @@ class Asked(Case):
     def test_snapshot(self) -> None:
         with self.followed(), logged():
             for _ in range(2):
-                self.assertEqual(taking.run(self.options(), never), 0)
+                self.assertEqual(snapshot.run(self.options(), never), 0)
         self.assertEqual(self.left(), {"rows.db"})
-        self.assertTrue(taking.is_snapshot(self.into))
+        self.assertTrue(snapshot.is_snapshot(self.into))
 
     def test_one_after_the_other(self) -> None:
         """Another request is there already."""
         with open(self.path + ".request", "w") as file:
             json.dump({"into": self.folder + "/other.db"}, file)
         with self.followed(), logged():
-            self.assertEqual(exporting.run(self.options(), never), 0)
+            self.assertEqual(export.run(self.options(), never), 0)
         self.assertEqual(self.left(), {"rows.db", "other.db"})
 
     def test_a_request_that_was_answered_by_an_error(self) -> None:
         with open(self.path + ".request", "w") as file:
             json.dump({"into": self.folder + "/other.db", "error": "No space left on device"}, file)
         with self.followed(), logged():
-            self.assertEqual(exporting.run(self.options(), never), 0)
+            self.assertEqual(export.run(self.options(), never), 0)
         self.assertEqual(self.left(), {"rows.db"})
 
     def test_a_follower_that_cant(self) -> None:
         with self.followed(0x200), logged(), self.assertRaisesRegex(Passing, "follower couldn't copy it: the copy isn't at 0/200"):
-            exporting.run(self.options(), never)
+            export.run(self.options(), never)
         self.assertEqual(self.left(), set())
 
     def test_a_follower_that_ends(self) -> None:
@@ -208,24 +209,24 @@ class Asked(Case):
                 if next(calls) == 3:
                     stack.close()
 
-            self.assertEqual(exporting.run(self.options(), check), 0)
+            self.assertEqual(export.run(self.options(), check), 0)
         self.assertEqual(self.rows(), [(1, "x")])
         self.assertEqual(self.left(), {"rows.db"})
 
     def test_a_follower_that_doesnt_answer(self) -> None:
-        with self.locked(), mock.patch.object(resting, "PATIENCE", 0.05), logged():
+        with self.locked(), mock.patch.object(at_rest_module, "PATIENCE", 0.05), logged():
             with self.assertRaisesRegex(Passing, "hasn't begun to copy it"):
-                exporting.run(self.options(), never)
+                export.run(self.options(), never)
             self.assertEqual(self.left(), set())
             with open(self.path + ".request", "w") as file:
                 json.dump({"into": self.folder + "/other.db"}, file)
             with self.assertRaisesRegex(Passing, "another request waits"):
-                exporting.run(self.options(), never)
+                export.run(self.options(), never)
         self.assertEqual(self.left(), {"copy.db.request"})
 
     def test_ended_by_a_signal(self) -> None:
         with self.locked(), logged(), self.assertRaises(Passing):
-            exporting.run(self.options(), mock.Mock(side_effect=[None, None, Stopped]))
+            export.run(self.options(), mock.Mock(side_effect=[None, None, Stopped]))
         self.assertEqual(self.left(), set())
 
     def test_a_request_in_another_folder(self) -> None:
@@ -233,7 +234,7 @@ class Asked(Case):
             json.dump({"into": "/rows.db"}, file)
         with self.followed():
             until = time.monotonic() + 20
-            while "error" not in (found := resting.read_request(self.path + ".request")) and time.monotonic() < until:
+            while "error" not in (found := at_rest_module.read_request(self.path + ".request")) and time.monotonic() < until:
                 time.sleep(0.01)
         self.assertEqual(found, {"into": "/rows.db", "error": "the copy has to be a new file in the store's folder"})
 
@@ -243,7 +244,7 @@ class Asked(Case):
             options = self.options()
             options.store = room + "/link/copy.db"
             with self.followed(), logged():
-                self.assertEqual(exporting.run(options, never), 0)
+                self.assertEqual(export.run(options, never), 0)
         self.assertEqual(self.left(), {"rows.db"})
 
 
@@ -252,7 +253,7 @@ class Taken(Case):
         options = self.options()
         options.mode = 0o640
         with logged() as told:
-            self.assertEqual(taking.run(options, never), 0)
+            self.assertEqual(snapshot.run(options, never), 0)
         self.assertEqual(told, [f"{self.into}: the rows at 0/130"])
         self.assertEqual(stat.S_IMODE(os.stat(self.into).st_mode), 0o640)
         self.assertTrue(os.path.exists(self.path))
@@ -262,22 +263,22 @@ class Taken(Case):
         self.store.base.execute("PRAGMA journal_mode = WAL")
         self.store.close()
         with logged():
-            taking.run(self.options(), never)
+            snapshot.run(self.options(), never)
         with open(self.into, "rb") as file:
             self.assertEqual(file.read(20)[18:], b"\1\1")
 
     def test_what_isnt_an_earlier_copy(self) -> None:
         with logged():
-            taking.run(self.options(), never)
+            snapshot.run(self.options(), never)
         for ending in ("-wal", ".connector"):
             open(self.into + ending, "w").close()
             with self.assertRaisesRegex(FileError, "is there and isn't an earlier copy"):
-                taking.run(self.options(), never)
+                snapshot.run(self.options(), never)
             os.unlink(self.into + ending)
         with open(self.into, "w") as file:
             file.write("mine")
         with self.assertRaisesRegex(FileError, "is there and isn't an earlier copy"):
-            taking.run(self.options(), never)
+            snapshot.run(self.options(), never)
 
     def test_what_a_follower_has_to_leave(self) -> None:
         """What isn't an earlier copy is refused as by `snapshot`, before anything is made."""
@@ -299,7 +300,7 @@ class Taken(Case):
 
     def test_on_another_disk(self) -> None:
         with self.followed(), logged(), mock.patch("os.rename", side_effect=OSError(18, "Invalid cross-device link")):
-            self.assertEqual(taking.run(self.options(), never), 0)
+            self.assertEqual(snapshot.run(self.options(), never), 0)
         self.assertEqual(self.left(), {"rows.db"})
 
     def left_after(self, path: str, names: list[str], age: float = 1e9) -> set[str]:
@@ -324,7 +325,7 @@ class Taken(Case):
         ]
         self.assertEqual(self.left_after(self.into, kept), set(kept))
         with logged():
-            self.assertEqual(exporting.run(self.options(), never), 0)
+            self.assertEqual(export.run(self.options(), never), 0)
         self.assertEqual(self.left(), {*kept, "rows.db"})
 
     def leave_journal(self, path: str) -> None:
@@ -350,7 +351,7 @@ class Taken(Case):
         os.unlink(self.into)
         self.leave_journal(self.into)
         with logged():
-            self.assertEqual(exporting.run(self.options(), never), 0)
+            self.assertEqual(export.run(self.options(), never), 0)
         self.assertEqual(self.rows(), [(1, "x")])
 
     def test_a_follower_s_copy_that_a_link_leads_to(self) -> None:

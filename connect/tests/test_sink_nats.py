@@ -12,13 +12,13 @@ from unittest import mock
 
 from feed_text import Line
 from pgsub_connect.errors import EngineError, FileError, Passing, TooLarge, Unfit, UsageError
-from pgsub_connect.exporting import run as export
-from pgsub_connect.feed.identifying import subject
-from pgsub_connect.options import Options
-from pgsub_connect.postgres import never
-from pgsub_connect.sinks.connecting import is_loopback
-from pgsub_connect.sinks.nats_messages import read_id
-from pgsub_connect.sinks.nats_wire import Wire, header_bytes, read_headers
+from pgsub_connect.store.export import run as export
+from pgsub_feed.formats.keys import subject
+from pgsub_connect.commands.options import Options
+from pgsub_connect.server.connection import never
+from pgsub_feed.sinks.connecting import is_loopback
+from pgsub_feed.sinks.nats_messages import read_id
+from pgsub_feed.sinks.nats_wire import Wire, header_bytes, read_headers
 
 from .fake_nats import FakeNats
 from .feeds import STOCK, delete, insert, table, truncate, update
@@ -118,11 +118,11 @@ class GoesOn(NatsCase):
 
     def test_large_commits_are_read_twice(self) -> None:
         self.take(*(insert(str(it), "a") for it in range(50)))
-        with mock.patch("pgsub_connect.sinks.nats_engine.ROOM", 100), mock.patch("pgsub_connect.sinks.jetstream.MOST", 7):
+        with mock.patch("pgsub_feed.sinks.nats_engine.ROOM", 100), mock.patch("pgsub_feed.sinks.jetstream.MOST", 7):
             self.run_it()
         self.assertEqual(len(self.server.ids()), 52)
         self.take(insert("1", "a"), insert("2", "x" * 2000), insert("3", "c"))
-        with mock.patch("pgsub_connect.sinks.nats_engine.ROOM", 100):
+        with mock.patch("pgsub_feed.sinks.nats_engine.ROOM", 100):
             self.fails(TooLarge, "0/200:1: a change of public.stock")
         self.assertEqual(len(self.server.ids()), 52)
 
@@ -191,11 +191,11 @@ class GoesOn(NatsCase):
             if self.server.last == 1:
                 self.server.add("pgsub.public.stock", header_bytes({"Nats-Msg-Id": self.server.ids()[0][:-1] + "1"}), b"{}")
 
-        with mock.patch("time.sleep", publish), mock.patch("pgsub_connect.sinks.nats_engine.STILL", 0.01):
+        with mock.patch("time.sleep", publish), mock.patch("pgsub_feed.sinks.nats_engine.STILL", 0.01):
             self.fails(Passing, "another sink publishes the rows of a base there", base=base)
         self.assertEqual(self.ids(), ["0/100:base:0", "0/100:base:1"])
 
-    @mock.patch("pgsub_connect.sinks.nats_engine.STILL", 0.0)
+    @mock.patch("pgsub_feed.sinks.nats_engine.STILL", 0.0)
     def test_a_base(self) -> None:
         path = self.export()
         self.take()
@@ -212,7 +212,7 @@ class GoesOn(NatsCase):
             "end": "0/100", "n": 1, "op": "r", "schema": "public", "table": "stock", "oid": 1, "after": {"id": "2", "name": None},
         }, 2))
 
-    @mock.patch("pgsub_connect.sinks.nats_engine.STILL", 0.0)
+    @mock.patch("pgsub_feed.sinks.nats_engine.STILL", 0.0)
     def test_a_base_that_is_begun_again_and_again(self) -> None:
         """By the same file and at once, so that the stream knows the ids of the messages that went. Each request and message may be the
         last that the server takes."""
@@ -230,7 +230,7 @@ class GoesOn(NatsCase):
             self.run_it(base=path)
             self.assertEqual(self.ids(), expected, lost)
 
-    @mock.patch("pgsub_connect.sinks.nats_engine.STILL", 0.0)
+    @mock.patch("pgsub_feed.sinks.nats_engine.STILL", 0.0)
     def test_a_base_without_rows_after_a_part_of_one(self) -> None:
         """What is left of that goes, too, whenever the connection ends."""
         path = self.export()
@@ -259,7 +259,7 @@ class GoesOn(NatsCase):
         self.take(insert("1", "a"))
         self.run_it(reader="nats")
         self.assertEqual((self.path / "readers/nats").read_text(), "0/0\n")
-        with mock.patch("pgsub_connect.sinks.nats_engine.SYNCED", -1.0):
+        with mock.patch("pgsub_feed.sinks.nats_engine.SYNCED", -1.0):
             self.take()
             self.run_it(reader="nats")
         self.assertEqual((self.path / "readers/nats").read_text(), "0/200\n")
@@ -300,7 +300,7 @@ class Says(NatsCase):
     def test_a_password_in_plain_text(self) -> None:
         """It is told before it goes to another machine."""
         self.assertNotIn("plain text", "".join(self.run_it(url=self.url.replace("://", "://u:p@"))))
-        with mock.patch("pgsub_connect.sinks.nats_wire.is_loopback", lambda _: False):
+        with mock.patch("pgsub_feed.sinks.nats_wire.is_loopback", lambda _: False):
             self.assertNotIn("plain text", "".join(self.run_it()))
             for login in ("u:p@", "token@"):
                 self.assertIn("the password goes there in plain text: use tls://", "".join(self.run_it(url=self.url.replace("://", "://" + login))))
@@ -336,7 +336,7 @@ class OfAConnection(unittest.TestCase):
         self.addCleanup(self.theirs.close)
         self.theirs.sendall(b'info {"max_payload":5}\r\nPONG\r\n')
         ours.setblocking(False)
-        with mock.patch("pgsub_connect.sinks.nats_wire.connected", lambda *_: ours):
+        with mock.patch("pgsub_feed.sinks.nats_wire.connected", lambda *_: ours):
             self.wire = Wire("nats://h")
         self.addCleanup(self.wire.close)
         self.theirs.recv(1 << 16)

@@ -16,20 +16,20 @@ from feed_load import Load
 from feed_replay import Replay, replay
 from feed_text import About, Column, Line, Writer
 from pgsub_connect.errors import EngineError, FileError, Passing, Stopped, Unfit, UsageError
-from pgsub_connect.exporting import run as export
-from pgsub_connect.feed.beginning import opened
-from pgsub_connect.feed.noting import Noted
-from pgsub_connect.feed.parts import Commit
-from pgsub_connect.feed.polling import Poll
-from pgsub_connect.feed.retaining import Limits, retire
-from pgsub_connect.options import Options
-from pgsub_connect.postgres import never
-from pgsub_connect.sinks import sinking
-from pgsub_connect.sinks.beginning import Base
-from pgsub_connect.sinks.redis_calls import Connection, Said, packed_command, raised
-from pgsub_connect.sinks.redis_disk import Disk
-from pgsub_connect.sinks.redis_engine import Redis
-from pgsub_connect.sinks.trailing import Trail
+from pgsub_connect.store.export import run as export
+from pgsub_feed.tables.first_rows import opened
+from pgsub_feed.reader.positions import Noted
+from pgsub_feed.reader.commits import Commit
+from pgsub_feed.reader.polling import Poll
+from pgsub_connect.follow.retention import Limits, retire
+from pgsub_connect.commands.options import Options
+from pgsub_connect.server.connection import never
+from pgsub_connect.commands import sink as sink_module
+from pgsub_feed.sinks.first_rows import Base
+from pgsub_feed.sinks.redis_calls import Connection, Said, packed_command, raised
+from pgsub_feed.sinks.redis_disk import Disk
+from pgsub_feed.sinks.redis_engine import Redis
+from pgsub_feed.sinks.reached import Trail
 
 from .fake_redis import FakeCalls, Stream
 from .feeds import ID, NAME, STOCK, delete, insert, table, truncate, update
@@ -56,7 +56,7 @@ class Changes(RedisCase):
     def test_many_commits_at_once(self) -> None:
         for number in range(50):
             self.take(insert(str(number), "a"), *([delete(str(number - 1), "a")] if number else []))
-        with mock.patch("pgsub_connect.sinks.sinking.LONGEST", 100.0):
+        with mock.patch("pgsub_connect.commands.sink.LONGEST", 100.0):
             self.run_it()
         self.assertEqual((self.server.rows(), self.server.at()), (stock(("49", "a")), "0/3200"))
         # (one begins, and one has all)
@@ -133,7 +133,7 @@ class Changes(RedisCase):
                 raise Stopped
 
         with logged():
-            sinking.run(Options(command="sink", feed=str(self.path), url="redis://h"), check)
+            sink_module.run(Options(command="sink", feed=str(self.path), url="redis://h"), check)
         self.assertEqual((self.server.rows(), self.server.at()), (stock(("1", "a"), ("4", "d")), "0/200"))
 
 
@@ -261,9 +261,9 @@ class Others(RedisCase):
                 self.server.do([b"SET", b"pgsub:sink", b"other"])
 
         options = Options(command="sink", feed=str(self.path), url="redis://h")
-        with mock.patch("pgsub_connect.sinks.redis_calls.Connection", lambda *_: calls.pop()), mock.patch("time.sleep"):
-            with mock.patch("pgsub_connect.sinks.redis_engine.OFTEN", 0.0), self.assertRaisesRegex(Unfit, "another sink has begun .* other"):
-                sinking.run(options, check)
+        with mock.patch("pgsub_feed.sinks.redis_calls.Connection", lambda *_: calls.pop()), mock.patch("time.sleep"):
+            with mock.patch("pgsub_feed.sinks.redis_engine.OFTEN", 0.0), self.assertRaisesRegex(Unfit, "another sink has begun .* other"):
+                sink_module.run(options, check)
 
     def test_rows_are_something_else_by_now(self) -> None:
         self.server.do([b"SET", b"stock:2", b"text"])
@@ -295,7 +295,7 @@ class Others(RedisCase):
     def test_it_isnt_known_at_once_what_the_disk_has(self) -> None:
         (self.path / "readers").mkdir()
         (self.path / "readers/redis").write_text("0/50\n")
-        with mock.patch("pgsub_connect.sinks.redis_disk.LATE", 1000.0):
+        with mock.patch("pgsub_feed.sinks.redis_disk.LATE", 1000.0):
             self.run_it(reader="redis")
         self.assertEqual((self.path / "readers/redis").read_text(), "0/50\n")
 
@@ -311,7 +311,7 @@ class Others(RedisCase):
                     raise Stopped
 
             with contextlib.suppress(Passing, Stopped), logged():
-                sinking.run(Options(command="sink", feed=str(self.path), url="redis://h", once=True), check)
+                sink_module.run(Options(command="sink", feed=str(self.path), url="redis://h", once=True), check)
             found.append(states.index((self.server.rows(), self.server.at())))
         # (of commits that wait together all are left, or none)
         self.assertEqual(set(found), {0, 1, 2})
@@ -395,11 +395,11 @@ class Begins(RedisCase):
 
         def exported(*_: Any) -> Any:
             # (as long as an export takes, say)
-            with mock.patch("pgsub_connect.sinks.beginning.opened", opened):
+            with mock.patch("pgsub_feed.sinks.first_rows.opened", opened):
                 told.extend(self.run_it(base=base))
             return opened(base)
 
-        with mock.patch("pgsub_connect.sinks.beginning.opened", exported):
+        with mock.patch("pgsub_feed.sinks.first_rows.opened", exported):
             self.fails(Unfit, "pgsub:lsn is 0/230 in place of none", base=base)
         self.take(insert("3", "c"))
         self.run_it()
@@ -415,7 +415,7 @@ class Begins(RedisCase):
             def fail(done: int = done) -> Said | None:
                 return Said("LOADING") if self.server.transactions >= done else None
 
-            with mock.patch("pgsub_connect.sinks.redis_engine.MOST", 1):
+            with mock.patch("pgsub_feed.sinks.redis_engine.MOST", 1):
                 self.server.fails = fail
                 self.fails(Passing, "LOADING", base=base)
                 self.server.fails = lambda: None
@@ -496,7 +496,7 @@ class Ends(RedisCase):
         """Then that isn't the last one: what the feed has up to the LSN may have come since."""
         self.take(insert("1", "a"))
         self.feed.commit(0x200, [insert("2", "b")], About(0x1FF, 2, 0))
-        look, settle = Poll.next, sinking.Sink.settle
+        look, settle = Poll.next, sink_module.Sink.settle
 
         def look_before(poll: Poll) -> Commit | None:
             commit = look(poll)
@@ -504,11 +504,11 @@ class Ends(RedisCase):
                 self.feed.confirm(0x200)
             return commit
 
-        def settle_before(sink: sinking.Sink) -> None:
+        def settle_before(sink: sink_module.Sink) -> None:
             settle(sink)
             self.feed.confirm(0x200)
 
-        with mock.patch.object(sinking.Sink, "settle", settle_before):
+        with mock.patch.object(sink_module.Sink, "settle", settle_before):
             self.fails(Passing, "the feed has reached 0/100, and 0/200 not yet", until=0x200)
         self.feed.confirm(0x100)
         with mock.patch.object(Poll, "next", look_before):
@@ -517,11 +517,11 @@ class Ends(RedisCase):
 
     def test_a_reader_is_noted(self) -> None:
         self.take(insert("1", "a"))
-        with mock.patch("pgsub_connect.sinks.redis_disk.LATE", 1000.0):
+        with mock.patch("pgsub_feed.sinks.redis_disk.LATE", 1000.0):
             self.run_it(reader="redis")
         # (that it is on the disk isn't sure yet)
         self.assertEqual((self.path / "readers/redis").read_text(), "0/0\n")
-        with mock.patch("pgsub_connect.sinks.redis_disk.LATE", -10.0):
+        with mock.patch("pgsub_feed.sinks.redis_disk.LATE", -10.0):
             self.run_it(reader="redis")
         self.assertEqual((self.path / "readers/redis").read_text(), "0/100\n")
 
@@ -531,10 +531,10 @@ class Ends(RedisCase):
         self.feed.end()
         self.take(insert("2", "b"))
         self.run_it()
-        with mock.patch("pgsub_connect.sinks.redis_disk.LATE", 1000.0):
+        with mock.patch("pgsub_feed.sinks.redis_disk.LATE", 1000.0):
             self.run_it(reader="redis")
         self.assertEqual((self.path / "readers/redis").read_text(), "0/0\n")
-        with mock.patch("pgsub_connect.sinks.redis_disk.LATE", -10.0):
+        with mock.patch("pgsub_feed.sinks.redis_disk.LATE", -10.0):
             self.run_it(reader="redis")
         self.assertEqual((self.path / "readers/redis").read_text(), "0/200\n")
 
@@ -542,7 +542,7 @@ class Ends(RedisCase):
         """What counts as on the disk may not be there, and segments would go."""
         self.take(insert("1", "a"))
         self.server.syncs[1] = b"no"
-        with mock.patch("pgsub_connect.sinks.redis_disk.LATE", -10.0):
+        with mock.patch("pgsub_feed.sinks.redis_disk.LATE", -10.0):
             self.fails(EngineError, "appendfsync is no, so it is never known what its disk has", reader="redis")
         self.assertEqual((self.server.rows(), (self.path / "readers").exists()), ({}, False))
         for syncs, text in (
@@ -613,7 +613,7 @@ class OnTheDisk(unittest.TestCase):
         server = mock.Mock(where="Redis")
         server.run.side_effect = lambda _: [info, [b"1000", b"0"], [b"save", b""], syncs]
         disk, told = Disk(server), list[str]()
-        with mock.patch("pgsub_connect.log.warning", told.append):
+        with mock.patch("pgsub_feed.log.warning", told.append):
             self.assertEqual([disk.moment(1000.0), disk.moment(1001.0)], [0.0, 0.0])
             self.assertEqual(told, ["Redis: appendfsync is no, so it isn't known any more what its disk has: the reader's LSN stays"])
             syncs[1] = b"everysec"
@@ -637,8 +637,8 @@ class PlainText(unittest.TestCase):
 
     def told(self, url: str, is_own: bool = False) -> str:
         with logged() as told, mock.patch("redis.ConnectionPool") as pool, \
-                mock.patch("pgsub_connect.sinks.redis_calls.addresses", return_value=[]), \
-                mock.patch("pgsub_connect.sinks.redis_calls.is_loopback", lambda _: is_own):
+                mock.patch("pgsub_feed.sinks.redis_calls.addresses", return_value=[]), \
+                mock.patch("pgsub_feed.sinks.redis_calls.is_loopback", lambda _: is_own):
             pool.from_url.return_value.make_connection.return_value = mock.Mock(host="h", port=6379)
             Connection(url)
         return "".join(told)
@@ -706,7 +706,7 @@ class AnyTime(RedisCase):
             return Said("LOADING") if left == 0 else None
 
         self.server.fails = fails
-        with mock.patch("pgsub_connect.sinks.redis_engine.MOST", rng.choice((1, 30, 1000))):
+        with mock.patch("pgsub_feed.sinks.redis_engine.MOST", rng.choice((1, 30, 1000))):
             try:
                 self.run_it()
             except Passing:

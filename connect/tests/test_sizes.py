@@ -5,10 +5,10 @@ from __future__ import annotations
 import unittest
 
 from pgsub_connect.cli import REJECTED, status_of
-from pgsub_connect.filtering import FRAME_TOO_LARGE, MEMORY, SPOOL_FULL, FilterEnded
-from pgsub_connect.limits import LONGEST_FRAME
-from pgsub_connect.options import Options
-from pgsub_connect.sizes import LEAST, Kills, KilledTwice, text_of
+from pgsub_connect.follow.filter import FRAME_TOO_LARGE, FilterEnded, MEMORY, SPOOL_FULL
+from pgsub_connect.follow.memory_limit import LONGEST_FRAME
+from pgsub_connect.commands.options import Options
+from pgsub_connect.follow.too_large import KilledTwice, Kills, LEAST, text_of
 
 from .test_passing import Case, Source
 from .vectors import begin, commit, insert, logged

@@ -5,10 +5,10 @@ from __future__ import annotations
 import tempfile
 import unittest
 
-from pgsub_connect.checkpoint import Checkpoint
-from pgsub_connect.progress import Progress
-from pgsub_connect.remembered import Remembered
-from pgsub_connect.skipping import Skipping
+from pgsub_connect.store.checkpoint import Checkpoint
+from pgsub_connect.status.progress import Progress
+from pgsub_connect.drift.remembered import Remembered
+from pgsub_connect.follow.skip import Skipping
 
 from . import vectors
 from .vectors import a_catalog, a_table, begin, commit, delete, insert, keepalive, logged, relation, update

@@ -10,10 +10,10 @@ import time
 import unittest
 import unittest.mock
 
-from pgsub_connect import standing
+from pgsub_connect.follow import stall
 from pgsub_connect.errors import ServerError
-from pgsub_connect.following import Follower
-from pgsub_connect.standing import Standing, activity
+from pgsub_connect.follow.follower import Follower
+from pgsub_connect.follow.stall import Standing, activity
 
 from .test_following import Case
 from .vectors import begin, commit, insert
@@ -73,7 +73,7 @@ class Stopped(Case):
         self.assertIn(f"the filter (process {follower.filter.pid()}) {text}", self.ended()[0])
 
     def test_sooner_where_the_slot_is_about_to_be_lost(self) -> None:
-        self.patch(standing, "ENDANGERED", 0.2)
+        self.patch(stall, "ENDANGERED", 0.2)
         follower = self.stopped(silence=60.0)
         began, slot = list[float](), follower.progress.slot
 
@@ -83,13 +83,13 @@ class Stopped(Case):
                 slot.wal_status, slot.told = "unreserved", time.monotonic()
             return self.then_goes_on(follower, bool(self.ended()))
 
-        self.patch(standing, "NOTED", 0.05)
+        self.patch(stall, "NOTED", 0.05)
         self.run_until(follower, holds)
         self.assertIn("and the slot is about to be lost", self.ended()[0])
         self.assertLess(time.monotonic() - began[0], 10.0)
 
     def test_what_was_told_of_the_slot_before_isnt_why(self) -> None:
-        self.patch(standing, "ENDANGERED", 0.1)
+        self.patch(stall, "ENDANGERED", 0.1)
         follower = self.stopped(silence=1.0)
         slot = follower.progress.slot
         slot.wal_status, slot.told = "unreserved", time.monotonic()
@@ -100,7 +100,7 @@ class Stopped(Case):
     def test_one_that_gets_on_is_kept(self) -> None:
         """Something of what the system says of it moves, though it takes nothing."""
         count = iter(range(1 << 20))
-        self.patch(standing, "activity", lambda _: (next(count),))
+        self.patch(stall, "activity", lambda _: (next(count),))
         follower = self.stopped(silence=0.3)
         until = time.monotonic() + 2.0
         self.run_until(follower, lambda: self.then_goes_on(follower, time.monotonic() > until))
@@ -112,7 +112,7 @@ class Stopped(Case):
         def holds() -> bool:
             return follower.progress.is_unread or bool(self.ended())
 
-        self.patch(standing, "NOTED", 0.05)
+        self.patch(stall, "NOTED", 0.05)
         disconnect, gone = follower.disconnect, list[bool]()
 
         def note() -> None:
@@ -132,7 +132,7 @@ class Held(Case):
         follower.start_filter()
         follower.progress.slot.wal_status = "unreserved"
         now = [100.0]
-        self.patch(standing, "time", unittest.mock.Mock(monotonic=lambda: now[0]))
+        self.patch(stall, "time", unittest.mock.Mock(monotonic=lambda: now[0]))
         follower.standing.check(60.0, is_held=True)
         now[0] = follower.progress.slot.told = 101.0
         follower.standing.check(60.0, is_held=True)

@@ -7,10 +7,10 @@ import os
 import unittest
 from unittest import mock
 
-from pgsub_connect import postgres, trust
+from pgsub_connect.server import connection as connection_module, transport
 from pgsub_connect.errors import ServerError, Unconnected, Unfit
-from pgsub_connect.postgres import Connection, parameters
-from pgsub_connect.trust import Protection, Trust
+from pgsub_connect.server.connection import Connection, parameters
+from pgsub_connect.server.transport import Protection, Trust
 
 from .fake_server import FakeServer, Quiet
 from .small_server import SmallServer, make_certificate
@@ -34,8 +34,8 @@ class Case(Quiet):
         # (its ~/.postgresql may have certificates)
         self.patch(mock.patch.dict(os.environ, {**OTHERS, "HOME": self.folder}, clear=True))
         self.own = Trust()
-        self.patch(mock.patch.object(trust, "OWN", self.own))
-        self.patch(mock.patch.object(postgres, "TICK", 0.02))
+        self.patch(mock.patch.object(transport, "OWN", self.own))
+        self.patch(mock.patch.object(connection_module, "TICK", 0.02))
 
     def patch(self, patch: object) -> None:
         patch.start()  # type: ignore[attr-defined]
@@ -148,7 +148,7 @@ class Connects(Case):
         """Away from this machine that is an error of its own, which tells how plain text is
         named."""
         self.server.certificate = ""
-        with mock.patch.object(trust, "stays_here", return_value=False):
+        with mock.patch.object(transport, "stays_here", return_value=False):
             with self.assertRaisesRegex(
                 Unconnected, "sslmode=prefer or sslmode=disable in the connection string"
             ) as raised:
@@ -157,7 +157,7 @@ class Connects(Case):
             self.assertEqual(
                 self.connect("sslmode=prefer").protection, Protection("plain", (), False)
             )
-        self.assertEqual(self.said, [f"warning: the connection isn't encrypted: {trust.CURE}"])
+        self.assertEqual(self.said, [f"warning: the connection isn't encrypted: {transport.CURE}"])
 
     def test_what_is_verified(self) -> None:
         authority = self.server.certificate + ".crt"
@@ -180,7 +180,7 @@ class Connects(Case):
         self.assertEqual(len(self.server.passwords), 5)
 
     def test_each_connection_is_told_where_it_is_new(self) -> None:
-        with mock.patch.object(trust, "stays_here", return_value=False):
+        with mock.patch.object(transport, "stays_here", return_value=False):
             for _ in range(2):
                 self.connect()
             for _ in range(2):
@@ -216,8 +216,8 @@ class Tells(unittest.TestCase):
 
     def test_gssapi(self) -> None:
         raw = mock.Mock(host=b"db.example", hostaddr=b"10.0.0.1", ssl_in_use=False)
-        self.assertEqual(trust.protection_of(raw, True), Protection("gssapi", ("name",), False))
-        self.assertEqual(trust.protection_of(raw, False), Protection("plain", (), False))
+        self.assertEqual(transport.protection_of(raw, True), Protection("gssapi", ("name",), False))
+        self.assertEqual(transport.protection_of(raw, False), Protection("plain", (), False))
 
     def test_nothing_is_shown_before_a_connection(self) -> None:
         self.assertEqual(Trust().shown(), {})

@@ -11,17 +11,18 @@ from types import SimpleNamespace
 from typing import Any, cast
 from unittest import mock
 
-from pgsub_connect import cli, requesting, verifying
-from pgsub_connect.checkpoint import FOLLOWING, Known
-from pgsub_connect.digests import NotText, Plan, Summing, fields_of, text_of
+from pgsub_connect import cli
+from pgsub_connect.commands import add as add_module, verify
+from pgsub_connect.store.checkpoint import FOLLOWING, Known
+from pgsub_connect.verify.digests import NotText, Plan, Summing, fields_of, text_of
 from pgsub_connect.errors import FileError, NoSlot, Passing, Stopped, Unfit, Unrepaired
-from pgsub_connect.meeting import Source
-from pgsub_connect.options import Options
-from pgsub_connect.postgres import never
-from pgsub_connect.publishing import Column, Table
-from pgsub_connect.sides import Copy, Sides
-from pgsub_connect.values import Malformed
-from pgsub_connect.verifying import Verifier
+from pgsub_connect.verify.meeting_point import Source
+from pgsub_connect.commands.options import Options
+from pgsub_connect.server.connection import never
+from pgsub_connect.server.publications import Column, Table
+from pgsub_connect.verify.sides import Copy, Sides
+from pgsub_feed.tables.values import Malformed
+from pgsub_connect.commands.verify import Verifier
 
 from .fake_server import FakeServer, connection_to
 from .stores import Cell, StoreCase, spelled
@@ -104,7 +105,7 @@ class Case(StoreCase):
         with contextlib.ExitStack() as stack:
             self.said = stack.enter_context(logged())
             stack.enter_context(contextlib.redirect_stdout(out))
-            stack.enter_context(mock.patch.multiple("pgsub_connect.digests.Queries", sums=sums, texts=texts))
+            stack.enter_context(mock.patch.multiple("pgsub_connect.verify.digests.Queries", sums=sums, texts=texts))
             copy = stack.enter_context(contextlib.closing(Copy(self.path, self.path, 0x130, never)))
             self.is_equal = Verifier(self.options, Sides(cast(Source, source), copy)).run(list(self.tables))
         return [json.loads(line) for line in out.getvalue().splitlines()]
@@ -233,8 +234,8 @@ class Reads(Case):
             Copy(self.path, self.path, 0x12F, never)
 
     def ends(self, error: BaseException, expected: type[Exception]) -> None:
-        with mock.patch.object(verifying, "verify", side_effect=error), self.assertRaises(expected):
-            verifying.run(self.options, never)
+        with mock.patch.object(verify, "verify", side_effect=error), self.assertRaises(expected):
+            verify.run(self.options, never)
 
     def test_how_it_ends(self) -> None:
         self.ends(Stopped(), Passing)
@@ -244,7 +245,7 @@ class Reads(Case):
         words = ["verify", "--store", self.path]
         for result, status in ((0, 0), (1, 1), (NoSlot("x"), 8), (Passing("x"), 7), (Unfit("x"), 5)):
             effect = result if isinstance(result, Exception) else [result]
-            with mock.patch.object(verifying, "verify", side_effect=effect), logged():
+            with mock.patch.object(verify, "verify", side_effect=effect), logged():
                 self.assertEqual(cli.main(words), status)
 
     def test_a_malformed_row(self) -> None:
@@ -256,7 +257,7 @@ class Reads(Case):
         """In the place of comparisons, those that find this of tables, and leave those out."""
         results = iter(several)
 
-        def compare(options: Options, choose: Any, found: verifying.Compared, check: Any) -> None:
+        def compare(options: Options, choose: Any, found: verify.Compared, check: Any) -> None:
             self.compared.append([it.oid for it in choose(SimpleNamespace(tables=self.tables, chosen=lambda _: self.tables))])
             different, found.left = next(results)
             found.different += different
@@ -273,29 +274,29 @@ class Reads(Case):
         for different, repair, left, status, asked in cases:
             self.options.repair = repair
             with mock.patch.multiple(
-                verifying, compare=self.finds((different, {})), repair=lambda *_, it=left: it,
-            ), mock.patch.object(requesting, "add", return_value=7) as add:
-                self.assertEqual(verifying.run(self.options, never), status)
+                verify, compare=self.finds((different, {})), repair=lambda *_, it=left: it,
+            ), mock.patch.object(add_module, "add", return_value=7) as add:
+                self.assertEqual(verify.run(self.options, never), status)
             self.assertEqual(add.call_args and add.call_args.args[1], asked)
 
     def test_what_others_had_truncated_is_compared_once_more(self) -> None:
         """The others are compared all the same. What is left in the end isn't equal."""
         left = {2: "public.whole was truncated meanwhile"}
-        with mock.patch.object(verifying, "compare", self.finds(([], left), ([], {}))), logged():
-            self.assertEqual(verifying.run(self.options, never), 0)
+        with mock.patch.object(verify, "compare", self.finds(([], left), ([], {}))), logged():
+            self.assertEqual(verify.run(self.options, never), 0)
         self.assertEqual(self.compared, [[1, 2], [2]])
-        with mock.patch.object(verifying, "compare", self.finds(([], left), ([], left))), logged():
+        with mock.patch.object(verify, "compare", self.finds(([], left), ([], left))), logged():
             with self.assertRaisesRegex(Passing, "^not compared: public.whole was truncated meanwhile: compare later"):
-                verifying.run(self.options, never)
-        with mock.patch.object(verifying, "compare", self.finds(([KEYED], left), ([], left))), logged() as told:
-            self.assertEqual(verifying.run(self.options, never), 1)
+                verify.run(self.options, never)
+        with mock.patch.object(verify, "compare", self.finds(([KEYED], left), ([], left))), logged() as told:
+            self.assertEqual(verify.run(self.options, never), 1)
         self.assertEqual(told[-1], "warning: not compared: public.whole was truncated meanwhile")
 
     def test_what_the_follower_does_not_pass_on(self) -> None:
         self.options.repair = True
         repair = mock.Mock(side_effect=Unrepaired("too much"))
-        with mock.patch.multiple(verifying, compare=self.finds(([WHOLE], {})), repair=repair), logged() as told:
-            self.assertEqual(verifying.run(self.options, never), 1)
+        with mock.patch.multiple(verify, compare=self.finds(([WHOLE], {})), repair=repair), logged() as told:
+            self.assertEqual(verify.run(self.options, never), 1)
         self.assertEqual(told, ["error: too much"])
 
     def test_which_tables_differ(self) -> None:
@@ -310,12 +311,12 @@ class Reads(Case):
 
     def test_what_is_being_added_is_not_compared(self) -> None:
         known = Known(FOLLOWING, adding={"2": 0})
-        self.assertEqual(verifying.settled([KEYED], known), [KEYED])
+        self.assertEqual(verify.settled([KEYED], known), [KEYED])
         with self.assertRaisesRegex(Passing, "being added just now, or refused: public.whole"):
-            verifying.settled([KEYED, WHOLE], known)
+            verify.settled([KEYED, WHOLE], known)
         with self.assertRaisesRegex(Passing, "keyed"):
-            verifying.settled([KEYED], known, {1})
+            verify.settled([KEYED], known, {1})
 
     def test_nobody_follows(self) -> None:
         with self.assertRaisesRegex(Passing, "a follower has to run"):
-            verifying.run(self.options, never)
+            verify.run(self.options, never)

@@ -7,16 +7,17 @@ import tempfile
 import unittest
 from unittest import mock
 
-from pgsub_connect import cli, watching
-from pgsub_connect.catalog import Catalog
-from pgsub_connect.checkpoint import Checkpoint
+from pgsub_connect import cli
+from pgsub_connect.drift import watch as watch_module
+from pgsub_connect.server.catalog import Catalog
+from pgsub_connect.store.checkpoint import Checkpoint
 from pgsub_connect.errors import ServerError, Unfit
-from pgsub_connect.options import Options
-from pgsub_connect.postgres import never
-from pgsub_connect.progress import Progress
-from pgsub_connect.remembered import Relation, Remembered
-from pgsub_connect.watching import Watch
-from pgsub_connect.words import arguments, settle_options
+from pgsub_connect.commands.options import Options
+from pgsub_connect.server.connection import never
+from pgsub_connect.status.progress import Progress
+from pgsub_connect.drift.remembered import Relation, Remembered
+from pgsub_connect.drift.watch import Watch
+from pgsub_connect.commands.words import arguments, settle_options
 
 from .fake_server import FakeServer, connection_to
 from .vectors import ID, NAME, PGSUB, a_catalog, a_shape, a_table, logged
@@ -45,7 +46,7 @@ class Case(unittest.TestCase):
         return watch
 
     def compare(self, watch: Watch, now: Catalog) -> None:
-        with mock.patch("pgsub_connect.watching.read_catalog", return_value=now):
+        with mock.patch("pgsub_connect.drift.watch.read_catalog", return_value=now):
             watch.compare(connection_to(FakeServer()), 100)
 
 
@@ -53,7 +54,7 @@ class Shown(Case):
     def test_what_takes_long_is_told_in_its_time(self) -> None:
         """The log has it at once, and the progress later, or the cost would grow with the square of what was found."""
         watch = self.watch()
-        with logged() as said, mock.patch.object(watching, "LITTLE", -1.0), mock.patch.object(watching, "PART", 1e9):
+        with logged() as said, mock.patch.object(watch_module, "LITTLE", -1.0), mock.patch.object(watch_module, "PART", 1e9):
             self.compare(watch, a_catalog(T, U, lsn=200))
             before = self.progress.found["publication"]
             self.compare(watch, a_catalog(T, U, a_table(3, "v"), lsn=300))
@@ -67,7 +68,7 @@ class Shown(Case):
 
     def test_a_strict_one_ends_at_once(self) -> None:
         watch = self.watch()
-        with logged(), mock.patch.object(watching, "LITTLE", -1.0), mock.patch.object(watching, "PART", 1e9):
+        with logged(), mock.patch.object(watch_module, "LITTLE", -1.0), mock.patch.object(watch_module, "PART", 1e9):
             self.compare(watch, a_catalog(T, U, lsn=200))
             watch.options.strict = True
             with self.assertRaisesRegex(Unfit, "public.v"):
@@ -161,8 +162,8 @@ class Found(Case):
 class Looks(Case):
     def test_where_a_table_is_unknown(self) -> None:
         watch = self.watch()
-        with mock.patch("pgsub_connect.watching.Connection") as connection, mock.patch("pgsub_connect.watching.settle"):
-            with mock.patch("pgsub_connect.watching.read_catalog", return_value=a_catalog(T, U, lsn=200)), logged() as said:
+        with mock.patch("pgsub_connect.drift.watch.Connection") as connection, mock.patch("pgsub_connect.drift.watch.settle"):
+            with mock.patch("pgsub_connect.drift.watch.read_catalog", return_value=a_catalog(T, U, lsn=200)), logged() as said:
                 self.assertFalse(watch.tend(True, never, 100))
             self.assertEqual(len(said), 1)
             connection.return_value.close.assert_called_once()
@@ -170,10 +171,10 @@ class Looks(Case):
 
     def test_now_and_then(self) -> None:
         """No message tells that a partition was detached, or a row filter altered."""
-        with mock.patch("pgsub_connect.watching.AT_LEAST", 5.0), mock.patch("time.monotonic") as clock, mock.patch(
-            "pgsub_connect.watching.Connection"
-        ) as connection, mock.patch("pgsub_connect.watching.settle"), mock.patch(
-            "pgsub_connect.watching.read_catalog", return_value=a_catalog(T, U, lsn=200)
+        with mock.patch("pgsub_connect.drift.watch.AT_LEAST", 5.0), mock.patch("time.monotonic") as clock, mock.patch(
+            "pgsub_connect.drift.watch.Connection"
+        ) as connection, mock.patch("pgsub_connect.drift.watch.settle"), mock.patch(
+            "pgsub_connect.drift.watch.read_catalog", return_value=a_catalog(T, U, lsn=200)
         ), logged() as said:
             clock.return_value = 100.0
             watch = self.watch()
@@ -185,7 +186,7 @@ class Looks(Case):
 
     def test_that_fail_are_tried_again(self) -> None:
         watch = self.watch()
-        with mock.patch("pgsub_connect.watching.Connection", side_effect=ServerError("gone")) as connection, logged() as said:
+        with mock.patch("pgsub_connect.drift.watch.Connection", side_effect=ServerError("gone")) as connection, logged() as said:
             self.assertTrue(watch.tend(True, never, 100))
             self.assertTrue(watch.tend(True, never, 100))
         self.assertEqual((len(said), connection.call_count), (1, 1))
@@ -195,8 +196,8 @@ class Looks(Case):
         watch, now = self.watch(), a_catalog(T, lsn=200)
         cases: list[tuple[list[Catalog | ServerError], int]] = [([ServerError("gone")] * 3, 1), ([now, ServerError("gone")], 1), ([now], 0)]
         for outcomes, lines in cases:
-            with mock.patch("pgsub_connect.watching.Connection"), mock.patch("pgsub_connect.watching.settle"), mock.patch(
-                "pgsub_connect.watching.read_catalog", side_effect=outcomes
+            with mock.patch("pgsub_connect.drift.watch.Connection"), mock.patch("pgsub_connect.drift.watch.settle"), mock.patch(
+                "pgsub_connect.drift.watch.read_catalog", side_effect=outcomes
             ), logged() as said:
                 for outcome in outcomes:
                     self.assertIs(watch.look_again(never, 100), outcome is now)
@@ -204,11 +205,11 @@ class Looks(Case):
 
     def test_a_lock_in_the_way(self) -> None:
         watch, connection = self.watch(), mock.Mock()
-        with mock.patch("pgsub_connect.watching.read_catalog", side_effect=ServerError("lock timeout", "55P03")), logged() as said:
+        with mock.patch("pgsub_connect.drift.watch.read_catalog", side_effect=ServerError("lock timeout", "55P03")), logged() as said:
             self.assertFalse(watch.compare(connection, 100))
         self.assertEqual([it.args[0] for it in connection.run.call_args_list], ["SET lock_timeout = 500", "SET lock_timeout = 0"])
         self.assertIn("can't be looked at now: lock timeout", said[0])
-        with mock.patch("pgsub_connect.watching.read_catalog", side_effect=ServerError("gone", "57P01")), self.assertRaises(ServerError):
+        with mock.patch("pgsub_connect.drift.watch.read_catalog", side_effect=ServerError("gone", "57P01")), self.assertRaises(ServerError):
             watch.compare(connection, 100)
 
     def test_a_publication_of_inserts(self) -> None:

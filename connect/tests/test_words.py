@@ -14,15 +14,16 @@ import unittest
 from collections.abc import Callable
 from unittest import mock
 
-from pgsub_connect import cli, comparing
+from pgsub_connect import cli
+from pgsub_connect.server import followed_publications
 from pgsub_connect.cli import BUG, FILE, PASSING, REJECTED, SERVER, UNFIT, USAGE, main
-from pgsub_connect.comparing import require_published
-from pgsub_connect.dropping import ask_terminal
+from pgsub_connect.server.followed_publications import require_published
+from pgsub_connect.commands.drop import ask_terminal
 from pgsub_connect.errors import FileError, FilterFault, Passing, ServerError, Stopped, Unfit, UsageError
-from pgsub_connect.filtering import FilterEnded
-from pgsub_connect.options import Options
-from pgsub_connect.sizes import KilledTwice
-from pgsub_connect.words import arguments, parsers_of_commands, settle_options
+from pgsub_connect.follow.filter import FilterEnded
+from pgsub_connect.commands.options import Options
+from pgsub_connect.follow.too_large import KilledTwice
+from pgsub_connect.commands.words import arguments, parsers_of_commands, settle_options
 
 from .fake_server import FakeServer, Quiet, Row
 
@@ -108,7 +109,7 @@ class Words(Quiet):
         self.assertEqual(self.said, [])
 
     def test_limits(self) -> None:
-        with mock.patch("pgsub_connect.words.default_buffered", lambda: 1 << 28):
+        with mock.patch("pgsub_connect.commands.words.default_buffered", lambda: 1 << 28):
             self.assertEqual((self.settled().max_buffered, self.settled().max_frame), (1 << 28, 1 << 28))
         options = self.settled("--max-buffered", "5000000000")
         self.assertEqual((options.max_buffered, options.max_frame), (5000000000, 2147483643))
@@ -181,7 +182,7 @@ class Asks(Quiet):
         self.addCleanup(os.close, ours)
         os.write(ours, typed)
         with os.fdopen(theirs, encoding="utf-8") as terminal, mock.patch("sys.stdin", terminal), mock.patch(
-            "pgsub_connect.dropping.TICK", 0.01
+            "pgsub_connect.commands.drop.TICK", 0.01
         ), contextlib.redirect_stderr(io.StringIO()) as stderr:
             said = ask_terminal("drop \x1b[2J?", check)
         self.assertEqual(stderr.getvalue(), "drop \\x1b[2J? [y/N] ")
@@ -209,7 +210,7 @@ class Compares(Quiet):
         self.server.answer("::pg_catalog.oid AS relid) s JOIN", lambda it: [
             [oid, name] for oid, name in (("1", "public.t"), ("2", "public.u"), ("3", "public.v")) if f"SELECT {oid}::" in it
         ])
-        patch = mock.patch.object(comparing, "Connection", self.server.connect)
+        patch = mock.patch.object(followed_publications, "Connection", self.server.connect)
         patch.start()
         self.addCleanup(patch.stop)
 

@@ -7,7 +7,7 @@ import struct
 from collections.abc import Iterator, Sequence
 from unittest import mock
 
-from pgsub_connect.catalog import Catalog, Column, Part, Partition, Publication, Shape, Table
+from pgsub_connect.server.catalog import Catalog, Column, Part, Partition, Publication, Shape, Table
 
 from .fake_server import with_level
 
@@ -16,7 +16,7 @@ from .fake_server import with_level
 def logged() -> Iterator[list[str]]:
     """The lines that are logged meanwhile."""
     lines: list[str] = []
-    with mock.patch("pgsub_connect.log.line", lambda level, text: lines.append(with_level(level, text))):
+    with mock.patch("pgsub_feed.log.line", lambda level, text: lines.append(with_level(level, text))):
         yield lines
 
 

@@ -1,0 +1,1 @@
+"""Tables that are added, or copied anew, while the stream goes on."""

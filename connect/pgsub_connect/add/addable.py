@@ -1,0 +1,66 @@
+"""What `adding` asks of the stream, and which tables it can't add."""
+
+from __future__ import annotations
+
+from typing import Protocol
+
+from ..server.catalog import Column, Shape
+from ..follow.gate import CURE, TABLE
+from ..server.publications import Column as TableColumn
+from ..server.publications import Table
+from ..drift.remembered import Relation
+
+
+class Stream(Protocol):
+    """The follower, as far as tables are added by it."""
+
+    def serve_server(self) -> None:
+        """Keeps the server content while something else is waited for. Raises where the end was
+        asked for."""
+
+    def attend(self) -> None:
+        """Keeps server and filter content in a session while something else is waited for. Raises
+        where the end was asked for."""
+
+    def push(self, frames: bytes) -> None:
+        """Gives the filter frames, and waits until it has room."""
+
+
+class TooLarge(Exception):
+    """A table has more than may be buffered, or than is read while commits may wait."""
+
+
+def too_long(table: Table, size: int) -> str:
+    """Why a table can't be added while commits wait for the follower, "" where it can."""
+    if size <= TABLE:
+        return ""
+    return (
+        f"{table.text()} has {size} bytes, and commits at the server would wait for the follower as"
+        f" long as these are copied: {CURE}"
+    )
+
+
+def too_large(table: Table, size: int, most: int) -> str:
+    return (
+        f"{table.text()} has at least {size} bytes, and {most} may be buffered of a transaction:"
+        " give the follower a --max-buffered above that, or copy anew"
+    )
+
+
+def table_of(relation: Relation | None) -> Table | None:
+    """A table that isn't published any more, as it was described."""
+    if relation is None:
+        return None
+    shape = relation.shape
+    columns = [
+        TableColumn(it.name, it.type_oid, it.modifier, it.key, it.number) for it in shape.columns
+    ]
+    name = relation.name
+    return Table(relation.oid, relation.namespace, name, "r", shape.identity, None, None, columns)
+
+
+def relation_of(table: Table) -> Relation:
+    columns = tuple(
+        Column(it.name, it.type_oid, it.modifier, it.key, it.number) for it in table.columns
+    )
+    return Relation(table.oid, table.namespace, table.name, Shape(table.identity, columns))

@@ -1,0 +1,1 @@
+"""The subcommands, one file each, and the words of their command lines."""

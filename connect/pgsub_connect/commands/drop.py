@@ -1,0 +1,235 @@
+"""`pgsub-connect drop`: takes away a follower that isn't wanted any more: its slot, its publications and its files."""
+
+from __future__ import annotations
+
+import contextlib
+import fcntl
+import os
+import select
+import sys
+import time
+from collections.abc import Callable, Iterator
+from typing import TYPE_CHECKING, Any
+
+from pgsub_feed import log
+from ..store.checkpoint import Known, has_name
+from ..store.checkpoint_lines import read_file
+from ..errors import FileError, Passing, Unfit, understood
+from pgsub_feed.json_texts import Unreadable, object_of, open_plain, whole_of
+from ..server.publication_setup import inserts_of, oid_of, other_slots
+from ..store.placing import OF_COPY, OF_STORE
+from ..server.connection import Check, Connection, TICK, never
+from ..store.at_rest import own_files
+from ..server.session import Server, database_oid, is_same_database, settle
+from ..store.snapshot import OF_FILE, meant
+from ..drift.remembered_lines import read_lines
+from pgsub_feed.texts import identifier, literal
+
+if TYPE_CHECKING:
+    from .options import Options
+
+# Beside which names processes make files for themselves: copies that a follower is asked for, and exports with which a sink begins.
+ASKED = (".export", ".base")
+# How long a slot that was just left by its connection is waited for.
+PATIENCE = 5.0
+
+
+def read_known(path: str) -> Known:
+    """What the checkpoint has, or nothing where it isn't there."""
+    try:
+        file = open_plain(path)
+    except FileNotFoundError:
+        return Known()
+    except OSError as error:
+        raise FileError(f"{path}: {error.strerror}") from None
+    except Unreadable as error:
+        raise FileError(f"{path}: {error}") from None
+    try:
+        return read_file(file, path).known
+    finally:
+        os.close(file)
+
+
+def read_remembered(path: str) -> dict[str, Any]:
+    """What is remembered beside the store; nothing where that can't be read, since it is only asked for names."""
+    with contextlib.suppress(OSError, Unreadable):
+        return read_lines(path)[0]
+    return {}
+
+
+def made_publications(remembered: dict[str, Any]) -> dict[str, int]:
+    """The publications that the connector made, with their OIDs."""
+    with contextlib.suppress(Unreadable):
+        return {name: whole_of(oid) for name, oid in object_of(remembered.get("made")).items()}
+    return {}
+
+
+@contextlib.contextmanager
+def locked(path: str) -> Iterator[None]:
+    """Holds the checkpoint's lock, so that no connector begins meanwhile. Raises where one is at work."""
+    try:
+        file = os.open(path, os.O_RDWR | os.O_CLOEXEC)
+    except FileNotFoundError:
+        yield
+        return
+    except OSError as error:
+        raise FileError(f"{path}: {error.strerror}") from None
+    try:
+        try:
+            fcntl.flock(file, fcntl.LOCK_EX | fcntl.LOCK_NB)
+        except BlockingIOError:
+            raise Passing(f"{path}: a connector or its filter is at work on this store: end it first") from None
+        if not has_name(file, path):
+            raise Passing(f"{path} was removed meanwhile")
+        yield
+    finally:
+        os.close(file)
+
+
+def files_of(store: str) -> list[str]:
+    """The files of a store that are there, the checkpoint last."""
+    folder, there, patterns = os.path.dirname(store), list[str](), [own_files(store + it) for it in ASKED]
+    with contextlib.suppress(FileNotFoundError):
+        there = sorted(os.listdir(folder or "."))
+    asked = [os.path.join(folder, name) for name in there if any(it.fullmatch(name) for it in patterns)]
+    # (the program has its own ones beside what a link leads to)
+    linked = [meant(store) + it for it in (*OF_COPY, *OF_FILE[1:], "")] if os.path.islink(store) else []
+    return [path for path in (*asked, *linked, *(store + it for it in OF_STORE)) if os.path.lexists(path)]
+
+
+Ask = Callable[[str], bool]
+
+
+def ask_terminal(question: str, check: Check = never, command: str = "drop") -> bool:
+    """Asks on the terminal. Nobody there is a no. What `check` raises meanwhile ends it."""
+    if not sys.stdin.isatty():
+        raise Unfit(f"{command} asks on the terminal, and there is none: say --yes to {command} without asking")
+    sys.stderr.write(f"{log.escaped(question)} [y/N] ")
+    sys.stderr.flush()
+    while not select.select([sys.stdin], [], [], TICK)[0]:
+        check()
+    return sys.stdin.readline().strip().lower() in ("y", "yes")
+
+
+def noted_database(remembered: dict[str, Any]) -> tuple[int, str] | None:
+    """The OID and the name of the database that is followed, None where they weren't noted."""
+    found = remembered.get("database")
+    if isinstance(found, list) and len(found) == 2 and isinstance(found[0], int):
+        return found[0], str(found[1])
+    return None
+
+
+class Dropper:
+    """Drops what belongs to one store."""
+
+    def __init__(self, options: Options, ask: Ask, check: Check = never) -> None:
+        self.options, self.ask, self.check = options, ask, check
+        self.store = options.store
+        self.known = read_known(self.store + ".connector")
+        self.remembered = read_remembered(self.store + ".tables")
+        self.slot = self.known.slot or options.slot
+
+    def run(self) -> None:
+        """Slot first, since the server's disk fills because of it; files last, since they say what else there is."""
+        if self.known.slot and self.options.slot not in ("pgsub", self.known.slot):
+            raise Unfit(f"the store follows the slot {self.known.slot}, and not {self.options.slot}")
+        with locked(self.store + ".connector"):
+            connection = Connection(self.options.dsn, name=f"{self.slot} drop", check=self.check)
+            try:
+                settle(connection)
+                self.check_server(connection)
+                done = self.drop_slot(connection)
+                self.drop_publications(connection)
+            finally:
+                connection.close()
+            if done:
+                self.drop_files()
+
+    @understood("itself")
+    def check_server(self, connection: Connection) -> None:
+        """Rejects a server that isn't the one that the store follows."""
+        known = self.known
+        if not known.system:
+            return
+        system, database = connection.rows(
+            "SELECT s.system_identifier, pg_catalog.current_database() FROM pg_catalog.pg_control_system() s"
+        )[0]
+        server = Server(system or "", 0, 0, database or "", False, database_oid=database_oid(connection))
+        if system != known.system or not is_same_database(known.database, noted_database(self.remembered), server):
+            raise Unfit(
+                f"the store follows the database {known.database} of the server {known.system}, and this is {database} of {system}"
+            )
+
+    @understood("a slot")
+    def drop_slot(self, connection: Connection) -> bool:
+        """Drops the slot. Returns whether it is gone."""
+        query = (
+            "SELECT s.active, s.plugin = 'pgoutput' AND s.database = pg_catalog.current_database()"
+            f" FROM pg_catalog.pg_replication_slots s WHERE s.slot_name = {literal(self.slot)}"
+        )
+        rows = connection.rows(query)
+        if not rows:
+            log.info(f"the server has no slot {self.slot}")
+            return True
+        until = time.monotonic() + PATIENCE
+        while rows and rows[0][0] == "t" and time.monotonic() < until:
+            self.check()
+            time.sleep(0.2)
+            rows = connection.rows(query)
+        if rows and rows[0][0] == "t":
+            raise Passing(f"the slot {self.slot} is active: end the connector that follows it first")
+        if rows and rows[0][1] != "t":
+            raise Unfit(f"the slot {self.slot} is not one of pgoutput in this database")
+        if not self.ask(f"drop the slot {self.slot} of {connection.parameter('server_version')}, with all that it hasn't sent?"):
+            log.info("the slot stays, and so do the files")
+            return False
+        connection.rows(f"SELECT pg_catalog.pg_drop_replication_slot({literal(self.slot)})")
+        log.info(f"dropped the slot {self.slot}")
+        return True
+
+    def candidates(self, connection: Connection) -> list[tuple[str, bool]]:
+        """The publications to ask for, and whether it is known that the connector made them."""
+        made = made_publications(self.remembered)
+        known = self.remembered.get("followed")
+        followed = [str(it) for it in known] if isinstance(known, list) else []
+        names = list(dict.fromkeys([*made, *self.options.publication, *followed]))
+        names += [inserts_of(name) for name in list(names) if inserts_of(name) not in names]
+        found = []
+        for name in names:
+            oid = oid_of(connection, name)
+            if oid:
+                found.append((name, made.get(name) == oid))
+        return found
+
+    def drop_publications(self, connection: Connection) -> None:
+        """Asks for each publication. Those that it isn't known to have made are dropped by a word on the terminal alone."""
+        others = other_slots(connection, self.slot)
+        for name, is_ours in self.candidates(connection):
+            more = f"; other slots may use it: {', '.join(others)}" if others else ""
+            if not is_ours and self.options.yes:
+                log.info(f"the publication {name} stays: it isn't known to be made by this connector{more}")
+            elif others and self.options.yes:
+                log.info(f"the publication {name} stays{more}")
+            elif self.ask(f"drop the publication {name}{'' if is_ours else ', which somebody else may have made'}{more}?"):
+                connection.run(f"BEGIN READ WRITE; SET LOCAL synchronous_commit = local; DROP PUBLICATION {identifier(name)}; COMMIT")
+                log.info(f"dropped the publication {name}")
+
+    def drop_files(self) -> None:
+        files = files_of(self.store)
+        if not files or not self.ask(f"remove {', '.join(files)}?"):
+            return
+        for path in files:
+            try:
+                with contextlib.suppress(FileNotFoundError):
+                    os.unlink(path)
+            except OSError as error:
+                raise FileError(f"{path}: {error.strerror}") from None
+        log.info(f"removed {', '.join(files)}")
+        if (feed := self.remembered.get("feed")) and os.path.isdir(str(feed)):
+            log.info(f"the feed {feed} stays: remove the folder once nobody reads it")
+
+
+def run(options: Options, check: Check = never) -> int:
+    """Drops it all; the exit status."""
+    Dropper(options, (lambda _: True) if options.yes else lambda question: ask_terminal(question, check), check).run()
+    return 0

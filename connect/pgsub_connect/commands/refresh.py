@@ -1,0 +1,118 @@
+"""`pgsub-connect refresh`: compares the publications with what the copy has, tells it, and has it mended after asking.
+
+What the copy has is known from `STORE.tables`: what was there when its rows were read, what has changed since, and what was found and not
+accepted. Of the server only the catalog is read.
+
+| Told | Means | Done |
+|---|---|---|
+| `missing` | rows that were there before the table, or a part of it, was published aren't in the copy | copied anew |
+| `changed` | its columns, its rows' filter or its partitions were altered: rows in the copy may be other ones | copied anew |
+| `extra` | it isn't published any more, and its rows are in the copy as they were then | they go |
+| `other` | what is of no one published table | nothing |
+"""
+
+from __future__ import annotations
+
+import json
+from typing import TYPE_CHECKING, NamedTuple
+
+from pgsub_feed import log
+from . import add
+from ..server.catalog import Catalog, read_catalog
+from ..drift.differences import PUBLICATION, VALUES
+from ..drift.doubts import resolved
+from .drop import ask_terminal, read_known
+from ..errors import FileError
+from ..server.publication_setup import names_of
+from ..server.connection import Check, Connection
+from ..drift.remembered import Remembered
+from ..store.at_rest import check_there
+from ..server.session import settle
+from pgsub_feed.texts import counted
+
+if TYPE_CHECKING:
+    from .options import Options
+
+DONE, LEFT = 0, 1
+MISSING, CHANGED, EXTRA, OTHER = "missing", "changed", "extra", "other"
+
+
+class Told(NamedTuple):
+    """What is wrong of a table, by its OID and name; 0 and "" of what is of no one table."""
+
+    what: str
+    oid: int
+    table: str
+    why: list[str]
+
+    def line(self) -> str:
+        named = {"table": self.table, "oid": self.oid} if self.oid else {}
+        return log.escaped(json.dumps({"is": self.what, **named, "why": self.why}, ensure_ascii=False))
+
+
+def compared(remembered: Remembered, now: Catalog) -> list[Told]:
+    """All that is wrong by what is remembered, which is changed by that, and by what a server has now."""
+    before = remembered.catalog
+    assert before is not None
+    known = set(before.tables)
+    remembered.look(now)
+    found: dict[int, list[str]] = {}
+    others = []
+    for kind in (PUBLICATION, VALUES):
+        for text in texts_of(remembered, kind):
+            oids = remembered.tables_of(text)
+            for oid in oids:
+                if oid not in remembered.mended.get(text, ()):
+                    found.setdefault(oid, []).append(text)
+            if not oids:
+                others.append(text)
+    told = []
+    for oid in sorted(found.keys() & now.tables.keys()):
+        is_missing = oid not in known or any(remembered.about(it).is_missing for it in found[oid])
+        told.append(Told(MISSING if is_missing else CHANGED, oid, remembered.name_of(oid), found[oid]))
+    for text in others:
+        about = remembered.about(text)
+        is_left = bool(about.gone) and not remembered.left.isdisjoint(about.tables)
+        told.append(Told(EXTRA, about.tables[0], about.gone, [text]) if is_left else Told(OTHER, 0, "", [text]))
+    return told
+
+
+def texts_of(remembered: Remembered, kind: str) -> list[str]:
+    found = remembered.found.get(kind)
+    if found is None:
+        return []
+    return [*found.texts, *([f"{kind}: and {found.more} more, see the log"] if found.more else [])]
+
+
+def run(options: Options, check: Check) -> int:
+    """Compares, asks and has it done; the exit status."""
+    check_there(options.store)
+    options.slot = read_known(options.store + ".connector").slot or options.slot
+    remembered = Remembered(options.store, options.mode)
+    if remembered.catalog is None:
+        raise FileError(f"{remembered.path}: there is no such file yet: the next session makes it")
+    told = compared(remembered, read_now(options, check, remembered.catalog))
+    for it in told:
+        print(it.line(), flush=True)
+    tables = {it.oid: it.table for it in told if it.what in (MISSING, CHANGED)}
+    extra = {it.oid: it.table for it in told if it.what == EXTRA and remembered.described(it.oid)}
+    for some in (tables, extra):
+        for oid in [it for it in some if remembered.wanted.get(it) == ""]:
+            log.info(f"{some.pop(oid)} is under way already")
+    if not tables and not extra:
+        log.info("there is nothing to do")
+        return DONE
+    parts = [f"copy {counted(len(tables), 'table')} anew: {names_of(list(tables.values()))}"] if tables else []
+    parts += [f"remove the rows of {counted(len(extra), 'table')}: {names_of(list(extra.values()))}"] if extra else []
+    if not options.yes and not ask_terminal(f"{'; '.join(parts)}?", check, "refresh"):
+        return LEFT
+    return add.add(options, tables, check, extra)
+
+
+def read_now(options: Options, check: Check, before: Catalog) -> Catalog:
+    connection = Connection(options.dsn, name=f"{options.slot} tables", check=check)
+    try:
+        settle(connection)
+        return resolved(connection, before, read_catalog(connection, options.publication))
+    finally:
+        connection.close()

@@ -1,0 +1,61 @@
+"""`pgsub-connect snapshot`: a copy of a store in one file, which `pgsub dump` and `export` read."""
+
+from __future__ import annotations
+
+import os
+import sqlite3
+from typing import TYPE_CHECKING
+
+from pgsub_feed import log
+from ..errors import FileError, Passing, Stopped
+from ..store.placing import check_into, placed
+from ..server.connection import Check
+from ..store.at_rest import at_rest, failed
+from ..store.snapshot import LOG, copy, fold, position_in, remove
+from ..store.file import check_store, is_store
+from pgsub_feed.texts import lsn_text
+
+if TYPE_CHECKING:
+    from .options import Options
+
+
+def is_snapshot(path: str) -> bool:
+    """Whether a file is a store that nobody follows into."""
+    return is_store(path) and not os.path.exists(path + ".connector") and not os.path.exists(path + LOG)
+
+
+def check_copied(store: str, path: str, option: str = "--into") -> None:
+    """Rejects to replace a file by a copy of a store, unless it is such a copy itself. An option names it."""
+    check_into(store, path, is_snapshot, "an earlier copy of a store", option)
+
+
+def run(options: Options, check: Check) -> int:
+    """Copies a store; the exit status."""
+    check_copied(options.store, options.into)
+    try:
+        with at_rest(options.store, options.into, check) as (path, is_own), placed(options.into, options.mode) as new:
+            check_store(path, options.store)
+            put(path, new, is_own, check)
+            position = position_in(new)
+    except Stopped:
+        raise Passing(f"ended before {options.into} was complete") from None
+    if position is None:
+        raise FileError(f"{options.store}: the store has no position")
+    log.info(f"{options.into}: the rows at {lsn_text(position)}")
+    return 0
+
+
+def put(path: str, new: str, is_own: bool, check: Check) -> None:
+    """Moves a copy to its new name, or copies it where that lies on another disk."""
+    if is_own:
+        try:
+            os.rename(path, new)
+            return
+        except OSError:
+            pass
+    remove(new)
+    copy(path, new, 0o600, check)
+    try:
+        fold(new)
+    except sqlite3.Error as error:
+        raise failed(error, new) from None

@@ -1,0 +1,142 @@
+"""The messages of the connector's own transactions, and how rows in COPY's text format become Inserts.
+
+Lines are encoded a block at a time and column by column, since a call for each value costs more than all else. Within a line
+only the server's own tabs and newlines are tabs and newlines: those of values come as `\\t` and `\\n`.
+"""
+
+from __future__ import annotations
+
+import re
+import struct
+from collections.abc import Sequence
+
+from ..errors import WrongAnswer
+from ..server.publications import Table
+
+NULL = b"\\N"
+ESCAPES = {b"\\b": b"\b", b"\\f": b"\f", b"\\n": b"\n", b"\\r": b"\r", b"\\t": b"\t", b"\\v": b"\v"}
+OTHER = re.compile(rb"\\(.)", re.S)
+# the heads of cells up to this length are kept
+KEPT = 1 << 12
+
+
+def frame(lsn: int, body: bytes) -> bytes:
+    """A message in XLogData in CopyData."""
+    return struct.pack(">cIcQQq", b"d", 29 + len(body), b"w", lsn, lsn, 0) + body
+
+
+def begin(lsn: int, xid: int | None = None, clock: int = 0) -> bytes:
+    """A Begin; its xid is made of the LSN where none is given. `clock`: when, in microseconds since 2000."""
+    return struct.pack(">cQqI", b"B", lsn, clock, lsn & 0x7FFFFFFF if xid is None else xid)
+
+
+def commit(lsn: int, end: int, clock: int = 0) -> bytes:
+    return struct.pack(">cBQQq", b"C", 0, lsn, end, clock)
+
+
+def relation(table: Table) -> bytes:
+    namespace = "" if table.namespace == "pg_catalog" else table.namespace
+    parts = [b"R", struct.pack(">I", table.oid), namespace.encode(), b"\0", table.name.encode(), b"\0"]
+    parts += [table.identity.encode(), struct.pack(">H", len(table.columns))]
+    for column in table.columns:
+        parts += [bytes([column.key]), column.name.encode(), b"\0", struct.pack(">Ii", column.type_oid, column.modifier)]
+    return b"".join(parts)
+
+
+def cells(fields: Sequence[bytes | None]) -> bytes:
+    """A tuple of texts and nulls."""
+    texts = [b"n" if it is None else struct.pack(">cI", b"t", len(it)) + it for it in fields]
+    return struct.pack(">H", len(fields)) + b"".join(texts)
+
+
+def insert(oid: int, row: Sequence[bytes | None]) -> bytes:
+    return struct.pack(">cIc", b"I", oid, b"N") + cells(row)
+
+
+def update(oid: int, row: Sequence[bytes | None]) -> bytes:
+    """An Update of the row that has the new one's key."""
+    return struct.pack(">cIc", b"U", oid, b"N") + cells(row)
+
+
+def delete(oid: int, kind: bytes, row: Sequence[bytes | None]) -> bytes:
+    """A Delete of the row with this key (`K`), or of one that is this (`O`)."""
+    return struct.pack(">cIc", b"D", oid, kind) + cells(row)
+
+
+class CellHeads(dict[int, bytes]):
+    """What comes before a value, by the value's length."""
+
+    def __missing__(self, length: int) -> bytes:
+        head = struct.pack(">cI", b"t", length)
+        if length < KEPT:
+            self[length] = head
+        return head
+
+
+class InsertHeads(dict[int, bytes]):
+    """What comes before the cells of a row in a transaction, by the length of all cells."""
+
+    def __init__(self, table: Table, lsn: int) -> None:
+        super().__init__()
+        self.lsn, self.width = lsn, len(table.columns)
+        self.insert = struct.pack(">cIcH", b"I", table.oid, b"N", self.width)
+
+    def __missing__(self, length: int) -> bytes:
+        size = 29 + len(self.insert) + length
+        head = struct.pack(">cIcQQq", b"d", size, b"w", self.lsn, self.lsn, 0) + self.insert
+        if length < KEPT:
+            self[length] = head
+        return head
+
+
+CELL_HEADS = CellHeads()
+
+
+def unescaped(text: bytes) -> bytes:
+    """The value of a text that isn't null. An escaped backslash splits it into pieces in which each other escape stands alone."""
+    pieces = text.split(b"\\\\")
+    for index, piece in enumerate(pieces):
+        if b"\\" in piece:
+            for escape, character in ESCAPES.items():
+                piece = piece.replace(escape, character)
+            pieces[index] = OTHER.sub(rb"\1", piece) if b"\\" in piece else piece
+    return b"\\".join(pieces)
+
+
+def cells_length(line: bytes, width: int) -> int:
+    """How long the cells of a line are. An escape is a byte longer than what it stands for; a null is one byte, without a head.
+
+    Of backslashes in a row each two are an escaped one, and a last one begins an escape.
+    """
+    escapes = line.count(b"\\") - line.count(b"\\\\")
+    nulls = line.count(NULL) - line.count(b"\\" + NULL)
+    return len(line) + 4 * width - escapes - 5 * nulls
+
+
+def encoded(column: list[bytes]) -> tuple[list[bytes], list[bytes]]:
+    """The heads and the values of a column's texts."""
+    if b"\\" not in b"".join(column):
+        return list(map(CELL_HEADS.__getitem__, map(len, column))), column
+    values = [text if b"\\" not in text else None if text == NULL else unescaped(text) for text in column]
+    heads = [b"n" if value is None else CELL_HEADS[len(value)] for value in values]
+    return heads, [value or b"" for value in values]
+
+
+def inserts(lines: list[bytes], heads: InsertHeads) -> bytes:
+    """The frames of the Inserts of lines in COPY's text format."""
+    width = heads.width
+    if not width:
+        return heads[0] * len(lines)
+    block = b"".join(lines)
+    texts = block[:-1].replace(b"\n", b"\t").split(b"\t")
+    if len(texts) != width * len(lines):
+        raise WrongAnswer(f"the server copied rows of another width than {width} columns")
+    step, extra = 2 * width + 1, 4 * width
+    parts = [b""] * (len(lines) * step)
+    if b"\\" in block:
+        parts[::step] = [heads[len(line) + extra if b"\\" not in line else cells_length(line, width)] for line in lines]
+    else:
+        parts[::step] = [heads[len(line) + extra] for line in lines]
+    for index in range(width):
+        parts[2 * index + 1 :: step], parts[2 * index + 2 :: step] = encoded(texts[index::width])
+    return b"".join(parts)

@@ -1,0 +1,120 @@
+"""What the catalog alone leaves in doubt, and the rows tell.
+
+- A table's columns were altered, and its rows are in another file; it keeps no long values, whose
+  place would tell. Were its values computed anew? No, where a row is older than the earlier
+  reading, since an ALTER TABLE writes all; nor where each one is later than whatever has written
+  the file, as after a TRUNCATE.
+- The rows of a partition, which comes under another name, are in another file. Was it truncated?
+  No, where a row is older than the earlier reading.
+- A partition was attached to what is published. Had it rows before? No, where each one is later
+  than the transaction that has attached it, which holds a lock against all others.
+
+What can't be asked, or takes too long, stays in doubt, and so it is told: a right or a lock may be
+missing, or the table be large. Nothing is passed on meanwhile.
+"""
+
+from __future__ import annotations
+
+import dataclasses
+import time
+
+from ..server.catalog import Catalog
+from .differences import asks_rows, attached, written_partitions
+from ..errors import ServerError, understood
+from ..server.connection import Connection, QUICK
+from pgsub_feed.texts import identifier, literal
+
+# For how many seconds each table is asked at most, and all together.
+EACH, ALL = 1, 2
+# From which age on a transaction isn't told from a later one.
+OLDEST = 1 << 31
+
+
+def resolved(connection: Connection, before: Catalog, now: Catalog) -> Catalog:
+    """A reading with what its rows tell beside it, as far as it leaves in doubt what is new."""
+    tables = {
+        oid: asked
+        for oid in before.tables.keys() & now.tables.keys()
+        if (asked := asks_rows(oid, before, now))
+    }
+    partitions, written = attached(before, now), written_partitions(before, now)
+    if not (tables or partitions or written):
+        return now
+    until = time.monotonic() + ALL
+    connection.run(f"SET statement_timeout = '{EACH}s'; SET row_security = off", limit=QUICK)
+    try:
+        since = since_of(connection, before)
+        kept = {
+            oid
+            for oid, asked in tables.items()
+            if all(has_its_values(connection, it, since, until) for it in asked)
+        }
+        kept |= {oid for oid in written if has_older(connection, oid, since, until)}
+        fresh = {
+            oid
+            for oid, ways in partitions.items()
+            if has(connection, oid, up_to(ways), until) is False
+        }
+    finally:
+        connection.run("SET statement_timeout = 0; SET row_security = on", limit=QUICK)
+    return dataclasses.replace(now, kept=frozenset(kept), fresh=frozenset(fresh))
+
+
+def since_of(connection: Connection, before: Catalog) -> str:
+    """The first transaction that an earlier reading may not have seen, as the server knows it; ""
+    where that isn't known, or is too long ago."""
+    now = connection.text(
+        "SELECT pg_catalog.txid_snapshot_xmax(pg_catalog.txid_current_snapshot())"
+    )
+    is_known = before.running and int(now) - before.running < OLDEST
+    return str(before.running % (1 << 32)) if is_known else ""
+
+
+def has_its_values(connection: Connection, oid: int, since: str, until: float) -> bool:
+    """Whether it is certain that no row of a table was computed anew since an earlier reading. (The
+    entry of the table in the catalog is at least as late as its file.)"""
+    if has_older(connection, oid, since, until):
+        return True
+    written = connection.value(
+        f"SELECT c.xmin::pg_catalog.text FROM pg_catalog.pg_class c WHERE c.oid = {oid}"
+    )
+    return written is not None and has(connection, oid, up_to([written]), until) is False
+
+
+def has_older(connection: Connection, oid: int, since: str, until: float) -> bool:
+    """Whether it is certain that a row of a table is older than an earlier reading. (Ages are of one
+    moment within a query alone.)"""
+    age = f"pg_catalog.age({literal(since)}::pg_catalog.xid)"
+    condition = f"pg_catalog.age(r.xmin) < 0 OR pg_catalog.age(r.xmin) > {age}"
+    return since != "" and has(connection, oid, condition, until) is True
+
+
+@understood("rows")
+def has(connection: Connection, oid: int, condition: str, until: float) -> bool | None:
+    """Whether a table has a row for which a condition holds; None where that can't be said."""
+    names = (
+        connection.rows(
+            "SELECT n.nspname, c.relname FROM pg_catalog.pg_class c"
+            f" JOIN pg_catalog.pg_namespace n ON n.oid = c.relnamespace WHERE c.oid = {oid}"
+        )
+        if time.monotonic() < until
+        else []
+    )
+    if not names:
+        return None
+    name = ".".join(identifier(it or "") for it in names[0])
+    try:
+        return (
+            connection.value(f"SELECT EXISTS (SELECT FROM ONLY {name} r WHERE {condition})") == "t"
+        )
+    except ServerError as error:
+        if not error.sqlstate:
+            raise
+        return None
+
+
+def up_to(transactions: list[str]) -> str:
+    """That a row isn't later than all of some transactions. (One before the last two billions has a
+    negative age, or the greatest.)"""
+    ages = ", ".join(f"pg_catalog.age({literal(it)}::pg_catalog.xid)" for it in transactions)
+    return f"pg_catalog.age(r.xmin) < 0 OR pg_catalog.age(r.xmin) >= LEAST({ages})"

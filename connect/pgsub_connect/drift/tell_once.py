@@ -1,0 +1,80 @@
+"""What is told once in a run of what is published, since no message of the server tells it later,
+and no look finds it.
+
+The copy lacks it, or has it as it was, from the beginning: so these are no findings.
+"""
+
+from __future__ import annotations
+
+from collections.abc import Iterator
+
+from ..server.catalog import ACTIONS, Catalog, listed_oids, number
+from .differences import root_of
+from ..errors import understood
+from ..server.publication_setup import names_of
+from ..server.connection import Connection, QUICK
+
+# Types whose values are OIDs, printed as the names that these have at the moment: regproc,
+# regprocedure, regoper, regoperator, regclass, regtype, regconfig, regdictionary, regnamespace,
+# regrole, regcollation.
+NAMES = (24, 2202, 2203, 2204, 2205, 2206, 3734, 3769, 4089, 4096, 4191)
+
+
+def warnings(connection: Connection, now: Catalog, made: dict[str, int]) -> Iterator[str]:
+    """All of it. `made`: the publications that were made for this store, whose options are those
+    that were wanted."""
+    for name, publication in now.publications.items():
+        missing = [f"{word}s" for word in ACTIONS if word not in publication.actions]
+        if missing and name not in made:
+            words = " and no ".join(missing)
+            yield f"publication {name} has no {words}: these changes are missing in the copy"
+    if unlogged := unlogged_names(now):
+        told = "unlogged or foreign, so no change of them is sent, and their rows aren't copied"
+        yield f"{told}: {names_of(unlogged)}"
+    if columns := naming_columns(connection, now):
+        told = "names of other objects, which stay as they are in the copy where one is renamed"
+        yield f"{told}: {names_of(columns)}"
+
+
+def unlogged_names(now: Catalog) -> list[str]:
+    """The tables and partitions whose changes are in no log, though they are published."""
+    tables = [f"{it.namespace}.{it.name}" for it in now.tables.values() if not it.logged]
+    partitions = [
+        it.name
+        for oid, it in now.partitions.items()
+        if not it.logged and root_of(oid, now) and oid not in now.tables
+    ]
+    return sorted({*tables, *partitions})
+
+
+@understood("types")
+def naming_columns(connection: Connection, now: Catalog) -> list[str]:
+    """The published columns with such types in them: in arrays, domains, ranges and composites too.
+    """
+    used = sorted(
+        {column.type_oid for table in now.tables.values() for column in table.shape.columns}
+    )
+    rows = (
+        connection.rows(
+            "WITH RECURSIVE t (used, oid) AS ("
+            f" SELECT y.oid, y.oid FROM pg_catalog.pg_type y WHERE y.oid IN ({listed_oids(used)})"
+            " UNION SELECT t.used, u.oid FROM t JOIN pg_catalog.pg_type y ON y.oid = t.oid,"
+            " LATERAL ("
+            "  SELECT y.typelem AS oid UNION ALL SELECT y.typbasetype"
+            "  UNION ALL SELECT r.rngsubtype FROM pg_catalog.pg_range r WHERE r.rngtypid = y.oid"
+            "  UNION ALL SELECT a.atttypid FROM pg_catalog.pg_attribute a"
+            "   WHERE a.attrelid = y.typrelid AND a.attnum > 0 AND NOT a.attisdropped) u"
+            " WHERE u.oid <> 0)"
+            f" SELECT DISTINCT t.used FROM t WHERE t.oid IN ({listed_oids(list(NAMES))})",
+            QUICK,
+        )
+        if used
+        else []
+    )
+    naming = {number(row[0]) for row in rows}
+    return sorted(
+        f"{table.namespace}.{table.name}.{column.name}"
+        for table in now.tables.values()
+        for column in table.shape.columns
+        if column.type_oid in naming
+    )

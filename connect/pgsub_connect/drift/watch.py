@@ -1,0 +1,190 @@
+"""Watches for what may make the copy wrong without a word: keeps what was found until somebody accepts it, and tells it."""
+
+from __future__ import annotations
+
+import time
+from typing import TYPE_CHECKING
+
+from pgsub_feed import log
+from ..server.catalog import Catalog, read_catalog
+from ..store.checkpoint import Checkpoint, MISSING
+from .differences import NAMES
+from .doubts import resolved
+from ..errors import Passing, ServerError, Unfit
+from .missed_rows import texts_of
+from ..server.connection import Check, Connection, QUICK
+from ..status.progress import Progress
+from .remembered import Remembered
+from ..server.session import settle
+from .tell_once import warnings
+
+if TYPE_CHECKING:
+    from ..commands.options import Options
+
+# After how many seconds the file is written where nothing in it is urgent, the publications are looked at again, and that is tried
+# again where it failed; and after how many they are looked at where no message says that anything has changed.
+LATER, LOOK, AGAIN, AT_LEAST = 60.0, 1.0, 10.0, 600.0
+# At most a part in so many of the time is spent to tell the progress what was found, where that takes more than so many seconds.
+PART, LITTLE = 20, 0.005
+# For how many milliseconds a look waits for a lock. From 16 on the server opens each table for it.
+PATIENCE = 500
+LOCK_TIMEOUT = "55P03"
+
+
+class Watch:
+    """What was found, and the looks at the server's publications."""
+
+    def __init__(self, options: Options, checkpoint: Checkpoint, progress: Progress, remembered: Remembered) -> None:
+        self.options, self.checkpoint, self.progress, self.remembered = options, checkpoint, progress, remembered
+        self.next_look = self.next_save = 0.0
+        # when the publications were looked at last
+        self.looked = time.monotonic()
+        self.is_told = self.is_hindered = False
+        # whether the progress has all that was found, and when it may be told again: that takes longer, the more there is
+        self.is_shown, self.next_show = True, 0.0
+
+    def begin(self) -> None:
+        """Accepts what is to be accepted, and tells what else was found up to now."""
+        kinds = [it for it in {*self.checkpoint.findings(), *self.remembered.found} if self.options.accepts(it)]
+        self.checkpoint.accept(kinds)
+        self.remembered.accept(kinds)
+        if self.remembered.is_urgent:
+            self.remembered.save()
+        self.note_kinds()
+        for kind, lsn in self.checkpoint.findings().items():
+            for text in self.texts_of(kind):
+                log.warning(f"found: {kind} at {lsn}: {text}")
+        self.show()
+
+    def note_kinds(self) -> None:
+        """Has the checkpoint keep what was found, too: a file of tables may be removed."""
+        for kind, found in self.remembered.found.items():
+            self.checkpoint.note_found(kind, found.lsn)
+
+    def texts_of(self, kind: str) -> list[str]:
+        if kind == MISSING and self.checkpoint.counted:
+            return texts_of(self.checkpoint.counted, self.remembered)
+        found = self.remembered.found.get(kind)
+        if found is None:
+            return ["see the log of the run that found it"]
+        return [*found.texts, *([f"and {found.more} more"] if found.more else [])]
+
+    def lasting_of(self, kind: str) -> list[str]:
+        """What was found of this kind but for tables whose rows are being added, by which it goes."""
+        going = {oid for oid, why in self.remembered.wanted.items() if not why}
+        return [it for it in self.texts_of(kind) if kind == NAMES or going.isdisjoint(self.remembered.about(it).tables)]
+
+    def show(self) -> None:
+        """Tells the progress what was found, and ends the following where it is to be strict."""
+        began = time.monotonic()
+        self.progress.found = {kind: "; ".join(self.texts_of(kind)) for kind in self.checkpoint.findings()}
+        lasting = {kind: text for kind in self.checkpoint.findings() if (text := "; ".join(self.lasting_of(kind)))}
+        if lasting and self.options.strict:
+            texts = "\n".join(f"{kind}: {text}" for kind, text in lasting.items())
+            raise Unfit(f"the copy may be wrong (copy anew, or take it as it is by --accept KIND)\n{texts}")
+        took = time.monotonic() - began
+        self.is_shown, self.next_show = True, began + (PART * took if took > LITTLE else 0.0)
+
+    def compare(self, connection: Connection, position: int) -> bool:
+        """Compares what the server has with what is remembered. Returns false where a lock of somebody else is in the way."""
+        remembered = self.remembered
+        try:
+            connection.run(f"SET lock_timeout = {PATIENCE}", limit=QUICK)
+            now = read_catalog(connection, self.options.publication)
+            now = resolved(connection, remembered.catalog, now) if remembered.catalog else now
+            connection.run("SET lock_timeout = 0", limit=QUICK)
+        except ServerError as error:
+            if error.sqlstate != LOCK_TIMEOUT:
+                raise
+            connection.run("SET lock_timeout = 0", limit=QUICK)
+            self.next_look = time.monotonic() + AGAIN
+            self.tell_hindered(error)
+            return False
+        self.looked, self.is_hindered = time.monotonic(), False
+        self.tell_once(connection, now)
+        if remembered.catalog is None:
+            remembered.begin(now)
+            log.info(f"{remembered.path} remembers the publications as they are now: what was changed before isn't found")
+        else:
+            remembered.forget_told(position)
+            for text in remembered.look(now):
+                log.info(text)
+        self.keep()
+        return True
+
+    def tell_once(self, connection: Connection, now: Catalog) -> None:
+        """Tells once in a run what no finding will tell."""
+        if not self.is_told:
+            for text in warnings(connection, now, self.remembered.made):
+                log.warning(text)
+        self.is_told = True
+
+    def look_again(self, check: Check, position: int) -> bool:
+        """Compares on a connection of its own. Returns whether that was possible."""
+        try:
+            connection = Connection(self.options.dsn, name=f"{self.options.slot} tables", check=check)
+            try:
+                settle(connection)
+                return self.compare(connection, position)
+            finally:
+                connection.close()
+        except ServerError as error:
+            self.tell_hindered(error)
+            return False
+
+    def tell_hindered(self, error: ServerError) -> None:
+        """Tells once why a look isn't possible, until one is: somebody may hold a lock for hours."""
+        if not self.is_hindered:
+            log.warning(f"the publications can't be looked at now: {error}")
+        self.is_hindered = True
+
+    def keep(self) -> None:
+        """Puts what was found on the disk, before anything more is confirmed, and tells it."""
+        if not self.remembered.is_urgent:
+            return
+        self.remembered.put()
+        self.note_kinds()
+        news = self.remembered.take_news()
+        for line in news:
+            log.warning(f"found: {line}")
+        self.is_shown = self.is_shown and not news
+        if news and self.options.strict:
+            self.show()
+        self.show_later()
+
+    def show_later(self) -> None:
+        """Tells the progress what was found since it was told that last, in its time."""
+        if not self.is_shown and time.monotonic() >= self.next_show:
+            self.show()
+
+    def note(self, kind: str, lsn: int, text: str) -> None:
+        """Keeps what the caller has found, and ends the following with."""
+        self.remembered.find(kind, lsn, text)
+        self.remembered.take_news()
+        self.remembered.save()
+        self.checkpoint.note_found(kind, lsn)
+
+    def tend(self, wants_look: bool, check: Check, position: int) -> bool:
+        """Called after each lot of payloads, before anything of them is confirmed. Returns whether a look is still wanted.
+
+        Much of what is altered isn't told by any message, so a long session looks now and then.
+        """
+        self.keep()
+        self.show_later()
+        now = time.monotonic()
+        wants_look = wants_look or now - self.looked >= AT_LEAST
+        if wants_look and now >= self.next_look:
+            wants_look = not self.look_again(check, position)
+            self.next_look = now + (AGAIN if wants_look else LOOK)
+        if self.remembered.is_changed and now >= self.next_save:
+            self.next_save = now + LATER
+            self.remembered.save()
+        return wants_look
+
+    def finish(self) -> None:
+        """Writes what isn't urgent, at the end of a session."""
+        if self.remembered.is_changed:
+            try:
+                self.remembered.save()
+            except Passing as error:
+                log.warning(str(error))

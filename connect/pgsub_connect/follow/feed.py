@@ -1,0 +1,318 @@
+"""The feed that a follower keeps beside its store: which folder has it, what the filter is told of it, and what is done in that folder.
+
+The filter writes the segments. Beside these is `confirmed`, the LSN up to which the feed has all commits, also where a publication has
+had none for long; and `readers/NAME`, by which readers say how far they are. A thread writes the first, reads the others, and removes
+old segments: the main loop only sets what is confirmed.
+
+| The store | The feed |
+|---|---|
+| is made by an initial copy, or without one | begins where the store does, in an empty folder; the copied rows are no part of it |
+| gets rows of a table that is added or copied anew, or rows that are repaired | has these commits as any other |
+| goes on behind a gap that was accepted | goes on as the store does: what the store lacks, it lacks |
+| was put back from a backup | is left as it is, since opening both would cut off what the store lacks; where a gap is accepted, it is cut |
+| is followed without its feed, as was said by --without-feed | has a gap: the filter takes it for no feed of that store |
+"""
+
+from __future__ import annotations
+
+import contextlib
+import dataclasses
+import os
+import threading
+import time
+from collections.abc import Callable
+from typing import TYPE_CHECKING
+
+from pgsub_feed import log
+from .tables_process import Beside
+from .tables_process import check as check_tables
+from ..store.checkpoint import Checkpoint
+from ..errors import FileError, Passing, Unfit
+from pgsub_feed.faults import Damaged
+from pgsub_feed.reader.positions import make_folder
+from pgsub_feed.reader.segments import CONFIRMED, Reader, read_confirmed, segments
+from .retention import Limits, feed_bytes, read_readers, retire
+from .filter import Filter, FilterEnded
+from ..server.connection import Check, Connection
+from ..drift.remembered import Remembered, replace_file
+from ..store.at_rest import has_log
+from ..server.session import identify, settle
+from ..store.snapshot import position_in
+from pgsub_feed.texts import counted, lsn_text
+
+if TYPE_CHECKING:
+    from ..commands.options import Options
+    from ..status.progress import Progress
+
+# How often what is confirmed is written where a keepalive alone has moved it, and else; how often the readers are looked at, and how
+# often old segments are looked for, in seconds.
+QUIET, BUSY, LOOK, RETIRE = 0.25, 1.0, 1.0, 10.0
+# How long a filter that is to end is waited for, before it is looked whether the end was asked for.
+STEP = 0.5
+# After how many seconds a store that can't be opened is tried again, in steps of how many.
+AGAIN, SLEEP = 5, 0.2
+# What the filter says of a feed that doesn't fit its store.
+NOT_A_FEED = "pgsub: feed 1 NotAFeed"
+
+
+@dataclasses.dataclass(frozen=True)
+class Reached:
+    """What a store has: the LSN up to which all commits are stored, and the end of the last of them."""
+
+    confirmed: int
+    position: int
+
+
+def has_segments(folder: str) -> bool:
+    return os.path.isdir(folder) and bool(segments(folder))
+
+
+class Feeding:
+    """The folder. Nothing is written there before a filter has opened the feed."""
+
+    def __init__(self, options: Options, checkpoint: Checkpoint, progress: Progress, remembered: Remembered) -> None:
+        self.options, self.checkpoint, self.progress, self.remembered = options, checkpoint, progress, remembered
+        self.folder = os.path.abspath(options.feed) if options.feed else ""
+        self.keeper: Keeper | None = None
+        self.beside: Beside | None = None
+        # what the tables are to have before the follower ends by itself
+        self.wanted: int | None = None
+
+    def check(self) -> None:
+        """Rejects a folder that can't have the store's feed, before anything is made; and makes the folder."""
+        if os.path.exists(self.options.store):
+            self.check_followed()
+        elif self.folder:
+            self.check_empty()
+        if self.options.tables:
+            check_tables(self.options)
+        if self.folder:
+            self.make_folder()
+
+    def check_followed(self) -> None:
+        """Rejects to leave the feed that the store has had behind."""
+        was, now = self.remembered.feed, self.folder
+        if not was or self.options.without_feed or now and (os.path.realpath(was) == os.path.realpath(now) or has_segments(now)):
+            return
+        other = f", and {now} has none of its commits: move its files there, or" if now else f": say --feed {was}, or"
+        raise Unfit(
+            f"the feed {was} has all commits of {self.options.store}, and following without it would leave a gap in it{other}"
+            " --without-feed, which ends that feed for good"
+        )
+
+    def check_empty(self) -> None:
+        """Rejects a folder with files: the feed of a new store has nothing of an older one's, nor have its readers."""
+        if os.path.isdir(self.folder) and os.listdir(self.folder):
+            raise Unfit(
+                f"a new store begins a new feed, and the folder {self.folder} isn't empty: name another one by --feed, or remove it"
+                " if nobody reads it any more"
+            )
+
+    def make_folder(self) -> None:
+        try:
+            make_folder(self.folder, self.options.mode)
+        except OSError as error:
+            raise FileError(f"--feed {self.options.feed}: {error.strerror}") from None
+
+    def begin(self, child: Filter, reached: Callable[[], Reached], check: Check) -> None:
+        """Notes the folder with the copy, and tells the filter of it."""
+        if not self.folder:
+            if self.remembered.feed:
+                log.warning(f"the feed {self.remembered.feed} ends here: whoever reads it begins anew, from an export and another feed")
+            self.remembered.note_feed("")
+            return
+        if self.remembered.feed and not has_segments(self.folder):
+            log.warning(f"the feed {self.folder} has no segment any more, or is another one: a new one begins")
+        self.check_position(child, check)
+        self.remembered.note_feed(self.folder)
+        child.words += self.words(check)
+        self.keeper = Keeper(self.options, self.folder, self.progress, reached)
+        if self.options.tables:
+            self.beside = Beside(self.options, self.progress)
+
+    def check_position(self, child: Filter, check: Check) -> None:
+        """Rejects an older store, before a filter cuts off what the feed has above the store's position.
+
+        Its checkpoint may be older too, or gone. But all that was confirmed is in the right store.
+        """
+        known, options = self.checkpoint.known, self.options
+        if not has_segments(self.folder) or options.accepts("gap") or options.without_feed:
+            return
+        position = opened_at(child, check) if has_log(options.store) else position_in(options.store)
+        if position is None:
+            return
+        told = ""
+        if position < known.position:
+            told = (
+                f"was at {lsn_text(known.position)} before, so this is an older one; by opening it the feed {self.folder} would lose the"
+                " commits between"
+            )
+        elif end := confirmed_above(self.folder, position):
+            told = (
+                f"the feed {self.folder} has the commit up to {lsn_text(end)}, which was confirmed, so this is an older store; by opening it"
+                " the feed would lose what it has above"
+            )
+        if told:
+            raise Unfit(f"the store is at {lsn_text(position)}, and {told}. Put the right one back, or say --accept gap, or --without-feed")
+
+    def words(self, check: Check) -> list[str]:
+        """What the filter is told."""
+        options = self.options
+        system, database, slot = self.source(check)
+        words = ["--feed", self.folder, "--feed-system", system, "--feed-database", database, "--feed-slot", slot]
+        if options.feed_segment_bytes:
+            words += ["--feed-segment-bytes", str(options.feed_segment_bytes)]
+        if options.feed_segment_seconds:
+            words += ["--feed-segment-seconds", str(options.feed_segment_seconds)]
+        return words
+
+    def source(self, check: Check) -> tuple[str, str, str]:
+        """Of what it is a feed. Of a store that was never followed the server says it."""
+        known, options = self.checkpoint.known, self.options
+        if known.system:
+            return known.system, known.database, known.slot
+        connection = Connection(options.dsn, replication=True, name=f"{options.slot} feed", check=check)
+        try:
+            settle(connection)
+            server = identify(connection)
+        finally:
+            connection.close()
+        return server.system, server.database, options.slot
+
+    def note_opened(self) -> None:
+        """A filter has opened the feed, so what looks after it and follows it may begin."""
+        for it in (self.keeper, self.beside):
+            if it and it.ident is None:
+                it.start()
+
+    def is_read(self, position: int) -> bool:
+        """Whether the tables have what the store had when this was asked first. One that is to end by itself waits for that."""
+        self.wanted = position if self.wanted is None else self.wanted
+        return self.beside is None or self.beside.has(self.wanted)
+
+    def text_of(self, said: str) -> str:
+        """What to do where the filter has ended with these words; "" where they aren't about a feed that doesn't fit."""
+        if not self.folder or said != NOT_A_FEED:
+            return ""
+        return (
+            f"{self.folder} isn't the feed of {self.options.store}: it was followed without it, is that of another copy, or begins after"
+            " this copy's last commit. Name an empty folder by --feed, with --without-feed: whoever reads the feed begins anew there, from"
+            " an export"
+        )
+
+    def finish(self) -> None:
+        for it in (self.beside, self.keeper):
+            if it and it.ident is not None:
+                it.finish()
+
+
+def confirmed_above(folder: str, position: int) -> int | None:
+    """The end of a commit above a position that the feed has, and that is confirmed; None where there is none.
+
+    One that can't be read may be what a power cut has left. A segment begins where the commits of the one before it end.
+    """
+    confirmed = read_confirmed(folder) or 0
+    if confirmed <= position:
+        return None
+    with contextlib.suppress(Damaged, Unfit), contextlib.closing(Reader(folder, position)) as reader:
+        if (commit := reader.next()) is not None:
+            return commit.end if commit.end <= confirmed else None
+    return next((base for base, _ in segments(folder) if position < base <= confirmed), None)
+
+
+def opened_at(child: Filter, check: Check) -> int | None:
+    """The position of a store of which only a filter can say it, since its log isn't empty; None where it is none.
+
+    One that can't be opened now, since somebody dumps it say, is waited for: later it would be opened with its feed.
+    """
+    while True:
+        position = None
+        # (one of its own, so that nothing is known by it of what a killed one had stored)
+        other = Filter(child.words, child.kept_open, child.proto, child.mode)
+        try:
+            position = other.start(check)
+            other.finish()
+            while True:
+                check()
+                other.serve(STEP)
+        except FilterEnded as ended:
+            if position is not None or ended.is_rejection():
+                return position
+            log.warning(f"{ended}: the store is tried again in {counted(AGAIN, 'second')}")
+        finally:
+            other.kill()
+        until = time.monotonic() + AGAIN
+        while time.monotonic() < until:
+            check()
+            time.sleep(SLEEP)
+
+
+class Keeper(threading.Thread):
+    """Writes what is confirmed, looks after the readers, and removes old segments."""
+
+    def __init__(self, options: Options, folder: str, progress: Progress, reached: Callable[[], Reached]) -> None:
+        super().__init__(daemon=True)
+        self.folder, self.progress, self.reached, self.mode = folder, progress, reached, options.mode
+        self.limits = Limits(options.feed_max_bytes or None, options.feed_max_age)
+        self.ended = threading.Event()
+        # why what can't be done now can't be
+        self.causes = dict[str, str]()
+        # what was written last, and when; when the readers were looked at, and segments looked for
+        self.confirmed, self.written = -1, 0.0
+        self.looked = self.retired = 0.0
+
+    def run(self) -> None:
+        while not self.ended.wait(QUIET):
+            self.tend(time.monotonic())
+
+    def finish(self) -> None:
+        """Ends the thread, and notes what is there at the end."""
+        self.ended.set()
+        self.join()
+        self.written = self.looked = -BUSY
+        self.tend(time.monotonic())
+
+    def tend(self, now: float) -> None:
+        """Does what it is time for. First old segments go, since a disk that is full may have room by that."""
+        reached = self.reached()
+        if now - self.retired >= RETIRE:
+            self.retired = now
+            self.attempt(self.retire, reached)
+        if now - self.looked >= LOOK:
+            self.looked = now
+            self.attempt(self.look, reached)
+        wait = QUIET if reached.confirmed > reached.position else BUSY
+        if reached.confirmed != self.confirmed and now - self.written >= wait:
+            self.written = now
+            self.attempt(self.confirm, reached)
+
+    def attempt(self, step: Callable[[Reached], None], reached: Reached) -> None:
+        """Does one of these. What can't be done is told, once for each cause, and is tried again; the others are done."""
+        try:
+            step(reached)
+            self.causes.pop(step.__name__, None)
+        except (FileError, Passing, OSError) as error:
+            cause = str(error)
+            if cause not in self.causes.values():
+                log.warning(f"the feed can't be looked after: {cause}")
+            self.causes[step.__name__] = cause
+
+    def confirm(self, reached: Reached) -> None:
+        """Tells readers up to where the feed has all commits: the disk has these since before the filter said so."""
+        if self.confirmed < 0:
+            self.confirmed = read_confirmed(self.folder) or 0
+        if reached.confirmed != self.confirmed:
+            replace_file(os.path.join(self.folder, CONFIRMED), f"{lsn_text(reached.confirmed)}\n".encode(), self.mode)
+            self.confirmed = reached.confirmed
+
+    def look(self, reached: Reached) -> None:
+        """Shows how far behind each reader is, and how large the feed."""
+        self.progress.readers = read_readers(self.folder)
+        self.progress.feed_bytes = feed_bytes(self.folder)
+
+    def retire(self, reached: Reached) -> None:
+        gone = retire(self.folder, self.limits, reached.position, time.time())
+        if gone.segments:
+            log.info(f"removed {counted(gone.segments, 'segment')} of the feed {self.folder}")
+        for name in sorted(gone.readers):
+            log.warning(f"the reader {name} hadn't read all of that, and has to begin anew: the feed may have {self.limits.most_bytes} bytes")

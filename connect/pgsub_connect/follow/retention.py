@@ -1,0 +1,93 @@
+"""Which segments of a feed are kept: old ones go, by their size, by their age, or once all readers have them.
+
+A reader is known by its file `FOLDER/readers/NAME`. What it hasn't read stays, unless the feed would get larger than it may. The last
+segment stays, and whatever has the commit at the store's position or one above it, as opening the feed needs it.
+"""
+
+from __future__ import annotations
+
+import contextlib
+import dataclasses
+import os
+
+from ..errors import FileError
+from pgsub_feed.texts import parse_lsn
+from pgsub_feed.reader.positions import READERS
+from pgsub_feed.reader.segments import segments
+
+
+@dataclasses.dataclass(frozen=True)
+class Limits:
+    """How many bytes a feed may have, and how old a segment that nobody needs may get, in seconds since it was written last."""
+
+    most_bytes: int | None = None
+    oldest: float | None = None
+
+
+@dataclasses.dataclass(frozen=True)
+class Segment:
+    """A segment that is complete: where it ends, and its file."""
+
+    end: int
+    path: str
+    size: int
+    written: float
+
+
+@dataclasses.dataclass
+class Retired:
+    """What has gone: how many segments, and the readers that hadn't read them."""
+
+    segments: int = 0
+    readers: set[str] = dataclasses.field(default_factory=set)
+
+
+def read_readers(folder: str) -> dict[str, int]:
+    """The LSN of each reader, by name. What else may be there is passed over: folders, and what an NFS leaves of a file in use."""
+    path, found = os.path.join(folder, READERS), dict[str, int]()
+    with contextlib.suppress(FileNotFoundError), os.scandir(path) as there:
+        for it in there:
+            if not it.name.startswith(".") and not it.name.endswith(".new") and it.is_file():
+                found[it.name] = read_lsn(it.path)
+    return found
+
+
+def read_lsn(path: str) -> int:
+    try:
+        with open(path, encoding="ascii") as file:
+            return parse_lsn(file.read().strip())
+    except OSError as error:
+        raise FileError(f"{path}: {error.strerror}") from None
+    except ValueError as error:
+        raise FileError(f"{path}: {error}") from None
+
+
+def complete(folder: str) -> list[Segment]:
+    """The segments after which another one was begun, the oldest first."""
+    there, found = segments(folder), []
+    for (_, name), (end, _) in zip(there, there[1:]):
+        path = os.path.join(folder, name)
+        about = os.stat(path)
+        found.append(Segment(end, path, about.st_size, about.st_mtime))
+    return found
+
+
+def feed_bytes(folder: str) -> int:
+    """How many bytes the segments of a feed have."""
+    return sum(os.stat(os.path.join(folder, name)).st_size for _, name in segments(folder))
+
+
+def retire(folder: str, limits: Limits, position: int, now: float) -> Retired:
+    """Removes old segments: of those before the one that has the commit at the store's position."""
+    readers, total, retired = read_readers(folder), feed_bytes(folder), Retired()
+    for it in complete(folder):
+        behind = {name for name, lsn in readers.items() if lsn < it.end}
+        is_too_much = limits.most_bytes is not None and total > limits.most_bytes
+        is_done = not behind and (bool(readers) if limits.oldest is None else now - it.written > limits.oldest)
+        if it.end >= position or not (is_too_much or is_done):
+            break
+        os.unlink(it.path)
+        total -= it.size
+        retired.segments += 1
+        retired.readers |= behind
+    return retired

@@ -1,0 +1,136 @@
+"""Asks the server beside the session: where its log ends, how long the slot is safe, whether commits wait for the follower, and whether a
+standby was promoted."""
+
+from __future__ import annotations
+
+import threading
+import time
+from typing import TYPE_CHECKING
+
+from pgsub_feed import log
+from ..errors import ServerError, Stopped, Unfit, understood
+from ..server.connection import Connection, QUICK
+from ..status.progress import Progress
+from ..server.session import END, exact_end, postmaster_start, waits_for
+from pgsub_feed.texts import counted, literal, parse_lsn
+
+if TYPE_CHECKING:
+    from ..commands.options import Options
+
+# After how many seconds the server is asked again: where a file shows it or nothing of the session is read, and else, where only warnings
+# come of it.
+SHOWN, UNSHOWN = 2.0, 60.0
+# The first version that says of a slot how long it is safe.
+SAFETY = 130000
+# A slot is close to its end where less than a tenth of what it may keep is left, and isn't any more once a fifth is.
+CLOSE, FAR = 10, 5
+
+
+class SlotWarning:
+    """Warns before the slot is lost, once for each state that it comes into."""
+
+    def __init__(self, slot: str) -> None:
+        self.slot, self.state = slot, ""
+
+    def note(self, status: str, safe: int | None, most: int) -> None:
+        """`safe`: how many bytes of log may come before it is lost; `most`: how many it may keep, not above 0 where all."""
+        state = status if status in ("unreserved", "lost") else self.closeness(safe, most)
+        if state != self.state:
+            self.state = state
+            self.tell(safe or 0, most)
+
+    def closeness(self, safe: int | None, most: int) -> str:
+        if safe is None or most <= 0:
+            return ""
+        return "close" if safe < most // (FAR if self.state == "close" else CLOSE) else ""
+
+    def tell(self, safe: int, most: int) -> None:
+        slot = f"the slot {self.slot}"
+        if self.state == "close":
+            log.warning(f"{slot} is lost after {counted(safe, 'byte')} of log more (max_slot_wal_keep_size is {most}): following is too slow")
+        elif self.state == "unreserved":
+            log.warning(f"{slot} is lost at the server's next checkpoint, unless it is followed up to then (wal_status unreserved)")
+        elif self.state == "lost":
+            log.warning(f"{slot} is lost: the server has removed log that wasn't followed. Drop it and copy anew")
+        else:
+            log.info(f"{slot} is safe again")
+
+
+class Asker(threading.Thread):
+    """Asks, on a connection of its own. An answer may take as long as a connection is tried."""
+
+    connection: Connection | None
+
+    def __init__(self, options: Options, progress: Progress) -> None:
+        super().__init__(daemon=True)
+        self.options, self.progress = options, progress
+        self.is_shown = bool(options.status_file or options.metrics_file)
+        self.interval = SHOWN if self.is_shown else UNSHOWN
+        self.ended = threading.Event()
+        self.warning = SlotWarning(options.slot)
+        self.connection = None
+        self.most = self.started = 0
+
+    def run(self) -> None:
+        # (a session that was just begun has looked at all of it)
+        asked = time.monotonic()
+        while not self.ended.wait(min(self.interval, SHOWN)):
+            is_due = time.monotonic() - asked >= self.interval or self.progress.is_unread
+            if self.progress.sessions and is_due:
+                asked = time.monotonic()
+                self.ask()
+                if not self.is_shown:
+                    self.disconnect()
+        self.disconnect()
+
+    def finish(self) -> None:
+        self.ended.set()
+        self.join(1)
+
+    def check(self) -> None:
+        if self.ended.is_set():
+            raise Stopped
+
+    def ask(self) -> None:
+        """Asks once. What can't be asked now isn't told: the session says itself what is wrong."""
+        try:
+            self.note(self.connection or self.connect())
+        except (ServerError, Stopped, Unfit):
+            self.disconnect()
+
+    @understood("its settings")
+    def connect(self) -> Connection:
+        self.connection = Connection(self.options.dsn, name=f"{self.options.slot} status", quiet=True, check=self.check)
+        self.started = postmaster_start(self.connection)
+        text = self.connection.value(
+            "SELECT pg_catalog.pg_size_bytes(pg_catalog.current_setting('max_slot_wal_keep_size', true))", QUICK
+        )
+        self.most = int(text) if text else -1
+        return self.connection
+
+    def disconnect(self) -> None:
+        if self.connection:
+            self.connection.close()
+        self.connection = None
+
+    @understood("the slot")
+    def note(self, connection: Connection) -> None:
+        """Asks, and notes what the server says."""
+        progress, asked = self.progress, time.time()
+        columns = "s.wal_status, s.safe_wal_size" if connection.version() >= SAFETY else "NULL, NULL"
+        standby, end, flushed, segment, clock, standbys, there, status, safe = connection.rows(
+            f"SELECT pg_catalog.pg_is_in_recovery(), {END}, pg_catalog.date_part('epoch', pg_catalog.clock_timestamp()),"
+            f" pg_catalog.current_setting('synchronous_standby_names'), s.slot_name, {columns} FROM (SELECT 1) one"
+            f" LEFT JOIN pg_catalog.pg_replication_slots s ON s.slot_name = {literal(self.options.slot)}",
+            QUICK,
+        )[0]
+        at = exact_end(parse_lsn(end or "0/0"), parse_lsn(flushed or "0/0"), int(segment or 0))
+        progress.is_waited_for = waits_for(standbys or "", progress.name)
+        progress.lag.note_answer(asked, time.time(), float(clock) if clock else None, at)
+        if there:
+            progress.slot.wal_status = status or ""
+            progress.slot.safe_wal_size = int(safe) if safe else None
+            progress.slot.told = time.monotonic()
+            self.warning.note(progress.slot.wal_status, progress.slot.safe_wal_size, self.most)
+        if progress.is_standby and standby == "f" and self.started and self.started == progress.server_started:
+            progress.was_promoted = True

@@ -1,0 +1,159 @@
+"""The tables that `follow --tables` keeps: `pgsub-connect tables` as a process beside the follower, from whose feed it reads.
+
+It begins with a copy of the store, for which it asks the follower as any other program does. It is a reader of the feed with a name,
+so that the feed has what it lacks. It ends with the follower: a signal ends it, and where the follower is killed, the end of its input.
+"""
+
+from __future__ import annotations
+
+import contextlib
+import os
+import signal
+import sqlite3
+import subprocess
+import sys
+import threading
+import time
+from typing import TYPE_CHECKING
+
+from pgsub_feed import log
+from ..errors import FileError, Unfit
+from pgsub_feed.tables.set_aside import shown_asides
+from pgsub_feed.tables.first_rows import is_tables, opened
+from .retention import read_lsn
+from pgsub_feed.reader.positions import READERS
+from .filter import KEPT
+from ..status.progress import Progress
+
+if TYPE_CHECKING:
+    from ..commands.options import Options
+
+READER = "tables"
+# The statuses that another try doesn't mend; one that was killed by a signal has none above 0. And that of one that can't be started now.
+LASTING, PASSING = (1, 2, 3, 5, 6), 7
+# After how many seconds it is started again, at first and at most, and how long it has to run until that is forgotten.
+FIRST_DELAY, LONGEST_DELAY, FORGET = 1.0, 60.0, 60.0
+# How long it may take to end, in seconds: it ends between two transactions.
+PATIENCE = 60.0
+TOP = os.path.dirname(os.path.dirname(os.path.realpath(__file__)))
+# (the working directory, which is the first of its path, may have modules of others)
+CODE = f"import sys; sys.path[:] = [{TOP!r}, *filter(None, sys.path)]; from pgsub_connect.cli import run; run()"
+
+
+def check(options: Options) -> None:
+    """Rejects a file that can't be one of tables that follow this store's feed, before anything is made."""
+    path = options.tables
+    if not os.path.lexists(path):
+        if not os.path.isdir(os.path.dirname(os.path.abspath(path))):
+            raise FileError(f"--tables {path}: there is no folder {os.path.dirname(os.path.abspath(path))}")
+    elif not (os.path.isfile(path) and is_tables(path)):
+        raise FileError(f"{path} is there and has no tables that follow a feed: remove it, or name another file by --tables")
+    elif not os.path.exists(options.store):
+        raise Unfit(f"{path} has the tables of an older copy, and a new one begins: remove it, or name another file by --tables")
+
+
+def words_of(options: Options) -> list[str]:
+    """How it is started."""
+    words = [sys.executable, "-c", CODE, "tables", "--feed", options.feed, "--into", options.tables, "--store", options.store]
+    words += ["--reader", READER, "--mode", f"{options.mode:o}", "--while-input"]
+    words += ["--digests"] if options.digests else []
+    return words + (["--init", options.init] if options.init else [])
+
+
+class Beside(threading.Thread):
+    """Starts it, again and again where that may help, and tells how it ended."""
+
+    child: subprocess.Popen[bytes] | None
+
+    def __init__(self, options: Options, progress: Progress) -> None:
+        super().__init__(daemon=True)
+        self.path, self.progress, self.words = options.tables, progress, words_of(options)
+        self.reader = os.path.join(options.feed, READERS, READER)
+        self.child = None
+        self.lock, self.ended = threading.Lock(), threading.Event()
+        self.said = ""
+
+    def run(self) -> None:
+        delay = FIRST_DELAY
+        self.look()
+        while True:
+            began = time.monotonic()
+            status = self.run_once()
+            if self.ended.is_set():
+                return
+            if status in LASTING:
+                self.progress.tables_error = self.said or f"status {status}"
+                log.error(f"{self.path} follows no more, status {status}: {self.progress.tables_error}")
+                return
+            delay = FIRST_DELAY if time.monotonic() - began > FORGET else delay
+            log.warning(f"{self.path}: what follows has ended with status {status}: it is started again in {delay:.0f} s")
+            if self.ended.wait(delay):
+                return
+            delay = min(2 * delay, LONGEST_DELAY)
+
+    def run_once(self) -> int:
+        """Starts it, passes on what it says, and returns the status with which it ends."""
+        self.said = ""
+        with self.lock:
+            if self.ended.is_set():
+                return 0
+            environment = {name: value for name, value in os.environ.items() if name in KEPT or name.startswith("PYTHON")}
+            # (a session of its own: an interrupt at the terminal is for the follower, which ends it)
+            try:
+                child = subprocess.Popen(
+                    self.words, stdin=subprocess.PIPE, stdout=subprocess.DEVNULL, stderr=subprocess.PIPE, start_new_session=True, env=environment,
+                )
+            except OSError as error:
+                # (processes or memory may be too few)
+                log.warning(f"{self.path}: what follows can't be started now: {error.strerror}")
+                return PASSING
+            self.child = child
+        assert child.stderr and child.stdin
+        for line in child.stderr:
+            self.hear(line.decode(errors="replace").rstrip("\n"))
+        status = child.wait()
+        child.stdin.close()
+        child.stderr.close()
+        return status
+
+    def hear(self, line: str) -> None:
+        """Passes a line on, without its time and the name of this program."""
+        head, _, text = line.partition(f" {log.PROGRAM}: ")
+        level, _, rest = text.partition(": ")
+        if head and level in ("info", "warning", "error"):
+            log.line(level, f"tables: {rest}")
+        else:
+            log.info(f"tables: {line}")
+        if level == "error":
+            self.said = rest
+        self.look()
+
+    def look(self) -> None:
+        """Shows which tables are set aside. It says a line of each once the file has it."""
+        with contextlib.suppress(OSError, sqlite3.Error, ValueError):
+            if os.path.exists(self.path):
+                with contextlib.closing(opened(self.path)) as db:
+                    self.progress.tables_aside = {it.name(): it.text() for it in shown_asides(db).values()}
+
+    def has(self, lsn: int) -> bool:
+        """Whether the disk has the tables at this LSN, or they don't follow any more."""
+        if self.progress.tables_error or not self.is_alive():
+            return True
+        try:
+            # (before they are made its LSN is that of what they need)
+            return os.path.exists(self.path) and read_lsn(self.reader) >= lsn
+        except FileError:
+            return False
+
+    def finish(self) -> None:
+        """Ends it."""
+        self.ended.set()
+        with self.lock:
+            child = self.child
+        if child and child.poll() is None:
+            child.send_signal(signal.SIGTERM)
+        if self.is_alive():
+            self.join(PATIENCE)
+        if child and child.poll() is None:
+            log.warning(f"{self.path}: what follows doesn't end, and is killed")
+            child.kill()

@@ -1,0 +1,1 @@
+"""The server: connections, sessions, its catalog, publications and slots."""

@@ -1,0 +1,257 @@
+"""What a server says of all that following it needs. Nothing is changed there."""
+
+from __future__ import annotations
+
+import dataclasses
+import re
+
+from ..errors import ServerError, understood
+from .publication_setup import Wanted, has_publication, keyless_of, keyless_tables, kinds_left_out, members, publishable, tree_of
+from .connection import Check, Connection
+from pgsub_feed.texts import literal
+from .transport import Protection
+from .waits import prepared_texts
+
+SETTINGS = (
+    "wal_level", "max_replication_slots", "max_wal_senders", "max_slot_wal_keep_size", "idle_replication_slot_timeout",
+    "wal_sender_timeout", "max_locks_per_transaction", "max_connections", "max_prepared_transactions", "server_encoding",
+)
+RDS = "rds_replication"
+# A table's name in what CREATE PUBLICATION takes for one.
+NAME = re.compile(r'\s*(?:ONLY\s+)?((?:"(?:[^"]|"")+"|[\w$]+)(?:\s*\.\s*(?:"(?:[^"]|"")+"|[\w$]+))?)', re.I)
+
+
+@dataclasses.dataclass
+class Role:
+    """The role that is logged in."""
+
+    name: str = ""
+    is_superuser: bool = False
+    replicates: bool = False
+    creates: bool = False
+
+
+@dataclasses.dataclass
+class Slot:
+    """A slot of the wanted name. What the server's version doesn't have is empty."""
+
+    plugin: str = "pgoutput"
+    is_here: bool = True
+    is_active: bool = False
+    is_two_phase: bool = False
+    wal_status: str = ""
+    safe_wal_size: str = ""
+    is_failover: bool = False
+    why_invalid: str = ""
+
+
+@dataclasses.dataclass
+class TableFacts:
+    """A table that is published, or would be."""
+
+    name: str
+    reads: bool = True
+    reads_columns: bool = True
+    reaches_schema: bool = True
+    hides_rows: bool = False
+    owns: bool = True
+
+
+@dataclasses.dataclass
+class Publication:
+    """A publication, which is there or would be made."""
+
+    name: str
+    is_there: bool = True
+    leaves_out: list[str] = dataclasses.field(default_factory=list)
+    mixed: list[str] = dataclasses.field(default_factory=list)
+    keyless: list[str] = dataclasses.field(default_factory=list)
+
+
+@dataclasses.dataclass
+class Facts:
+    """All that is asked for."""
+
+    version: int = 150000
+    settings: dict[str, str] = dataclasses.field(default_factory=dict)
+    is_standby: bool = False
+    database: str = ""
+    protection: Protection = Protection()
+    slots: int = 0
+    senders: int = 0
+    role: Role = dataclasses.field(default_factory=Role)
+    slot: Slot | None = None
+    publications: list[Publication] = dataclasses.field(default_factory=list)
+    tables: list[TableFacts] = dataclasses.field(default_factory=list)
+    unknown: list[str] = dataclasses.field(default_factory=list)
+    relations: int = 0
+    prepared: list[str] = dataclasses.field(default_factory=list)
+    replication_error: str = ""
+    # whether a connection for replication was let in, and a role of the server's provider whose members are
+    has_replicated: bool = False
+    replicators: str = ""
+
+
+def true(text: str | None) -> bool:
+    return text == "t"
+
+
+@understood("its settings")
+def server_facts(connection: Connection, slot: str) -> Facts:
+    """What concerns the server, the role and the slot."""
+    names = ", ".join(literal(name) for name in SETTINGS)
+    settings = connection.rows(f"SELECT s.name, s.setting FROM pg_catalog.pg_settings s WHERE s.name IN ({names})")
+    standby, database, slots, senders = connection.rows(
+        "SELECT pg_catalog.pg_is_in_recovery(), pg_catalog.current_database(),"
+        " (SELECT pg_catalog.count(*) FROM pg_catalog.pg_replication_slots),"
+        " (SELECT pg_catalog.count(*) FROM pg_catalog.pg_stat_replication)"
+    )[0]
+    return Facts(
+        version=connection.version(),
+        settings={name or "": value or "" for name, value in settings},
+        is_standby=true(standby),
+        database=database or "",
+        protection=connection.protection,
+        slots=int(slots or 0),
+        senders=int(senders or 0),
+        role=role_facts(connection),
+        slot=slot_facts(connection, slot),
+    )
+
+
+@understood("the role")
+def role_facts(connection: Connection) -> Role:
+    name, superuser, replicates, creates = connection.rows(
+        "SELECT r.rolname, r.rolsuper, r.rolreplication,"
+        " pg_catalog.has_database_privilege(pg_catalog.current_database(), 'CREATE')"
+        " FROM pg_catalog.pg_roles r WHERE r.rolname = CURRENT_USER"
+    )[0]
+    return Role(name or "", true(superuser), true(replicates) or true(superuser), true(creates))
+
+
+def replicators(connection: Connection) -> str:
+    """The role whose members may replicate without the attribute, where the server is one of Amazon RDS."""
+    return connection.value(f"SELECT r.rolname FROM pg_catalog.pg_roles r WHERE r.rolname = {literal(RDS)}") or ""
+
+
+@understood("a slot")
+def slot_facts(connection: Connection, slot: str) -> Slot | None:
+    version = connection.version()
+    columns = [
+        name if version >= since else "NULL"
+        for name, since in (
+            ("s.two_phase", 140000), ("s.wal_status", 130000), ("s.safe_wal_size", 130000), ("s.failover", 170000),
+            ("s.invalidation_reason", 170000),
+        )
+    ]
+    rows = connection.rows(
+        f"SELECT s.plugin, s.database = pg_catalog.current_database(), s.active, {', '.join(columns)}"
+        f" FROM pg_catalog.pg_replication_slots s WHERE s.slot_name = {literal(slot)}"
+    )
+    if not rows:
+        return None
+    plugin, here, active, two_phase, status, size, failover, why = rows[0]
+    return Slot(
+        plugin or "none", true(here), true(active), true(two_phase), status or "", size or "", true(failover), why or ""
+    )
+
+
+@understood("the publications")
+def publication_facts(connection: Connection, facts: Facts, wanted: Wanted) -> None:
+    """What concerns the publications, and the tables that they have or would have."""
+    sources = []
+    for name in wanted.publications:
+        if has_publication(connection, name):
+            facts.publications.append(publication_there(connection, name))
+            sources.append(members(name))
+        else:
+            source, unknown = source_wanted(connection, wanted)
+            facts.unknown += unknown
+            keyless = keyless_of(connection, source) if source else {}
+            facts.publications.append(Publication(name, is_there=False, keyless=list(keyless.values())))
+            sources += [source] if source else []
+    source = " UNION ".join(sources) or "SELECT 0::pg_catalog.oid AS relid WHERE false"
+    facts.tables = tables_facts(connection, source)
+    trees = f"SELECT DISTINCT t.part FROM {tree_of(connection, source)} t"
+    # (a table, its indexes and what it keeps out of line are locked while it is read)
+    count = connection.value(
+        f"SELECT pg_catalog.count(*) + (SELECT pg_catalog.count(*) FROM pg_catalog.pg_index i WHERE i.indrelid IN ({trees}))"
+        f" FROM ({trees}) p"
+    )
+    facts.relations = int(count or 0)
+
+
+def publication_there(connection: Connection, name: str) -> Publication:
+    """A publication that is there: the kinds of changes that it leaves out, and tables without an identity for those that it has."""
+    left_out = kinds_left_out(connection, name)
+    keyless = {} if {"update", "delete"} <= set(left_out) else keyless_tables(connection, name)
+    return Publication(name, True, left_out, mixed_roots(connection, name), list(keyless.values()))
+
+
+def mixed_roots(connection: Connection, name: str) -> list[str]:
+    """Partitioned tables that are sent as such, with a partition of another kind of identity: its keys don't fit."""
+    if connection.version() < 130000:
+        return []
+    rows = connection.rows(
+        "SELECT DISTINCT n.nspname || '.' || c.relname"
+        f" FROM pg_catalog.pg_get_publication_tables({literal(name)}) p JOIN pg_catalog.pg_class c ON c.oid = p.relid"
+        " JOIN pg_catalog.pg_namespace n ON n.oid = c.relnamespace,"
+        " LATERAL pg_catalog.pg_partition_tree(c.oid) t JOIN pg_catalog.pg_class l ON l.oid = t.relid"
+        " WHERE c.relkind = 'p' AND l.relkind = 'r' AND l.relpersistence = 'p' AND l.relreplident <> c.relreplident ORDER BY 1"
+    )
+    return [row[0] or "" for row in rows]
+
+
+def source_wanted(connection: Connection, wanted: Wanted) -> tuple[str, list[str]]:
+    """A query for the tables that a new publication would have, and the names that aren't those of tables."""
+    if wanted.all_tables:
+        return (
+            "SELECT c.oid AS relid FROM pg_catalog.pg_class c JOIN pg_catalog.pg_namespace n ON n.oid = c.relnamespace"
+            " WHERE c.relkind = 'r' AND c.relpersistence = 'p' AND c.oid >= 16384"
+            " AND n.nspname NOT IN ('pg_catalog', 'pg_toast', 'information_schema')"
+        ), []
+    if not wanted.tables:
+        return publishable(connection.version()), []
+    oids, unknown = [], []
+    for text in wanted.tables:
+        # (more than a name stands there: columns, a filter)
+        found = NAME.match(text)
+        try:
+            oid = connection.value(f"SELECT pg_catalog.to_regclass({literal(found[1])})::pg_catalog.oid") if found else None
+        except ServerError:
+            oid = None
+        if oid is None:
+            unknown.append(text)
+        else:
+            oids.append(oid)
+    return " UNION ".join(f"SELECT {oid}::pg_catalog.oid AS relid" for oid in oids), unknown
+
+
+@understood("tables")
+def tables_facts(connection: Connection, source: str) -> list[TableFacts]:
+    rows = connection.rows(
+        "SELECT n.nspname || '.' || c.relname, pg_catalog.has_table_privilege(c.oid, 'SELECT'),"
+        " pg_catalog.has_any_column_privilege(c.oid, 'SELECT'), pg_catalog.has_schema_privilege(n.oid, 'USAGE'),"
+        " pg_catalog.row_security_active(c.oid), pg_catalog.pg_has_role(c.relowner, 'USAGE')"
+        f" FROM (SELECT DISTINCT s.relid FROM ({source}) s) d JOIN pg_catalog.pg_class c ON c.oid = d.relid"
+        " JOIN pg_catalog.pg_namespace n ON n.oid = c.relnamespace ORDER BY 1"
+    )
+    return [TableFacts(row[0] or "", *(true(it) for it in row[1:])) for row in rows]
+
+
+def all_facts(dsn: str, slot: str, wanted: Wanted, check: Check) -> Facts:
+    """Everything, by a plain connection, and whether one for replication can be made."""
+    connection = Connection(dsn, name=f"{slot} check", check=check)
+    try:
+        facts = server_facts(connection, slot)
+        publication_facts(connection, facts, wanted)
+        facts.prepared = prepared_texts(connection)
+        facts.replicators = "" if facts.role.replicates else replicators(connection)
+    finally:
+        connection.close()
+    try:
+        Connection(dsn, replication=True, name=f"{slot} check", check=check).close()
+        facts.has_replicated = True
+    except ServerError as error:
+        facts.replication_error = str(error)
+    return facts

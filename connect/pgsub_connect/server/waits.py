@@ -1,0 +1,101 @@
+"""Tells what a new slot or a lock waits for: the server makes a slot once all transactions have ended that ran when it was asked for."""
+
+from __future__ import annotations
+
+import time
+from collections.abc import Callable
+
+from pgsub_feed import log
+from ..errors import ServerError, understood
+from .connection import Check, Connection
+
+# After how many seconds it is told first, and again.
+FIRST, AGAIN = 10.0, 60.0
+MOST = 5
+SECONDS = "pg_catalog.date_part('epoch', pg_catalog.clock_timestamp() - {})::pg_catalog.int8"
+RUNNING = (
+    f"SELECT a.pid, a.usename, a.datname, {SECONDS.format('a.xact_start')} FROM pg_catalog.pg_stat_activity a"
+    " WHERE a.backend_xid IS NOT NULL AND a.pid <> pg_catalog.pg_backend_pid()"
+    f" ORDER BY pg_catalog.age(a.backend_xid) DESC LIMIT {MOST}"
+)
+PREPARED = (
+    f"SELECT p.gid, p.owner, p.database, {SECONDS.format('p.prepared')} FROM pg_catalog.pg_prepared_xacts p"
+    f" ORDER BY p.prepared LIMIT {MOST}"
+)
+
+
+def for_how_long(seconds: str | None) -> str:
+    return f" for {seconds} s" if seconds else ""
+
+
+@understood("transactions")
+def running_texts(connection: Connection) -> list[str]:
+    """The oldest transactions that write. When one of another role began, only a role may see that reads all statistics."""
+    rows = connection.rows(RUNNING)
+    return [
+        f"the transaction of process {pid} ({user}, database {database}){for_how_long(age)}" for pid, user, database, age in rows
+    ]
+
+
+@understood("transactions")
+def prepared_texts(connection: Connection) -> list[str]:
+    """The oldest prepared transactions, of any database."""
+    rows = connection.rows(PREPARED)
+    return [
+        f"the prepared transaction {gid} ({owner}, database {database}){for_how_long(age)}" for gid, owner, database, age in rows
+    ]
+
+
+def what_is_waited_for(connection: Connection) -> str:
+    if connection.value("SELECT pg_catalog.pg_is_in_recovery()") == "t":
+        return "a record of the running transactions: SELECT pg_log_standby_snapshot() at the primary writes one"
+    texts = running_texts(connection) + prepared_texts(connection)
+    return "; ".join(texts) if texts else "transactions that have ended by now"
+
+
+def slot_text(connection: Connection) -> str:
+    return f"the slot waits for {what_is_waited_for(connection)}"
+
+
+@understood("locks")
+def what_blocks(connection: Connection, pid: int) -> str:
+    """Who has the locks for which another process of the server waits; "" where it waits for none."""
+    rows = connection.rows(
+        f"SELECT a.pid, a.usename, a.datname, {SECONDS.format('a.xact_start')} FROM pg_catalog.pg_stat_activity a"
+        f" WHERE a.pid = ANY (pg_catalog.pg_blocking_pids({pid})) ORDER BY a.xact_start LIMIT {MOST}"
+    )
+    return "; ".join(f"process {other} ({user}, database {database}){for_how_long(age)}" for other, user, database, age in rows)
+
+
+def lock_text(what: str, pid: int) -> Callable[[Connection], str]:
+    """What says for whose locks a process of the server waits, which is at work on this."""
+
+    def text(connection: Connection) -> str:
+        others = what_blocks(connection, pid)
+        return f"{what} waits for the locks of {others}" if others else ""
+
+    return text
+
+
+class Waiting:
+    """Is asked each half second while something is waited for. `text` says what that is, "" where nothing is to be said."""
+
+    def __init__(self, dsn: str, slot: str, check_stop: Check, text: Callable[[Connection], str] = slot_text) -> None:
+        self.dsn, self.slot, self.check_stop, self.text = dsn, slot, check_stop, text
+        self.next = time.monotonic() + FIRST
+
+    def check(self) -> None:
+        self.check_stop()
+        if time.monotonic() < self.next:
+            return
+        self.next = time.monotonic() + AGAIN
+        try:
+            connection = Connection(self.dsn, name=f"{self.slot} status", quiet=True, check=self.check_stop)
+            try:
+                text = self.text(connection)
+            finally:
+                connection.close()
+        except ServerError as error:
+            text = f"what is waited for can't be told: {error}"
+        if text:
+            log.info(text)

@@ -1,0 +1,1 @@
+"""How a follower goes: its progress, and the files and metrics that show it."""

@@ -1,0 +1,111 @@
+"""The files of `--status-file` and `--metrics-file`, which are replaced each second."""
+
+from __future__ import annotations
+
+import contextlib
+import json
+import os
+import subprocess
+import threading
+import time
+from typing import TYPE_CHECKING
+
+from pgsub_feed import log
+from .metrics import metrics_text
+from .progress import Progress
+from ..store.snapshot import NEW
+
+if TYPE_CHECKING:
+    from ..commands.options import Options
+
+INTERVAL = 1.0
+# over how many intervals the rate is taken
+RATE = 5
+# After how many seconds in which a file was written all the time the same cause is told again.
+FORGET = 60.0
+
+
+class Reporter(threading.Thread):
+    """Writes the files. It only shows what others say: of the main loop it shows when that was alive last."""
+
+    def __init__(self, options: Options, progress: Progress) -> None:
+        super().__init__(daemon=True)
+        self.options, self.progress = options, progress
+        self.status = Replaced(options.status_file, options.mode) if options.status_file else None
+        self.metrics = Replaced(options.metrics_file, options.mode) if options.metrics_file else None
+        self.ended = threading.Event()
+        self.rates = [(time.monotonic(), 0)]
+
+    def run(self) -> None:
+        self.progress.program = program_version(self.options.pgsub)
+        while not self.ended.is_set():
+            self.write()
+            self.ended.wait(INTERVAL)
+
+    def finish(self) -> None:
+        """Ends the thread, and shows what is there at the end."""
+        self.ended.set()
+        self.join(5)
+        self.write()
+
+    def rate(self) -> float:
+        """Changes and copied rows a second."""
+        self.rates = [*self.rates[-RATE:], (time.monotonic(), self.progress.passed_changes + self.progress.copied_rows)]
+        (began, before), (now, after) = self.rates[0], self.rates[-1]
+        return max(after - before, 0) / (now - began) if now > began else 0.0
+
+    def write(self) -> None:
+        now = time.time()
+        if self.status:
+            self.status.write(json.dumps(self.progress.shown(self.rate(), now)) + "\n")
+        if self.metrics:
+            self.metrics.write(metrics_text(self.progress, now, {"slot": self.options.slot, "store": self.options.store}))
+
+
+def program_version(program: str) -> str:
+    """What the program `pgsub` says of itself, "" where it doesn't."""
+    with contextlib.suppress(OSError, subprocess.SubprocessError):
+        done = subprocess.run([program, "--version"], stdin=subprocess.DEVNULL, capture_output=True, check=True, timeout=5)
+        return done.stdout.decode(errors="replace").partition("\n")[0].strip()
+    return ""
+
+
+class Replaced:
+    """A file that is replaced again and again. Why it can't be written is told once, and again where it is for another cause."""
+
+    def __init__(self, path: str, mode: int) -> None:
+        self.path, self.mode = path, mode
+        self.cause: str | None = None
+        self.failed = 0.0
+
+    def write(self, text: str) -> None:
+        now = time.monotonic()
+        try:
+            replace(self.path, text, self.mode)
+            if now - self.failed > FORGET:
+                self.cause = None
+        except OSError as error:
+            cause, self.failed = error.strerror or type(error).__name__, now
+            if cause != self.cause:
+                log.warning(f"{self.path} can't be written: {cause}")
+            self.cause = cause
+
+
+def replace(path: str, text: str, mode: int) -> None:
+    """Puts a file with this text and mode in the place of one that is there. Who reads it finds one of both as a whole."""
+    new = path + NEW
+    with contextlib.suppress(FileNotFoundError):
+        os.unlink(new)
+    number = os.open(new, os.O_WRONLY | os.O_CREAT | os.O_EXCL | os.O_CLOEXEC, mode)
+    try:
+        # (a path may be no UTF-8)
+        with open(number, "w", encoding="utf-8", errors="replace") as file:
+            # (whatever the umask leaves of it; some file systems have no modes)
+            with contextlib.suppress(PermissionError):
+                os.fchmod(number, mode)
+            file.write(text)
+        os.replace(new, path)
+    except OSError:
+        with contextlib.suppress(OSError):
+            os.unlink(new)
+        raise

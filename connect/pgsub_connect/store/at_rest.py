@@ -1,0 +1,277 @@
+"""A store's file at rest, for whoever reads it: where the store is followed, a copy that its follower is asked for."""
+
+from __future__ import annotations
+
+import contextlib
+import errno
+import fcntl
+import json
+import os
+import re
+import sqlite3
+import struct
+import time
+from collections.abc import Iterator
+from typing import Any
+
+from pgsub_feed import log
+from .checkpoint import has_name
+from ..errors import FileError, Passing
+from pgsub_feed.json_texts import Unreadable, object_of, parsed, read_plain
+from pgsub_feed.ownership import give, real
+from ..server.connection import Check
+from .snapshot import LOG, NEW, OF_FILE, copy, fold, part_of, remove
+
+# Where SQLite, and so the program, locks a file: the bytes of its readers.
+SHARED_FIRST, SHARED_SIZE = 0x40000002, 510
+# How long a follower may take until it begins to copy, in seconds, and how often it is looked after.
+PATIENCE = 300.0
+LOOK = 0.1
+# What SQLite says of a disk that is full.
+FULL = "is full"
+# After how many seconds a file that a killed process has left is removed.
+STALE = 3600.0
+# What a file that a process makes for itself has in its name behind another one's: its id, as nobody else names files. Beside it there
+# may be such a file again, the parts of a request, and what SQLite makes.
+OWN = r"\.pgsub-([0-9]+)(?:(?:\.copied)?\.pgsub-[0-9]+)?(?:\.pgsub-new|\.request|\.changes)?(?:-wal|-shm|-journal)?"
+
+
+@contextlib.contextmanager
+def at_rest(store: str, beside: str, check: Check) -> Iterator[tuple[str, bool]]:
+    """Gives a file with the rows of a store that nobody writes meanwhile, and whether it is a copy, which goes afterwards.
+
+    The follower of a running store makes the copy in the store's folder. Where none runs, the store's own file is held; only one
+    whose log isn't empty is copied, to a name beside `beside`.
+    """
+    check_there(store)
+    with contextlib.ExitStack() as stack:
+        while (file := locked_checkpoint(store)) is None:
+            copied = ask(store, check)
+            if copied is not None:
+                stack.callback(remove_files, copied)
+                yield copied, True
+                return
+        stack.callback(os.close, file)
+        stack.callback(os.close, hold(store))
+        if not has_log(store):
+            yield store, False
+            return
+        copied = own_name(beside + ".copied")
+        stack.callback(remove_files, copied)
+        try:
+            for suffix in (LOG, ""):
+                copy(real(store) + suffix, copied + suffix, 0o600, check)
+        except OSError as error:
+            # (a write that fails names no file)
+            error.filename = error.filename or beside
+            raise
+        try:
+            fold(copied)
+        except sqlite3.Error as error:
+            raise failed(error, store) from None
+        yield copied, True
+
+
+def failed(error: sqlite3.Error, told: str) -> FileError | Passing:
+    """What ends it where SQLite can't read or write files, which are told: a disk that is full may have room later."""
+    text = f"{told}: {error}"
+    return Passing(text) if FULL in str(error) else FileError(text)
+
+
+def check_there(store: str) -> None:
+    if os.path.isfile(store):
+        return
+    if os.path.exists(store):
+        raise FileError(f"{store}: not a file")
+    if os.path.exists(part_of(store)):
+        raise Passing(f"there is no store {store} yet: its first rows are being copied, or their copy was interrupted")
+    raise FileError(f"there is no store {store}")
+
+
+def has_log(store: str) -> bool:
+    """Whether a killed program has left rows that aren't in the file yet. (The log is beside the file, whatever links to that.)"""
+    try:
+        return os.stat(real(store) + LOG).st_size > 0
+    except FileNotFoundError:
+        return False
+
+
+def locked_checkpoint(store: str) -> int | None:
+    """An open file that keeps connectors from starting on this store. None where one is at work, or its filter."""
+    path = store + ".connector"
+    try:
+        file = os.open(path, os.O_RDONLY | os.O_NONBLOCK | os.O_CLOEXEC)
+    except FileNotFoundError:
+        # (nobody has followed into it: a snapshot, or what was made of a recording)
+        return os.open(os.devnull, os.O_RDONLY | os.O_CLOEXEC)
+    except OSError as error:
+        if error.errno == errno.EACCES and os.stat(path).st_uid != os.geteuid():
+            # (of another account, whose files may be read: the lock of the store's own file is what is left)
+            return os.open(os.devnull, os.O_RDONLY | os.O_CLOEXEC)
+        raise FileError(f"{path}: {error.strerror}") from None
+    try:
+        fcntl.flock(file, fcntl.LOCK_EX | fcntl.LOCK_NB)
+    except BlockingIOError:
+        os.close(file)
+        return None
+    if not has_name(file, path):
+        # (removed meanwhile, and perhaps made anew)
+        os.close(file)
+        return locked_checkpoint(store)
+    return file
+
+
+def hold(store: str) -> int:
+    """Opens a store's file and locks it as a reader, so that no `pgsub` opens it. Raises where one has it open.
+
+    The lock is one of the open file: SQLite in this process may open and close the same file.
+    """
+    try:
+        file = os.open(store, os.O_RDONLY | os.O_CLOEXEC)
+    except OSError as error:
+        raise FileError(f"{store}: {error.strerror}") from None
+    try:
+        fcntl.fcntl(file, fcntl.F_OFD_SETLK, struct.pack("hhqqi4x", fcntl.F_RDLCK, os.SEEK_SET, SHARED_FIRST, SHARED_SIZE, 0))
+    except OSError as error:
+        os.close(file)
+        if error.errno in (errno.EAGAIN, errno.EACCES):
+            raise Passing(f"{store}: another program has it open") from None
+        # (a file system without locks)
+        raise FileError(f"{store}: {error.strerror}") from None
+    return file
+
+
+def ask(store: str, check: Check) -> str | None:
+    """Asks the follower for a copy by the request file, and waits for it. Returns None where the follower has ended."""
+    request, into = store + ".request", os.path.abspath(own_name(store + ".export"))
+    try:
+        file = put_request(store, request, into, check)
+        if file is None:
+            return None
+        os.close(file)
+        log.info(f"{store} is being followed: its follower is asked for a copy")
+        return into if wait_for_copy(store, request, into, check) else None
+    except BaseException:
+        if read_request(request).get("into") == into:
+            remove(request)
+        remove_files(into)
+        raise
+
+
+def put_request(store: str, request: str, into: str, check: Check, **more: object) -> int | None:
+    """Makes the request's file, after those of others. Returns it, open and locked; None where the follower has ended meanwhile."""
+    written = into + ".request"
+    remove(written)
+    file = os.open(written, os.O_WRONLY | os.O_CREAT | os.O_EXCL | os.O_CLOEXEC, 0o600)
+    try:
+        fcntl.flock(file, fcntl.LOCK_EX)
+        os.write(file, json.dumps({"into": into, **more}).encode())
+        if os.geteuid() == 0:
+            # (so that a follower of another account may answer)
+            give(file, os.stat(real(store)))
+        if link_request(store, written, request, check):
+            return os.dup(file)
+        return None
+    finally:
+        os.close(file)
+        remove(written)
+
+
+def link_request(store: str, written: str, request: str, check: Check) -> bool:
+    """Gives a file the request's name, after those of others. Returns false where the follower has ended meanwhile."""
+    until = time.monotonic() + PATIENCE
+    while is_followed(store):
+        with contextlib.suppress(FileExistsError):
+            os.link(written, request)
+            return True
+        if "error" in read_request(request):
+            # (whoever asked has gone)
+            remove(request)
+            continue
+        if time.monotonic() > until:
+            raise Passing(f"{request}: another request waits for the follower since {PATIENCE:.0f} seconds")
+        check()
+        time.sleep(LOOK)
+    return False
+
+
+def wait_for_copy(store: str, request: str, into: str, check: Check) -> bool:
+    """Waits for a follower's answer. Returns false where it has ended without one."""
+    until = time.monotonic() + PATIENCE
+    while True:
+        found = read_request(request)
+        # (an empty one is being written)
+        if not os.path.exists(request) or found.get("into", into) != into:
+            if os.path.exists(into):
+                check_copied(into)
+                return True
+            raise Passing(f"{request}: the request is gone, and the copy isn't there")
+        if "error" in found:
+            raise Passing(f"{store}: its follower couldn't copy it: {found['error']}")
+        if "copied" in found:
+            # (the stream stays held)
+            check_copied(into)
+            return True
+        if not is_followed(store):
+            remove(request)
+            remove_files(into)
+            return False
+        if time.monotonic() > until and not os.path.exists(into + NEW):
+            raise Passing(f"{store}: its follower hasn't begun to copy it in {PATIENCE:.0f} seconds")
+        check()
+        time.sleep(LOOK)
+
+
+def check_copied(into: str) -> None:
+    """Rejects what isn't the follower's copy, but a link to some other file."""
+    if os.path.islink(into):
+        raise FileError(f"{into}: a link in the place of a copy: the store's folder has to be its account's alone")
+
+
+def is_followed(store: str) -> bool:
+    file = locked_checkpoint(store)
+    if file is not None:
+        os.close(file)
+    return file is None
+
+
+def read_request(path: str) -> dict[str, Any]:
+    """A request's fields; none where there is no request, or one that is being written."""
+    try:
+        return object_of(parsed(read_plain(path, follows=False)))
+    except (OSError, Unreadable):
+        return {}
+
+
+def own_files(path: str) -> re.Pattern[str]:
+    """The names of the files that processes make for themselves beside this one, and of what is made beside those; the first group has
+    the process's id."""
+    return re.compile(re.escape(os.path.basename(path)) + OWN)
+
+
+def own_name(path: str) -> str:
+    """A name for a file of this process alone. What killed processes have left under such a name goes."""
+    pattern = own_files(path)
+    for entry in os.scandir(os.path.dirname(os.path.abspath(path))):
+        found = pattern.fullmatch(entry.name)
+        # (a number may be none of a process)
+        with contextlib.suppress(OSError, OverflowError):
+            if found and not is_alive(int(found[1])) and time.time() - entry.stat().st_mtime > STALE:
+                os.unlink(entry.path)
+    return f"{path}.pgsub-{os.getpid()}"
+
+
+def is_alive(process: int) -> bool:
+    try:
+        os.kill(process, 0)
+    except ProcessLookupError:
+        return False
+    except OSError:
+        pass
+    return True
+
+
+def remove_files(path: str) -> None:
+    """Removes a file with what SQLite may have made beside it."""
+    for suffix in OF_FILE:
+        remove(path + suffix)

@@ -1,0 +1,177 @@
+"""The lines of the checkpoint `STORE.connector`.
+
+It has two of the same kind, each with room for the longest names and all findings, and written in
+turns: as long as one isn't whole the other one counts. A line is one object of JSON:
+
+| Field | Means |
+|---|---|
+| `version` | 2 |
+| `crc32` | the checksum of the version and of what follows in the line, as eight digits |
+| `number` | the line with the higher one was written last |
+| `known` | what is known of the store |
+| `counted` | of changes that found no row, null where none are counted yet |
+
+A text ends with a line feed and blanks fill the rest, which nobody reads: so one that is shorter
+than a sector of the disk is there or not, as the disk finishes each sector it begins.
+
+Version 1 had `known` and `counted` as lines of 512 bytes, without a checksum. It is read, and its
+lines stay until a line of this version, which is written behind them, is on the disk.
+"""
+
+from __future__ import annotations
+
+import dataclasses
+import json
+import os
+import re
+import zlib
+from typing import Any, NamedTuple
+
+from ..errors import FileError
+from pgsub_feed.json_texts import Unreadable, flag_of, list_of, lsn_of, object_of, oid_of, parsed, text_of, whole_of
+
+VERSION, SIZE, OLD_SIZE = 2, 4096, 512
+TEXT = json.JSONEncoder(separators=(",", ":"))
+LINE = re.compile(rb'\{"version":([0-9]{1,9}),"crc32":"([0-9a-f]{8})",(.*)', re.DOTALL)
+NEW, COPYING, SLOT, COPIED, FOLLOWING = "new", "copying", "slot", "copied", "following"
+PHASES = (NEW, COPYING, SLOT, COPIED, FOLLOWING)
+
+
+@dataclasses.dataclass
+class Known:
+    """What is known of the store."""
+
+    phase: str = NEW
+    system: str = ""
+    database: str = ""
+    slot: str = ""
+    timeline: int = 0
+    started: int = 0
+    confirmed: int = 0
+    position: int = 0
+    found: dict[str, str] = dataclasses.field(default_factory=dict)
+    skipped: str = ""
+    adding: dict[str, int] = dataclasses.field(default_factory=dict)
+    encrypted: bool = False
+
+
+@dataclasses.dataclass(frozen=True)
+class Counted:
+    """What is known of changes that found no row."""
+
+    since: int
+    upto: int
+    count: int = 0
+    first: int = 0
+    relation: int = 0
+    gap: tuple[int, int] | None = None
+
+
+TEXTS = [it for it in dataclasses.fields(Known) if isinstance(it.default, str)]
+NUMBERS = [it for it in dataclasses.fields(Known) if type(it.default) is int]
+
+
+class Line(NamedTuple):
+    """A line. `at`: which of the two places has it, or the older form of both."""
+
+    number: int
+    known: Known
+    counted: Counted | None
+    at: int
+
+
+def line_of(number: int, known: str, counted: Counted | None) -> bytes:
+    """A line, of which `known` is spelled already. Its length is what has to fit."""
+    told = TEXT.encode(vars(counted)) if counted else "null"
+    rest = f'"number":{number},"known":{known},"counted":{told}}}\n'.encode()
+    return b'{"version":%d,"crc32":"%08x",%b' % (VERSION, checksum(VERSION, rest), rest)
+
+
+def checksum(version: int, rest: bytes) -> int:
+    return zlib.crc32(rest, version)
+
+
+def padded(line: bytes) -> bytes:
+    return line.ljust(SIZE - 1) + b"\n"
+
+
+def read_lines(content: bytes, path: str) -> Line:
+    """The line that counts of a file's content. An empty file knows nothing yet."""
+    try:
+        found = [
+            it for at in (0, 1) if (it := read_line(content[at * SIZE : (at + 1) * SIZE], at, path))
+        ]
+        if found:
+            return max(found, key=lambda it: it.number)
+        if not content.strip(b"\0 \n"):
+            return Line(0, Known(), None, 1)
+        return read_old(content)
+    except Unreadable:
+        raise FileError(
+            f"{path}: not a checkpoint of this program, or a spoiled one: put back a backup of all"
+            " files of the store, or remove them to copy anew"
+        ) from None
+
+
+def read_line(content: bytes, at: int, path: str) -> Line | None:
+    """The line in one of the places; None where none is whole."""
+    found = LINE.match(content[: content.find(b"\n") + 1])
+    if not found or checksum(version := int(found[1]), found[3]) != int(found[2], 16):
+        return None
+    if version != VERSION:
+        raise FileError(f"{path}: of another version of this program ({version}): install that one")
+    said = object_of(parsed(b"{" + found[3]))
+    counted = None if said.get("counted") is None else counted_of(said["counted"])
+    return Line(whole_of(said.get("number")), known_of(said.get("known")), counted, at)
+
+
+def read_old(content: bytes) -> Line:
+    """Both lines of version 1; of a still earlier one there is the first alone."""
+    first, second = (content[at : at + OLD_SIZE].strip() for at in (0, OLD_SIZE))
+    return Line(
+        0, known_of(parsed(first)), counted_of(parsed(second)) if second.strip(b"\0") else None, 0
+    )
+
+
+def known_of(said: Any) -> Known:
+    """What a line says of the store. What an earlier version didn't know is as in a new one."""
+    fields = object_of(said)
+    check_names(fields, Known)
+    texts = {it.name: text_of(fields.get(it.name, it.default)) for it in TEXTS}
+    numbers = {it.name: whole_of(fields.get(it.name, 0)) for it in NUMBERS}
+    found = {kind: text_of(lsn) for kind, lsn in object_of(fields.get("found", {})).items()}
+    adding = {
+        str(oid_of(oid)): whole_of(lsn) for oid, lsn in object_of(fields.get("adding", {})).items()
+    }
+    known = Known(found=found, adding=adding, encrypted=flag_of(fields.get("encrypted", False)))
+    known = dataclasses.replace(known, **texts, **numbers)
+    if known.phase not in PHASES:
+        raise Unreadable(f"no phase {known.phase}")
+    for lsn in (*known.found.values(), known.skipped or "0/0"):
+        lsn_of(lsn)
+    return known
+
+
+def counted_of(said: Any) -> Counted:
+    fields = object_of(said)
+    check_names(fields, Counted)
+    if not {"since", "upto"} <= fields.keys():
+        raise Unreadable("fields are missing")
+    numbers = {name: whole_of(it) for name, it in fields.items() if name != "gap"}
+    gap = None if fields.get("gap") is None else [whole_of(it) for it in list_of(fields["gap"])]
+    if gap is not None and len(gap) != 2:
+        raise Unreadable("a gap has two positions")
+    return dataclasses.replace(Counted(0, 0), **numbers, gap=gap and (gap[0], gap[1]))
+
+
+def check_names(fields: dict[str, Any], kind: type) -> None:
+    if more := fields.keys() - {it.name for it in dataclasses.fields(kind)}:
+        raise Unreadable(f"what is {min(more)}")
+
+
+def read_file(file: int, path: str) -> Line:
+    """The line that counts of an open file."""
+    try:
+        return read_lines(os.pread(file, 2 * SIZE, 0), path)
+    except OSError as error:
+        raise FileError(f"{path}: {error.strerror}") from None

@@ -1,0 +1,288 @@
+"""`pgsub-connect export`: ordinary tables of SQLite from the rows of a store, as of its position.
+
+| Table | Has |
+|---|---|
+| `pgsub_position` | `lsn`, the store's position |
+| `pgsub_tables` | by `name`, that of a table here: `schema`, `table` and `oid` of the publisher's |
+| any other | the rows of one of the publisher's tables |
+"""
+
+from __future__ import annotations
+
+import contextlib
+import dataclasses
+import itertools
+import sqlite3
+from collections.abc import Callable, Collection, Iterable, Iterator, Mapping, Sequence
+from typing import TYPE_CHECKING
+
+from pgsub_feed import log
+from ..server.catalog import Column, Shape
+from ..errors import FileError, Passing, Stopped, Unfit
+from pgsub_feed.tables.names import OLD, POSITION, TABLES, name_columns, name_tables, names_of
+from .placing import check_into, placed
+from ..server.connection import Check
+from .primary_key import primary_key
+from ..drift.remembered import Relation, Remembered
+from .at_rest import at_rest, failed
+from .file import APPLICATION, check_store, choose, is_export, opened, read_position, read_relations
+from pgsub_feed.texts import counted, identifier, lsn_text
+from pgsub_feed.tables.values import Malformed, Read, Unlike, Value, kind_of, read_row
+
+if TYPE_CHECKING:
+    from ..commands.options import Options
+
+# The first version of SQLite with STRICT tables and columns of type ANY.
+OLDEST = (3, 37, 0)
+# How much of the rows waits for being written, in bytes.
+ROOM = 1 << 20
+# What a row takes beside its bytes.
+ROW = 200
+# How many copies of a row are written, and how many steps SQLite makes, until it is asked whether to end.
+LOT, STEPS = 10000, 1_000_000
+# The column of a table that has none, since SQLite has no such tables.
+NONE = Column("pgsub_none", 25, -1, False)
+
+
+# A value as it is bound.
+Bound = Value | str
+
+
+def with_columns(relation: Relation) -> Relation:
+    """A relation as SQLite can have it: null in one column where the publisher's has none."""
+    if relation.shape.columns:
+        return relation
+    return dataclasses.replace(relation, shape=Shape(relation.shape.identity, (NONE,)))
+
+
+class Target:
+    """A table of the export. `primary`: the columns of its primary key, where its replica identity
+    is another."""
+
+    def __init__(
+        self, name: str, relation: Relation, is_text: bool, primary: Collection[str] = ()
+    ) -> None:
+        self.name, self.relation = name, relation
+        columns = relation.shape.columns
+        self.kinds: list[tuple[str, Read, Read]] = [kind_of(it, is_text) for it in columns]
+        self.columns = [identifier(it) for it in name_columns(it.name for it in columns)]
+        is_keyed = relation.shape.identity in ("d", "i")
+        told = primary or [it.name for it in columns if it.key and is_keyed]
+        self.key = [at for at, it in enumerate(columns) if it.name in told]
+        # whether the key is one of SQLite's
+        self.is_keyed = bool(self.key)
+        self.waiting: list[tuple[list[Bound], int]] = []
+        self.rows = 0
+
+    def text(self) -> str:
+        return self.relation.text()
+
+    def keys(self) -> str:
+        return ", ".join(self.columns[at] for at in self.key)
+
+    def definition(self) -> str:
+        parts = [f"{column} {kind}" for column, (kind, _, _) in zip(self.columns, self.kinds, strict=True)]
+        parts += [f"PRIMARY KEY ({self.keys()})"] if self.is_keyed else []
+        return f"CREATE TABLE {identifier(self.name)} ({', '.join(parts)}) STRICT"
+
+    def insertion(self) -> str:
+        # (a text comes as its bytes)
+        values = (f"CAST(?{at} AS TEXT)" if kind == "TEXT" else f"?{at}" for at, (kind, _, _) in enumerate(self.kinds, 1))
+        return f"INSERT INTO {identifier(self.name)} VALUES ({', '.join(values)})"
+
+    def row(self, values: list[Value]) -> list[Bound]:
+        """A row's values as SQLite takes them: what is no number in a column of floats is a text."""
+        kinds = self.kinds
+        return [it.decode() if isinstance(it, bytes) and kinds[at][0] == "ANY" else it for at, it in enumerate(values)]
+
+    def has_null_key(self, values: list[Bound]) -> bool:
+        return self.is_keyed and any(values[at] is None for at in self.key)
+
+
+class Export:
+    """Fills a new file, in one transaction and constant memory: nothing was there that would be kept for going back."""
+
+    def __init__(self, store: sqlite3.Connection, into: sqlite3.Connection, is_text: bool, check: Check, names: Sequence[str]) -> None:
+        self.store, self.into, self.is_text, self.check, self.names = store, into, is_text, check, names
+        self.waiting = 0
+
+    def run(self, remembered: Remembered) -> tuple[int, int, int]:
+        """Writes it all. Returns the position, how many tables there are, and how many rows."""
+        position = read_position(self.store)
+        stored = read_relations(self.store)
+        relations = named(choose(stored, remembered, position), self.names)
+        tables = remembered.catalog.tables if remembered.catalog else {}
+        keys = {it.oid: primary_key(tables.get(it.oid), it) for it in relations}
+        self.begin(position, relations, keys)
+        self.copy_rows(stored)
+        self.into.execute("COMMIT")
+        return position, len(self.targets), sum(it.rows for it in self.targets.values())
+
+    def begin(
+        self, position: int, relations: list[Relation], keys: Mapping[int, Collection[str]]
+    ) -> None:
+        """Makes the tables, with these primary keys by their OIDs."""
+        into = self.into
+        for pragma in ("journal_mode = MEMORY", "synchronous = OFF", "cache_size = -8000", f"application_id = {APPLICATION}"):
+            into.execute(f"PRAGMA {pragma}")
+        into.execute("BEGIN")
+        into.execute(f"CREATE TABLE {POSITION} (lsn TEXT NOT NULL) STRICT")
+        into.execute(f"INSERT INTO {POSITION} VALUES (?)", (lsn_text(position),))
+        into.execute(
+            f'CREATE TABLE {TABLES} (name TEXT PRIMARY KEY, schema TEXT NOT NULL, "table" TEXT NOT NULL, oid INTEGER NOT NULL) STRICT'
+        )
+        names = name_tables((it.oid, it.namespace, it.name) for it in relations)
+        self.targets = {
+            it.oid: Target(names[it.oid], with_columns(it), self.is_text, keys[it.oid])
+            for it in relations
+        }
+        for target in self.targets.values():
+            relation = target.relation
+            named = (target.name, relation.namespace, relation.name, relation.oid)
+            into.execute(f"INSERT INTO {TABLES} VALUES (?, ?, ?, ?)", named)
+            into.execute(target.definition())
+
+    def copy_rows(self, stored: dict[int, Relation]) -> None:
+        """Copies all rows, in the order in which the store's file has them."""
+        for oid, body, copies in self.store.execute("SELECT oid, body, copies FROM held NOT INDEXED"):
+            target = self.targets.get(oid)
+            if target is None:
+                if oid not in stored:
+                    raise Malformed
+                # (of an older table whose name another one has, or one that wasn't chosen)
+                continue
+            target.waiting.append((self.values(target, body), copies))
+            self.waiting += len(body) + ROW
+            if self.waiting > ROOM:
+                self.write()
+        self.write()
+        for target in self.targets.values():
+            if target.key and not target.is_keyed:
+                index = identifier(key_index(target.relation.oid))
+                self.into.execute(f"CREATE INDEX {index} ON {identifier(target.name)} ({target.keys()})")
+
+    def values(self, target: Target, body: bytes) -> list[Bound]:
+        if NONE in target.relation.shape.columns:
+            return [None]
+        try:
+            return target.row(read_row(body, target.kinds))
+        except Unlike as unlike:
+            raise Unfit(f"{unlike_text(target.relation, unlike)}. Copy anew, or export each value as a text by --text") from None
+
+    def write(self) -> None:
+        """Writes the rows that wait."""
+        self.check()
+        self.waiting = 0
+        for target in self.targets.values():
+            if target.waiting:
+                self.write_table(target)
+
+    def write_table(self, target: Target) -> None:
+        waiting, target.waiting = target.waiting, []
+        if any(target.has_null_key(values) for values, _ in waiting):
+            self.loosen(target)
+        before = self.into.total_changes
+        try:
+            self.into.executemany(target.insertion(), repeated(waiting, self.check))
+        except sqlite3.IntegrityError:
+            done = self.into.total_changes - before
+            self.loosen(target)
+            self.into.executemany(target.insertion(), itertools.islice(repeated(waiting, self.check), done, None))
+        target.rows += sum(copies for _, copies in waiting)
+
+    def loosen(self, target: Target) -> None:
+        """Makes a table anew whose key can't be a primary key: a row has null there, or two have equal values."""
+        log.warning(f"{target.text()}: rows have null in the key, or equal keys: the table has an index in place of a primary key")
+        target.is_keyed = False
+        self.into.execute(f"ALTER TABLE {identifier(target.name)} RENAME TO {OLD}")
+        self.into.execute(target.definition())
+        self.into.execute(f"INSERT INTO {identifier(target.name)} SELECT * FROM {OLD} ORDER BY rowid")
+        self.into.execute(f"DROP TABLE {OLD}")
+
+
+def named(relations: list[Relation], names: Sequence[str]) -> list[Relation]:
+    """Those with these names; all where there are none."""
+    known = {name: it for it in relations for name in names_of(it.namespace, it.name)}
+    if unknown := [it for it in names if it not in known]:
+        raise FileError(f"the store has no table {unknown[0]}")
+    return [it for it in relations if not names or names_of(it.namespace, it.name) & set(names)]
+
+
+def unlike_text(relation: Relation, unlike: Unlike) -> str:
+    return f"{relation.text()}: {unlike_reason(relation, unlike)}"
+
+
+def unlike_reason(relation: Relation, unlike: Unlike) -> str:
+    column = relation.shape.columns[unlike.index].name
+    shown = unlike.value[:100].decode(errors="backslashreplace")
+    return (
+        f"the column {column} has a value that isn't one of its type, {shown!r}: the type was altered,"
+        " and the server doesn't send what it made of the rows"
+    )
+
+
+def key_index(oid: int) -> str:
+    """The name of the index on the key of a table whose key can't be a primary key."""
+    return f"key of table {oid}"
+
+
+def repeated(rows: Iterable[tuple[list[Bound], int]], check: Check) -> Iterator[list[Bound]]:
+    """Each row as often as it is there."""
+    return itertools.chain.from_iterable(
+        itertools.repeat(values, count) for values, copies in rows for count in lots(copies, check)
+    )
+
+
+def lots(copies: int, check: Check) -> Iterator[int]:
+    """Parts of a number, of which each is soon written."""
+    while copies > LOT:
+        check()
+        yield LOT
+        copies -= LOT
+    yield copies
+
+
+def stop(check: Check) -> Callable[[], int]:
+    """What SQLite asks in the midst of a statement: whether that is to end."""
+
+    def ask() -> int:
+        try:
+            check()
+        except Stopped:
+            return 1
+        return 0
+
+    return ask
+
+
+def run(options: Options, check: Check) -> int:
+    """Exports a store, or a copy of one; the exit status."""
+    if sqlite3.sqlite_version_info < OLDEST:
+        wanted = ".".join(map(str, OLDEST[:2]))
+        raise FileError(f"SQLite {wanted} or later is needed for STRICT tables, and this is {sqlite3.sqlite_version}")
+    check_into(options.store, options.into, is_export, "an export")
+    try:
+        with at_rest(options.store, options.into, check) as (path, _), placed(options.into, options.mode) as new:
+            check_store(path, options.store)
+            done = export(path, new, options, check)
+    except Stopped:
+        raise Passing(f"ended before {options.into} was complete") from None
+    position, tables, rows = done
+    log.info(f"{options.into}: {counted(tables, 'table')}, {counted(rows, 'row')} at {lsn_text(position)}")
+    return 0
+
+
+def export(path: str, new: str, options: Options, check: Check) -> tuple[int, int, int]:
+    """Exports a file at rest into a new one. What is remembered of the publications lies beside the store."""
+    remembered = Remembered(options.store)
+    try:
+        with contextlib.closing(opened(path)) as store, contextlib.closing(sqlite3.connect(new, isolation_level=None)) as into:
+            for db in (store, into):
+                db.set_progress_handler(stop(check), STEPS)
+            return Export(store, into, options.text, check, options.table).run(remembered)
+    except Malformed:
+        raise FileError(f"{options.store}: a malformed row or definition: the disk, or another program, has spoiled the file") from None
+    except sqlite3.Error as error:
+        # (the end may have been asked for)
+        check()
+        raise failed(error, f"{options.store}, {options.into}") from None

@@ -1,0 +1,108 @@
+"""What a store's file holds: position, definitions and rows. docs/ARCHITECTURE.md describes the file."""
+
+from __future__ import annotations
+
+import contextlib
+import dataclasses
+import os
+import sqlite3
+import urllib.parse
+
+from pgsub_feed import log
+from ..server.catalog import Shape
+from ..errors import FileError
+from ..drift.remembered import Relation, Remembered
+from pgsub_feed.tables.values import Malformed, read_columns
+
+STORED = {"rel", "held", "pos"}
+# What tells an export from other files: the application of its head, `pgse`.
+MAGIC, APPLICATION, APPLICATION_AT = b"SQLite format 3\0", 0x70677365, 68
+
+
+def read_position(store: sqlite3.Connection) -> int:
+    row = store.execute("SELECT lsn FROM pos").fetchone()
+    if row is None or not isinstance(row[0], bytes) or len(row[0]) != 8:
+        raise Malformed
+    return int.from_bytes(row[0], "big")
+
+
+def read_relations(store: sqlite3.Connection) -> dict[int, Relation]:
+    """The definitions of the store, by OID. An empty namespace is pg_catalog, as in the protocol."""
+    found = {}
+    for oid, namespace, name, letter, columns in store.execute("SELECT oid, nsp, name, letter, cols FROM rel"):
+        found[oid] = Relation(oid, namespace or "pg_catalog", name, Shape(chr(letter), read_columns(columns)))
+    return found
+
+
+Named = dict[tuple[str, str], list[Relation]]
+
+
+def named_at(stored: dict[int, Relation], remembered: Remembered, position: int) -> Named:
+    """By their names at a position the tables of the store, and the published ones that have no rows.
+
+    What the server has changed after the position isn't looked at.
+    """
+    since = {name.oid: (key, name.since) for key, name in remembered.names.items() if name.oid is not None}
+    named: Named = {}
+    for relation in stored.values():
+        held = since.get(relation.oid)
+        if held and held[1] <= position:
+            relation = dataclasses.replace(relation, namespace=held[0][0], name=held[0][1])
+        named.setdefault((relation.namespace, relation.name), []).append(relation)
+    for table in remembered.catalog.tables.values() if remembered.catalog else ():
+        key, lsn = since.get(table.oid, ((table.namespace, table.name), 0))
+        if table.oid not in stored and (lsn <= position or key not in named):
+            named.setdefault(key, []).append(Relation(table.oid, *key, table.shape))
+    return named
+
+
+def choose(stored: dict[int, Relation], remembered: Remembered, position: int) -> list[Relation]:
+    """The tables of an export: of those that have had one name, the one that has it at the position."""
+    chosen = []
+    for key, relations in sorted(named_at(stored, remembered, position).items()):
+        name = remembered.names.get(key)
+        last = last_of(relations, name.oid if name and name.since <= position else None)
+        older = ", ".join(str(it.oid) for it in relations if it is not last and it.oid in stored)
+        if older:
+            log.warning(f"{last.text()}: another table had this name before, {older}: its rows are left out")
+        chosen.append(last)
+    return chosen
+
+
+def last_of(relations: list[Relation], current: int | None) -> Relation:
+    """Of tables that have had one name, that which has it; where that isn't known, the one with the greatest OID."""
+    return max(relations, key=lambda it: (it.oid == current, it.oid))
+
+
+def opened(path: str) -> sqlite3.Connection:
+    """Opens a file at rest, without locks or anything made beside it."""
+    name = f"file:{urllib.parse.quote(os.fsencode(os.path.abspath(path)))}?mode=ro&immutable=1"
+    store = sqlite3.connect(name, uri=True, isolation_level=None)
+    store.text_factory = lambda it: it.decode(errors="backslashreplace")
+    return store
+
+
+def tables_in(path: str) -> set[str]:
+    """The names of a database's tables; none where it is no database."""
+    try:
+        with contextlib.closing(opened(path)) as store:
+            return {row[0] for row in store.execute("SELECT name FROM sqlite_master WHERE type = 'table'")}
+    except sqlite3.Error:
+        return set()
+
+
+def is_store(path: str) -> bool:
+    """Whether a file has the tables of a store."""
+    return tables_in(path) == STORED
+
+
+def is_export(path: str) -> bool:
+    with open(path, "rb") as file:
+        head = file.read(100)
+    return head.startswith(MAGIC) and int.from_bytes(head[APPLICATION_AT : APPLICATION_AT + 4], "big") == APPLICATION
+
+
+def check_store(path: str, told: str) -> None:
+    """Rejects a file that isn't a store's."""
+    if not is_store(path):
+        raise FileError(f"{told}: it is an export, and no store" if is_export(path) else f"{told}: it isn't a store of pgsub")

@@ -1,0 +1,101 @@
+"""Files that appear as a whole: each is written beside its place, and renamed once the disk has it."""
+
+from __future__ import annotations
+
+import contextlib
+import os
+from collections.abc import Callable, Iterator, Sequence
+
+from ..errors import FileError, UsageError
+from pgsub_feed.ownership import real
+from .at_rest import own_name, remove_files
+from .snapshot import COPYING, NEW, OF_FILE, meant, remove, sync_folder
+
+# What follows a store's name in those of an initial copy's files.
+OF_COPY = (*(COPYING + it for it in OF_FILE), COPYING + NEW)
+# What follows it in those of all its own files, the checkpoint last: as long as it is there, a start tells what is missing.
+OF_STORE = (*OF_COPY, NEW, *OF_FILE[1:], "", ".request", ".tables.new", ".tables", ".connector")
+Identity = str | tuple[int, int]
+
+
+def identities(*paths: str) -> set[Identity]:
+    """What the names of one file have in common: the path without links, or the inode."""
+    found: set[Identity] = {os.path.realpath(path) for path in paths}
+    for path in paths:
+        with contextlib.suppress(OSError):
+            about = os.stat(path)
+            found.add((about.st_dev, about.st_ino))
+    return found
+
+
+def is_of_store(store: str, path: str) -> bool:
+    """Whether a path is one of a store's own files: the connector's are beside the name that it was given, the program's beside what that
+    links to."""
+    names = (store, os.path.realpath(store))
+    return not identities(path).isdisjoint(identities(*(name + it for name in names for it in OF_STORE)))
+
+
+def check_apart(store: str, written: Sequence[tuple[str, str]], read: Sequence[tuple[str, str]]) -> None:
+    """Rejects files to write that are a store's own, or that are named for something else too. Each is an option with its path."""
+    for at, (option, path) in enumerate(written):
+        if store and is_of_store(store, path):
+            raise UsageError(f"{option} {path}: that is a file of the store itself")
+        files = identities(*(path + it for it in OF_FILE))
+        for other, its in (*written[at + 1 :], *read):
+            if not files.isdisjoint(identities(*(its + it for it in OF_FILE))):
+                raise UsageError(f"{option} {path} and {other} {its}: each needs a file of its own")
+
+
+def check_meant(store: str) -> None:
+    """Rejects a link as a store's name where it leads to no place for a file."""
+    path = meant(store)
+    folder = os.path.dirname(path)
+    if os.path.islink(path):
+        raise FileError(f"--store {store}: the link leads to itself")
+    if path != store and not os.path.isdir(folder):
+        raise FileError(f"--store {store} leads to {path}: there is no folder {folder}")
+
+
+def check_into(store: str, into: str, is_earlier: Callable[[str], bool], what: str, option: str = "--into") -> None:
+    """Rejects a file to write that is there and isn't an earlier one, or is one of the store's files. An option names it."""
+    check_apart(store, [(option, into)], [])
+    folder = os.path.dirname(real(into))
+    if not os.path.isdir(folder):
+        raise FileError(f"{option} {into}: there is no folder {folder}")
+    if not os.path.lexists(meant(into)):
+        return
+    try:
+        is_good = os.path.isfile(into) and is_earlier(into)
+    except OSError as error:
+        raise FileError(f"{into}: {error.strerror}") from None
+    if not is_good:
+        raise FileError(f"{option} {into} is there and isn't {what}: remove it, or name another file")
+
+
+@contextlib.contextmanager
+def placed(into: str, mode: int) -> Iterator[str]:
+    """Gives the name of a new empty file, which gets the name `into` and the mode at the end. A link stays, and leads to it. An error leaves
+    nothing of it."""
+    into = meant(into)
+    new = own_name(into)
+    try:
+        remove_files(new)
+        os.close(os.open(new, os.O_WRONLY | os.O_CREAT | os.O_EXCL | os.O_CLOEXEC, 0o600))
+        yield new
+        file = os.open(new, os.O_RDONLY | os.O_NOFOLLOW | os.O_CLOEXEC)
+        try:
+            os.fchmod(file, mode)
+            os.fsync(file)
+        finally:
+            os.close(file)
+        for suffix in OF_FILE[1:]:
+            remove(into + suffix)
+        os.replace(new, into)
+        sync_folder(into)
+    except OSError as error:
+        remove_files(new)
+        error.filename = error.filename or into
+        raise
+    except BaseException:
+        remove_files(new)
+        raise

@@ -1,0 +1,179 @@
+"""The two sides of a comparison, both as of one LSN: the tables of a server, and those of a copy of the store.
+
+Their rows are summed up by chunks, as the module `digests` says, and read in the order of their keys' bytes.
+"""
+
+from __future__ import annotations
+
+import collections
+import itertools
+from collections.abc import Iterable, Iterator
+from typing import Protocol
+
+from .digests import Plan, Queries, Summing, Sums, chunks_for, fields_in, fields_of, text_of
+from ..errors import Unfit, understood
+from .meeting_point import Source
+from ..copy.messages import unescaped
+from ..server.connection import Check
+from ..server.publications import Table, estimated_rows
+from ..drift.remembered import Relation
+from ..store.file import check_store, opened, read_position, read_relations
+from pgsub_feed.texts import lsn_text
+
+# How many bytes of rows are read at a time, and after how many rows it is looked whether the end was asked for.
+BLOCK, ROWS = 1 << 17, 1000
+# A query names no more chunks than these: of more of them it reads all rows.
+NAMED = 1 << 10
+
+# Rows of a key, each with how often it is there.
+Group = collections.Counter[bytes]
+# A row's key and text, and how often it is there.
+Row = tuple[bytes, bytes, int]
+# A key, and the rows of it that the server has, and the copy.
+Difference = tuple[bytes, Group, Group]
+
+
+class Copied(Protocol):
+    """A copy as of the LSN. `counts`: about how many rows each table has, by OID."""
+
+    counts: dict[int, int]
+
+    def columns(self, table: Table) -> list[str]:
+        """The names of a table's columns here; those of the server where nothing of it ever came."""
+
+    def relation(self, oid: int) -> Relation | None:
+        """A table's definition here, None where nothing of it ever came."""
+
+    def left(self, tables: Iterable[Table]) -> list[Relation]:
+        """The tables that have rows here and aren't among these."""
+
+    def sums(self, plans: Iterable[Plan]) -> dict[int, Sums]:
+        """Those of each table."""
+
+    def rows(self, plan: Plan, chunks: list[int]) -> Iterator[Row]:
+        """The rows of some chunks, in the order of their keys."""
+
+
+class Copy:
+    """The copy as of the LSN: a store's file."""
+
+    def __init__(self, path: str, told: str, point: int, check: Check) -> None:
+        self.check = check
+        check_store(path, told)
+        self.base = opened(path)
+        self.position = read_position(self.base)
+        if self.position > point:
+            raise Unfit(f"the copy is at {lsn_text(self.position)}, and this server's slot at {lsn_text(point)}: is it a standby behind?")
+        self.relations = read_relations(self.base)
+        self.counts: dict[int, int] = dict(self.base.execute("SELECT oid, count(*) FROM held GROUP BY oid"))
+
+    def columns(self, table: Table) -> list[str]:
+        """The names of a table's columns here; those of the server where nothing of it ever came."""
+        relation = self.relations.get(table.oid)
+        return [it.name for it in relation.shape.columns] if relation else [it.name for it in table.columns]
+
+    def relation(self, oid: int) -> Relation | None:
+        return self.relations.get(oid)
+
+    def left(self, tables: Iterable[Table]) -> list[Relation]:
+        """The tables that have rows here and aren't among these."""
+        known = {it.oid for it in tables}
+        return [it for oid, it in self.relations.items() if oid not in known and oid in self.counts]
+
+    def sums(self, plans: Iterable[Plan]) -> dict[int, Sums]:
+        """Those of each table, by one pass over the file."""
+        found = {it.table.oid: Summing(it) for it in plans}
+        rows = self.base.execute("SELECT oid, body, copies FROM held NOT INDEXED")
+        while several := rows.fetchmany(ROWS):
+            self.check()
+            for oid, body, copies in several:
+                if summing := found.get(oid):
+                    summing.add(body, copies)
+        return {oid: it.sums for oid, it in found.items()}
+
+    def rows(self, plan: Plan, chunks: list[int]) -> Iterator[Row]:
+        """The rows of some chunks, in the order of their keys."""
+        wanted, width = set(chunks), plan.width
+
+        def text(body: bytes) -> bytes:
+            return text_of(fields_of(body, width))
+
+        def key(text: bytes) -> bytes | None:
+            """A row's key, None where its chunk isn't wanted."""
+            found = plan.key_text(fields_in(text), text) if plan.key else text
+            return found if plan.chunk_of(found) in wanted else None
+
+        self.base.create_function("row_text", 1, text, deterministic=True)
+        self.base.create_function("row_key", 1, key, deterministic=True)
+        inner = "SELECT row_text(body) AS text, copies FROM held WHERE oid = ?"
+        yield from self.base.execute(
+            f"SELECT * FROM (SELECT row_key(text) AS key, text, copies FROM ({inner})) WHERE key IS NOT NULL ORDER BY key, text",
+            (plan.table.oid,),
+        )
+
+    def close(self) -> None:
+        self.base.close()
+
+
+def grouped(rows: Iterable[Row]) -> Iterator[tuple[bytes, Group]]:
+    """Rows in the order of their keys, those of each key together."""
+    for key, several in itertools.groupby(rows, lambda it: it[0]):
+        group = Group()
+        for _, text, copies in several:
+            group[text] += copies
+        yield key, group
+
+
+def differing(server: Iterable[Row], copy: Iterable[Row]) -> Iterator[Difference]:
+    """The keys whose rows differ. Both sides come in order."""
+    there, here = grouped(server), grouped(copy)
+    one, two = next(there, None), next(here, None)
+    while one or two:
+        key = min(it[0] for it in (one, two) if it)
+        theirs, ours = one[1] if one and one[0] == key else Group(), two[1] if two and two[0] == key else Group()
+        if theirs != ours:
+            yield key, theirs, ours
+        one, two = next(there, None) if one and one[0] == key else one, next(here, None) if two and two[0] == key else two
+
+
+class Sides:
+    """A server and a copy of it. `names`: what the sides are called where rows are shown; `more`: how many equal rows one has more of;
+    `places`: where the rows of each are."""
+
+    names, more, places = ("server", "copy"), ("more_on_server", "more_in_copy"), ("on the server", "in the copy")
+
+    def __init__(self, source: Source, copy: Copied) -> None:
+        self.source, self.copy = source, copy
+
+    def has_columns(self, table: Table) -> bool:
+        """Whether a table has the same columns on both sides."""
+        return [it.name for it in table.columns] == self.copy.columns(table)
+
+    def plan(self, table: Table) -> Plan:
+        """How a table is digested, by about how many rows it has."""
+        return Plan(table, chunks_for(max(self.copy.counts.get(table.oid, 0), estimated_rows(self.source.plain, [table]) or 0)))
+
+    def sums(self, plan: Plan) -> Sums:
+        """Those of the server."""
+        sums = Sums(plan.chunks)
+        with understood("the sums of a table"):
+            for row in self.source.plain.rows(Queries(plan, self.source.encoding).sums()):
+                chunk, rows, first, second = (int(it or 0) for it in row)
+                sums.set(chunk, rows, first, second)
+        return sums
+
+    def differing(self, plan: Plan, chunks: list[int]) -> Iterator[Difference]:
+        """The keys in some chunks whose rows differ."""
+        return differing(self.rows(plan, chunks), self.copy.rows(plan, chunks))
+
+    def rows(self, plan: Plan, chunks: list[int]) -> Iterator[Row]:
+        """The server's rows in some chunks, in the order of their keys."""
+        wanted = set(chunks)
+        query = Queries(plan, self.source.encoding).texts(chunks if len(chunks) <= NAMED else [])
+        with understood(f"the rows of {plan.table.text()}"):
+            for lines in self.source.plain.copied_blocks(query, BLOCK):
+                for line in lines:
+                    text = line[:-1] if b"\\" not in line else unescaped(line[:-1])
+                    key = plan.key_text(fields_in(text), text) if plan.key else text
+                    if len(wanted) <= NAMED or plan.chunk_of(key) in wanted:
+                        yield key, text, 1

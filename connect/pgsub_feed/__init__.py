@@ -1,0 +1,1 @@
+"""Reads a feed of commits, and what follows one: `reader`, `tables`, `formats`, `undo`, `sinks`."""

@@ -1,0 +1,37 @@
+"""What is wrong with a feed that can't be read."""
+
+from __future__ import annotations
+
+from pgsub_connect.errors import FileError
+
+NAMES = {
+    1: "NotAFeed",
+    2: "OtherFeed",
+    3: "CommitLine",
+    4: "Order",
+    5: "Line",
+    6: "Counts",
+    7: "Undescribed",
+    8: "Width",
+}
+NOT_A_FEED, OTHER_FEED, COMMIT_LINE, ORDER, LINE, COUNTS, UNDESCRIBED, WIDTH = NAMES
+
+
+class Damaged(FileError):
+    """A feed has lines that aren't those of a feed.
+
+    | Number | Means |
+    |---|---|
+    | 1 | the head of a segment isn't one, or one of another version |
+    | 2 | a segment is of another server, database or slot than the one before it, or has the name of another base |
+    | 3 | a commit's line isn't one |
+    | 4 | a commit doesn't go on where the one before it ends |
+    | 5 | the line of a definition or of a change isn't one |
+    | 6 | a commit has other bytes or another number of changes than its line says |
+    | 7 | a change is of a relation that its commit doesn't describe |
+    | 8 | a row has another number of cells than its relation has columns |
+    """
+
+    def __init__(self, number: int, path: str, offset: int, what: str) -> None:
+        super().__init__(f"{path}, byte {offset}: reading {number} {NAMES[number]}: {what}")
+        self.number, self.path, self.offset = number, path, offset

@@ -1,0 +1,1 @@
+"""A feed's commits as text: lines for people, envelopes for programs, bulk requests."""

@@ -1,0 +1,71 @@
+"""What tables and rows are called outside of SQL: a name without dots of its own, and the values of a key as one text.
+
+| Text | Is |
+|---|---|
+| `stock` | the table `stock` of the schema `public` |
+| `sales.orders` | the table `orders` of the schema `sales` |
+| `A-1` | the row with this key |
+| `1:2` | that with a key of two columns |
+
+In a name `%`, `:` and `.` are written as `%25`, `%3A` and `%2E`, in a value `%` and `:` so; null is `%null`, and a binary value `%x` with
+its digits. So no two have one text.
+"""
+
+from __future__ import annotations
+
+import string
+from collections.abc import Sequence
+
+from pgsub_connect.drift.remembered import Relation
+from ..reader.commits import Cell
+
+NULL = "%null"
+VALUE = str.maketrans({"%": "%25", ":": "%3A"})
+NAME = str.maketrans({"%": "%25", ":": "%3A", ".": "%2E"})
+# What stays as it is in a name of an index, and in a token of a subject.
+OF_INDEX = frozenset((string.ascii_lowercase + string.digits + "_-").encode())
+OF_TOKEN = frozenset(range(0x21, 0x7F)) - frozenset(b"%.*>")
+
+
+def key_of(relation: Relation) -> list[int]:
+    """The numbers of the columns by which rows are found; none where there is no key."""
+    columns = relation.shape.columns
+    return [at for at, it in enumerate(columns) if it.key] if relation.shape.identity in ("d", "i") else []
+
+
+def full(schema: str) -> str:
+    return schema or "pg_catalog"
+
+
+def table_text(schema: str, table: str) -> str:
+    """A table's name: its own in `public`, and else with the schema."""
+    name = table.translate(NAME)
+    return name if schema == "public" else f"{full(schema).translate(NAME)}.{name}"
+
+
+def value_text(cell: Cell) -> str:
+    if cell is None:
+        return NULL
+    return "%x" + cell.hex() if isinstance(cell, bytes) else cell.translate(VALUE)
+
+
+def row_text(key: Sequence[int], cells: Sequence[Cell]) -> str:
+    """A row's key."""
+    return ":".join([value_text(cells[at]) for at in key])
+
+
+def escaped(text: str, kept: frozenset[int], digits: str = "%{:02X}") -> str:
+    return "".join(chr(it) if it in kept else digits.format(it) for it in text.encode())
+
+
+def index_text(schema: str, table: str) -> str:
+    """A table's name as that of an index, which has no capitals, and doesn't begin with any sign."""
+    name = escaped(table, OF_INDEX, "%{:02x}")
+    if schema != "public":
+        name = escaped(full(schema), OF_INDEX, "%{:02x}") + "." + name
+    return f"%{ord(name[0]):02x}{name[1:]}" if name[0] in "_-" else name
+
+
+def subject(stream: str, schema: str, table: str) -> str:
+    """The subject of a table's messages."""
+    return f"{stream}.{escaped(full(schema), OF_TOKEN)}.{escaped(table, OF_TOKEN)}"

@@ -1,0 +1,154 @@
+"""A feed's commits as `pgsub-feed` prints them.
+
+| Format | Prints |
+|---|---|
+| `lines` | the feed's own lines |
+| `objects` | an object for each change, its rows by the names of the columns |
+| `debezium` | the envelope of Debezium's connectors for each change |
+
+Values are typed as in the tables that follow a feed, by the OID of the type: numbers where JSON has them, `bool` as true and false, and
+all else as the server prints it; in `debezium` the bytes of `bytea` are in base64.
+"""
+
+from __future__ import annotations
+
+import base64
+import json
+import re
+from collections.abc import Callable, Iterable, Iterator
+from typing import Any
+
+from .. import log
+from pgsub_connect.errors import Unfit
+from pgsub_connect.drift.remembered import Relation
+from ..tables.values import BOOL, BYTEA
+from ..tables.table import Valued
+from ..reader.commits import Cell, Change, Commit, Head, Missed, TableLine, UNSENT, Unsent
+from ..reader.segments import Reader
+
+Row = dict[str, Any] | None
+
+
+# Those that JSON leaves as they are, and terminals take for commands.
+CONTROLS = re.compile("[\x7f-\x9f]")
+
+
+def compact(value: object) -> bytes:
+    text = json.dumps(value, ensure_ascii=False, separators=(",", ":"))
+    return CONTROLS.sub(lambda it: f"\\u{ord(it[0]):04x}", text).encode() + b"\n"
+
+
+class Objects:
+    """Rows as objects."""
+
+    def __init__(self, is_chosen: Callable[[Relation], bool], of_bytes: Callable[[bytes], str]) -> None:
+        self.is_chosen, self.of_bytes = is_chosen, of_bytes
+        self.known: dict[int, Valued] = {}
+
+    def valued(self, relation: Relation) -> Valued:
+        found = self.known.get(relation.oid)
+        if found is None or found.relation != relation:
+            found = self.known[relation.oid] = Valued(relation.name, relation)
+        return found
+
+    def row(self, relation: Relation, cells: Iterable[Cell | Unsent] | None) -> Row:
+        """A row by the names of its columns, without cells that weren't sent."""
+        if cells is None:
+            return None
+        valued = self.valued(relation)
+        named = zip(relation.shape.columns, cells, strict=True)
+        return {it.name: self.value(valued, at, cell) for at, (it, cell) in enumerate(named) if not isinstance(cell, Unsent)}
+
+    def value(self, valued: Valued, at: int, cell: Cell) -> object:
+        kind = valued.relation.shape.columns[at].type_oid
+        try:
+            value = valued.value(at, cell)
+        except Unfit:
+            # (the type was altered, and the row is from before)
+            return self.of_bytes(cell) if isinstance(cell, bytes) else cell
+        if isinstance(value, bytes):
+            return self.of_bytes(value) if kind == BYTEA else value.decode(errors="backslashreplace")
+        return bool(value) if kind == BOOL and value is not None else value
+
+    def changes(self, reader: Reader, commit: Commit) -> Iterator[Change | Missed]:
+        """The changes of a commit to the tables that were chosen."""
+        chosen = dict[int, bool]()
+        for part in reader.parts(commit):
+            if isinstance(part, TableLine):
+                chosen[part.relation.oid] = self.is_chosen(part.relation)
+            elif chosen[part.relation.oid]:
+                yield part
+
+
+class Lines:
+    """The feed's own lines, whole commits."""
+
+    def print(self, reader: Reader, commit: Commit) -> Iterator[bytes]:
+        yield reader.own_line(commit)
+        for lines in reader.raw(commit):
+            yield from (line + b"\n" for line in lines)
+
+
+class ByName(Objects):
+    """An object for each change, its `id` made of the commit's LSN and the number of the change in it."""
+
+    def __init__(self, is_chosen: Callable[[Relation], bool]) -> None:
+        super().__init__(is_chosen, lambda it: "\\x" + it.hex())
+
+    def print(self, reader: Reader, commit: Commit) -> Iterator[bytes]:
+        for it in self.changes(reader, commit):
+            relation = it.relation
+            told: dict[str, object] = {
+                "id": f"{commit.text()}:{it.n}", "xid": commit.xid, "ts_us": commit.ts_us,
+                "op": it.op if isinstance(it, Change) else "x", "schema": relation.namespace, "table": relation.name,
+            }
+            if isinstance(it, Change):
+                told |= {"before": self.row(relation, it.before), "after": self.row(relation, it.after)}
+            else:
+                told |= {"sent": it.sent, "old": self.row(relation, old_cells(it)), "new": self.row(relation, it.new)}
+            yield compact(told)
+
+
+def old_cells(it: Missed) -> list[Cell | Unsent] | None:
+    """The old tuple of a change that found no row; of a key, the columns that aren't in it weren't sent."""
+    if it.old is None or it.kind != "K":
+        return it.old
+    return [cell if column.key else UNSENT for column, cell in zip(it.relation.shape.columns, it.old, strict=True)]
+
+
+class Debezium(Objects):
+    """The envelope of Debezium's connectors. A change that found no row has none, and is left out."""
+
+    def __init__(self, is_chosen: Callable[[Relation], bool]) -> None:
+        super().__init__(is_chosen, lambda it: base64.b64encode(it).decode())
+        self.is_told = False
+
+    def print(self, reader: Reader, commit: Commit) -> Iterator[bytes]:
+        head = reader.head
+        assert head
+        for it in self.changes(reader, commit):
+            if isinstance(it, Change):
+                yield compact(self.envelope(head, commit, it))
+            elif not self.is_told:
+                self.is_told = True
+                log.warning(f"{commit.text()}: a change that found no row is left out, and any later one")
+
+    def envelope(self, head: Head, commit: Commit, it: Change) -> dict[str, object]:
+        relation = it.relation
+        return {
+            "before": self.row(relation, it.before),
+            "after": self.row(relation, it.after),
+            "source": {
+                "db": head.database, "schema": relation.namespace, "table": relation.name, "txId": commit.xid, "lsn": commit.lsn,
+                "ts_us": commit.ts_us,
+            },
+            "op": it.op,
+            "ts_ms": None if commit.ts_us is None else commit.ts_us // 1000,
+            "transaction": {"id": f"{commit.xid}:{commit.end}", "total_order": it.n + 1},
+        }
+
+
+Format = Lines | ByName | Debezium
+FORMATS: dict[str, Callable[[Callable[[Relation], bool]], Format]] = {
+    "lines": lambda _: Lines(), "objects": ByName, "debezium": Debezium,
+}

@@ -1,0 +1,101 @@
+"""What a feed consists of."""
+
+from __future__ import annotations
+
+import dataclasses
+from typing import NamedTuple
+
+from pgsub_connect.drift.remembered import Relation
+from ..texts import lsn_text
+
+
+class Unsent:
+    """A cell that the server hasn't sent, in what a change had that found no row."""
+
+    def __repr__(self) -> str:
+        return "UNSENT"
+
+
+UNSENT = Unsent()
+# A text, a binary value, or null.
+Cell = str | bytes | None
+Cells = list[Cell]
+
+
+@dataclasses.dataclass(frozen=True)
+class Head:
+    """The head of a segment: the LSN at which it begins, and what it is a feed of."""
+
+    base: int
+    system: str
+    database: str
+    slot: str
+
+    def source(self) -> tuple[str, str, str]:
+        return self.system, self.database, self.slot
+
+    def text(self) -> str:
+        return f"slot {self.slot} of database {self.database}, system {self.system}"
+
+
+@dataclasses.dataclass(frozen=True)
+class Closing:
+    """The last line of a segment that is full: the LSN at which the next one begins."""
+
+    last: int
+
+
+@dataclasses.dataclass(frozen=True)
+class Commit:
+    """A commit: where it ends and the one before it does, how many bytes and changes follow, and what its message told of it:
+    the final LSN, the xid and the time in microseconds since 1970."""
+
+    end: int
+    prev: int
+    bytes: int
+    changes: int
+    lsn: int | None = None
+    xid: int | None = None
+    ts_us: int | None = None
+
+    def text(self) -> str:
+        return lsn_text(self.end)
+
+
+@dataclasses.dataclass(frozen=True)
+class Cursor:
+    """Where a reader is: the segment, by its base, the offset in it, and the end of the commit before."""
+
+    segment: int
+    offset: int
+    at: int
+
+
+class TableLine(NamedTuple):
+    """The definition of a relation, for the changes of it that follow in the commit."""
+
+    relation: Relation
+
+
+class Change(NamedTuple):
+    """A change: `op` is c, u, d or t, for an insert, an update, a delete and a truncation; the rows are whole."""
+
+    op: str
+    relation: Relation
+    n: int
+    before: Cells | None
+    after: Cells | None
+
+
+class Missed(NamedTuple):
+    """An update or a delete that found no row: `sent` is u or d, `kind` is K, O or "" where no old tuple was sent."""
+
+    relation: Relation
+    n: int
+    sent: str
+    kind: str
+    old: list[Cell | Unsent] | None
+    new: list[Cell | Unsent] | None
+
+
+Part = TableLine | Change | Missed

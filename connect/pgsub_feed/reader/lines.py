@@ -1,0 +1,251 @@
+"""The lines of a feed, read."""
+
+from __future__ import annotations
+
+import binascii
+import json
+import re
+from collections.abc import Callable, Iterator, Sequence
+from typing import Any
+
+from pgsub_connect.server.catalog import Column, Shape
+from pgsub_connect.drift.remembered import Relation
+from ..texts import parse_lsn
+from ..faults import COUNTS, Damaged, LINE, UNDESCRIBED, WIDTH
+from .commits import Cells, Change, Closing, Commit, Head, Missed, Part, TableLine, UNSENT, Unsent
+
+FORMAT = 1
+# How many bytes the head of a segment has, and the line of a commit, or that which closes a segment.
+HEAD_SIZE, COMMIT_SIZE = 1024, 256
+# How many definitions are kept read.
+MOST_DEFINITIONS = 10000
+# The line of a commit as it is written.
+LSN = rb'"([0-9A-F]{1,8}/[0-9A-F]{1,8})"'
+PLAIN = re.compile(
+    rb'\{"end":%b,"prev":%b,"bytes":(\d+),"changes":(\d+),"lsn":(?:%b,"xid":(\d+),"ts_us":(-?\d+)|null,"xid":null,"ts_us":null)\} *\n'
+    % (LSN, LSN, LSN)
+)
+# What may be the escape of half of a pair.
+SURROGATE = re.compile(r"\\u[dD]")
+SENT = {str, type(None)}
+# Of which rows each change has: the one before it, and the one after it.
+ROWS = {"c": (False, True), "u": (True, True), "d": (True, False), "t": (False, False)}
+
+
+def parsed(content: bytes) -> Any:
+    """A text in JSON, whose strings are UTF-8. A ValueError says that it is none."""
+    text = content.decode()
+    try:
+        found = json.loads(text)
+    except RecursionError:
+        raise ValueError from None
+    if SURROGATE.search(text):
+        # (half of a pair has no encoding)
+        json.dumps(found, ensure_ascii=False).encode()
+    return found
+
+
+def read_object(line: bytes) -> dict[str, Any]:
+    """The object that a padded line has. A ValueError says that it is none."""
+    if not line.endswith(b"\n"):
+        raise ValueError
+    found = parsed(line)
+    if not isinstance(found, dict):
+        raise ValueError
+    return found
+
+
+def number(value: object) -> int:
+    if type(value) is not int:
+        raise ValueError
+    return value
+
+
+def natural(value: object) -> int:
+    if number(value) < 0:
+        raise ValueError
+    return number(value)
+
+
+def oid(value: object) -> int:
+    if natural(value) >= 1 << 32:
+        raise ValueError
+    return natural(value)
+
+
+def text(value: object) -> str:
+    if not isinstance(value, str):
+        raise ValueError
+    return value
+
+
+def read_head(line: bytes) -> Head:
+    """The head of a segment. A ValueError says that it isn't one."""
+    found = read_object(line)
+    try:
+        if found["feed"] != FORMAT:
+            raise ValueError
+        return Head(parse_lsn(text(found["base"])), text(found["system"]), text(found["database"]), text(found["slot"]))
+    except KeyError:
+        raise ValueError from None
+
+
+def read_commit(line: bytes) -> Commit | Closing:
+    """The line of a commit, or that which closes a segment. A ValueError says that it is neither."""
+    if plain := PLAIN.fullmatch(line):
+        end, prev, size, changes, final, xid, time = plain.groups()
+        about = (lsn_of(final), int(xid), int(time)) if final else (None, None, None)
+        return Commit(lsn_of(end), lsn_of(prev), int(size), int(changes), *about)
+    return read_commit_object(line)
+
+
+def lsn_of(text: bytes) -> int:
+    high, low = text.split(b"/")
+    return (int(high, 16) << 32) + int(low, 16)
+
+
+def read_commit_object(line: bytes) -> Commit | Closing:
+    """The same of a line that isn't as it is written today: with more fields, or in another order."""
+    found = read_object(line)
+    try:
+        if "last" in found:
+            return Closing(parse_lsn(text(found["last"])))
+        ends = parse_lsn(text(found["end"])), parse_lsn(text(found["prev"]))
+        sizes = natural(found["bytes"]), natural(found["changes"])
+        about = found["lsn"], found["xid"], found["ts_us"]
+    except KeyError:
+        raise ValueError from None
+    if about == (None, None, None):
+        return Commit(*ends, *sizes)
+    return Commit(*ends, *sizes, parse_lsn(text(about[0])), natural(about[1]), number(about[2]))
+
+
+def read_relation(found: dict[str, Any]) -> Relation:
+    """The line of a definition. A column is one of the key where the line lists its name, in a table that has a key."""
+    listed = found["key"]
+    keys = {text(it) for it in listed} if listed is not None else set[str]()
+    columns = tuple(Column(text(name), oid(kind), number(modifier), name in keys) for name, kind, modifier in found["columns"])
+    shape = Shape(text(found["identity"]), columns)
+    return Relation(oid(found["oid"]), text(found["schema"]), text(found["table"]), shape)
+
+
+def read_cell(cell: object) -> str | bytes | Unsent | None:
+    if cell is None or isinstance(cell, str):
+        return cell
+    if isinstance(cell, dict) and list(cell) == ["hex"]:
+        return binascii.unhexlify(text(cell["hex"]))
+    if cell == {"unchanged": True}:
+        return UNSENT
+    raise ValueError
+
+
+def read_whole(row: list[object]) -> Cells:
+    """The cells of a row that has binary values, or what is no row."""
+    cells: Cells = []
+    for it in row:
+        cell = read_cell(it)
+        if isinstance(cell, Unsent):
+            raise ValueError
+        cells.append(cell)
+    return cells
+
+
+class Decoder:
+    """Reads the lines of commits."""
+
+    def __init__(self) -> None:
+        # definitions by their lines: each commit has those of its relations once more
+        self.known: dict[bytes, Relation] = {}
+
+    def begin(self, commit: Commit, fault: Callable[[int, int, str], Damaged]) -> None:
+        """Begins a commit. `fault` makes the error of a number, for the line at an offset of it."""
+        self.commit, self.fault = commit, fault
+        self.described: dict[int, Relation] = {}
+        self.n = self.offset = 0
+
+    def finish(self) -> None:
+        if self.n != self.commit.changes:
+            raise self.fault(COUNTS, self.offset, f"the commit has {self.n} changes, and its line says {self.commit.changes}")
+
+    def read(self, lines: Sequence[bytes]) -> Iterator[Part]:
+        """What the next lines say, which have lost their ends."""
+        try:
+            # (no line has one in it: those of a text are escaped)
+            objects = parsed(b"[" + b",".join(lines) + b"]")
+            if len(objects) != len(lines):
+                raise ValueError
+        except ValueError:
+            self.find(lines)
+        for line, found in zip(lines, objects, strict=True):
+            try:
+                part = self.part(line, found)
+            except (ValueError, KeyError, TypeError):
+                raise self.fault(LINE, self.offset, f"this is no line of a commit: {shown(line)}") from None
+            self.offset += len(line) + 1
+            yield part
+
+    def find(self, lines: Sequence[bytes]) -> None:
+        """Raises for the first line that is no JSON."""
+        for line in lines:
+            try:
+                parsed(line)
+            except ValueError:
+                break
+            self.offset += len(line) + 1
+        raise self.fault(LINE, self.offset, f"this is no line of a commit: {shown(line)}")
+
+    def part(self, line: bytes, found: dict[str, Any]) -> Part:
+        op = found["op"]
+        if op == "table":
+            return self.table(line, found)
+        relation = self.described.get(found["oid"])
+        if relation is None:
+            raise self.fault(UNDESCRIBED, self.offset, f"the relation {found['oid']} isn't described in this commit")
+        n = self.n
+        if number(found["n"]) != n:
+            raise self.fault(COUNTS, self.offset, f"the change has number {found['n']}, and is number {n} of its commit")
+        self.n = n + 1
+        if op == "x":
+            return self.missed(relation, n, found)
+        before, after = found["before"], found["after"]
+        if ROWS[op] != (before is not None, after is not None):
+            raise ValueError
+        width = len(relation.shape.columns)
+        if before is not None:
+            before = self.row(before, width)
+        if after is not None:
+            after = self.row(after, width)
+        return Change(op, relation, n, before, after)
+
+    def table(self, line: bytes, found: dict[str, Any]) -> TableLine:
+        relation = self.known.get(line)
+        if relation is None:
+            relation = read_relation(found)
+            if len(self.known) >= MOST_DEFINITIONS:
+                self.known.clear()
+            self.known[line] = relation
+        self.described[relation.oid] = relation
+        return TableLine(relation)
+
+    def row(self, row: Any, width: int) -> Cells:
+        if type(row) is not list:
+            raise ValueError
+        if len(row) != width:
+            raise self.fault(WIDTH, self.offset, f"a row of {len(row)} cells, where there are {width} columns")
+        return row if SENT.issuperset(map(type, row)) else read_whole(row)
+
+    def missed(self, relation: Relation, n: int, found: dict[str, Any]) -> Missed:
+        sent, old, new = found["sent"], found["old"], found["new"]
+        kind, cells = ("", None) if old is None else old
+        if sent not in ("u", "d") or kind not in ("", "K", "O") or (sent == "u") != (new is not None):
+            raise ValueError
+        width = len(relation.shape.columns)
+        rows = [None if it is None else [read_cell(cell) for cell in it] for it in (cells, new)]
+        for row in rows:
+            if row is not None and len(row) != width:
+                raise self.fault(WIDTH, self.offset, f"a row of {len(row)} cells, where there are {width} columns")
+        return Missed(relation, n, sent, kind, *rows)
+
+
+def shown(line: bytes) -> str:
+    return repr(line[:80].decode(errors="backslashreplace"))

@@ -1,0 +1,58 @@
+"""Where the readers of a feed are: `FOLDER/readers/NAME` has a reader's LSN, whose commits aren't needed any more up to there."""
+
+from __future__ import annotations
+
+import contextlib
+import os
+import time
+
+from ..ownership import real, set_mode
+from pgsub_connect.drift.remembered import replace_file
+from pgsub_connect.store.snapshot import LOG, sync_folder
+from ..texts import lsn_text
+
+READERS = "readers"
+# How often an LSN is noted at most, in seconds.
+OFTEN = 1.0
+
+
+def make_folder(path: str, mode: int) -> None:
+    """Makes a folder, which whoever may read a file of this mode may look into, unless it is there."""
+    try:
+        os.mkdir(path, 0o700)
+    except FileExistsError:
+        if os.path.isdir(path):
+            return
+        raise
+    set_mode(path, mode | (mode & 0o444) >> 2)
+    sync_folder(path)
+
+
+class Noted:
+    """The LSN of a reader whose rows are in a file of SQLite's with a log beside it, or in none, and on a disk already."""
+
+    def __init__(self, feed: str, name: str, rows: str | None, mode: int) -> None:
+        self.folder, self.rows, self.mode = os.path.join(feed, READERS), rows, mode
+        self.path = os.path.join(self.folder, name)
+        self.at, self.when = -1, 0.0
+
+    def note(self, at: int, is_last: bool = False) -> None:
+        """Notes an LSN once the disk has the rows, unless another one was noted just now."""
+        now = time.monotonic()
+        if at == self.at or not is_last and now - self.when < OFTEN:
+            return
+        self.at, self.when = at, now
+        if self.rows is not None:
+            sync_log(self.rows)
+        make_folder(self.folder, self.mode)
+        replace_file(self.path, f"{lsn_text(at)}\n".encode(), self.mode)
+
+
+def sync_log(rows: str) -> None:
+    """Has the disk have what is in the log of a file."""
+    with contextlib.suppress(FileNotFoundError):
+        file = os.open(real(rows) + LOG, os.O_RDONLY | os.O_CLOEXEC)
+        try:
+            os.fsync(file)
+        finally:
+            os.close(file)

@@ -1,0 +1,314 @@
+"""The folder of a feed: its segments, and a reader of their commits, each once it is whole.
+
+A segment's name is its base, in 16 hexadecimal digits. A reader has an LSN of its own: it passes over the commits that don't end above
+it, and the first that it takes must be the one after it. A commit whose bytes aren't all there yet is waited for. Where the feed was
+written anew from some commit on, the reader goes on from its LSN.
+
+A crash may cut off what isn't confirmed. The server sends its commits again, each with the same end; but the connector's own, of rows that
+are added or repaired, end at an LSN that doesn't come again. So these are taken once they are confirmed.
+"""
+
+from __future__ import annotations
+
+import contextlib
+import os
+import re
+import time
+from collections.abc import Iterator
+
+from pgsub_connect.errors import FileError, Unfit
+from pgsub_connect.add.replacement import XID
+from ..texts import lsn_text, parse_lsn
+from .lines import COMMIT_SIZE, Decoder, HEAD_SIZE, read_commit, read_head, shown
+from ..faults import COMMIT_LINE, COUNTS, Damaged, NOT_A_FEED, ORDER, OTHER_FEED
+from .commits import Closing, Commit, Cursor, Head, Part
+
+NAME = re.compile(r"[0-9A-Fa-f]{16}")
+CONFIRMED = "confirmed"
+CHUNK = 1 << 20
+# How long a file system may give one time to two changes of a folder, in seconds.
+COARSE = 2.5
+
+
+def segments(folder: str) -> list[tuple[int, str]]:
+    """The segments of a feed, by their bases, with the names of their files."""
+    try:
+        return sorted((int(it, 16), it) for it in os.listdir(folder) if NAME.fullmatch(it))
+    except FileNotFoundError:
+        raise FileError(f"there is no feed {folder}") from None
+    except OSError as error:
+        raise FileError(f"{folder}: {error.strerror}") from None
+
+
+def read_confirmed(folder: str) -> int | None:
+    """The LSN up to which the feed has all commits, None where it doesn't say."""
+    path = os.path.join(folder, CONFIRMED)
+    try:
+        with open(path, encoding="ascii") as file:
+            return parse_lsn(file.read().strip())
+    except FileNotFoundError:
+        return None
+    except OSError as error:
+        raise FileError(f"{path}: {error.strerror}") from None
+    except ValueError as error:
+        raise FileError(f"{path}: {error}") from None
+
+
+class Listing:
+    """The segments of a feed, of which there may be many: listed where the folder has another time, and once more a while after that."""
+
+    def __init__(self, folder: str) -> None:
+        self.folder = folder
+        self.changed, self.again = -1, 0.0
+        self.found: list[tuple[int, str]] = []
+
+    def segments(self) -> list[tuple[int, str]]:
+        with contextlib.suppress(OSError):
+            changed, now = os.stat(self.folder).st_mtime_ns, time.monotonic()
+            if changed != self.changed or now >= self.again:
+                self.again = now + COARSE if changed != self.changed else float("inf")
+                self.found, self.changed = segments(self.folder), changed
+            return self.found
+        return segments(self.folder)
+
+
+class Segment:
+    """An open segment. `head` is None until all of it is there."""
+
+    def __init__(self, folder: str, base: int, name: str) -> None:
+        self.base, self.path = base, os.path.join(folder, name)
+        self.file = os.open(self.path, os.O_RDONLY | os.O_CLOEXEC)
+        try:
+            self.head = self.read_head()
+        except BaseException:
+            self.close()
+            raise
+
+    def read_head(self) -> Head | None:
+        line = self.read(0, HEAD_SIZE)
+        if len(line) < HEAD_SIZE or not line.strip(b"\0"):
+            return None
+        try:
+            head = read_head(line)
+        except ValueError:
+            raise Damaged(NOT_A_FEED, self.path, 0, f"this is no head of a feed's segment: {shown(line)}") from None
+        if head.base != self.base:
+            raise Damaged(OTHER_FEED, self.path, 0, f"the segment begins at {lsn_text(head.base)}, and has another name")
+        return head
+
+    def read(self, offset: int, size: int) -> bytes:
+        return os.pread(self.file, size, offset)
+
+    def size(self) -> int:
+        return os.fstat(self.file).st_size
+
+    def commit(self, offset: int) -> Commit | Closing | None:
+        """The line of a commit or of the end at an offset; None where it isn't there yet."""
+        line = self.read(offset, COMMIT_SIZE)
+        # (a line of zeros is one that a power cut has left)
+        if len(line) < COMMIT_SIZE or not line.strip(b"\0"):
+            return None
+        try:
+            return read_commit(line)
+        except ValueError:
+            raise Damaged(COMMIT_LINE, self.path, offset, f"this is no line of a commit: {shown(line)}") from None
+
+    def lines(self, offset: int, size: int) -> Iterator[list[bytes]]:
+        """The lines of these bytes without their ends, some at a time."""
+        end, begun = offset + size, list[bytes]()
+        while offset < end:
+            piece = self.read(offset, min(CHUNK, end - offset))
+            if not piece:
+                raise Damaged(COUNTS, self.path, offset, "the segment was cut while it was read")
+            offset += len(piece)
+            first, *more = piece.split(b"\n")
+            begun.append(first)
+            if more:
+                yield [b"".join(begun), *more[:-1]]
+                begun = more[-1:]
+        if any(begun):
+            raise Damaged(COUNTS, self.path, end, "the commit's last line has no end where its bytes end")
+
+    def is_there(self) -> bool:
+        """Whether the name is still that of the open file."""
+        try:
+            now = os.stat(self.path)
+        except OSError:
+            return False
+        mine = os.fstat(self.file)
+        return (now.st_ino, now.st_dev) == (mine.st_ino, mine.st_dev)
+
+    def close(self) -> None:
+        os.close(self.file)
+
+
+def read_source(folder: str) -> Head | None:
+    """What a feed is a feed of, by the head of its last segment; None where that isn't there yet."""
+    for base, name in segments(folder)[-1:]:
+        with contextlib.suppress(FileNotFoundError), contextlib.closing(Segment(folder, base, name)) as segment:
+            return segment.head
+    return None
+
+
+class Reader:
+    """Reads the commits of a feed above an LSN; None: those of all segments that are there."""
+
+    def __init__(self, folder: str, at: int | None = None) -> None:
+        self.folder, self.at = folder, at
+        self.segment: Segment | None = None
+        self.head: Head | None = None
+        self.listing = Listing(folder)
+        self.decoder = Decoder()
+        # where the next commit begins, and where the one before it ends
+        self.offset = self.last = 0
+        # where the lines of the commit begin that was taken last
+        self.body = 0
+
+    def cursor(self) -> Cursor | None:
+        """Where it is: after the commit that was taken last, None where there is no segment yet."""
+        return Cursor(self.segment.base, self.offset, self.last) if self.segment else None
+
+    def before(self, commit: Commit) -> Cursor:
+        """Where the commit begins that was taken last."""
+        assert self.segment
+        return Cursor(self.segment.base, self.body - COMMIT_SIZE, commit.prev)
+
+    def go_to(self, cursor: Cursor) -> None:
+        """Goes where it has been before."""
+        if self.segment is None or self.segment.base != cursor.segment:
+            name = dict(segments(self.folder)).get(cursor.segment)
+            if name is None or self.open(cursor.segment, name) is None:
+                raise Unfit(f"{self.folder}: the segment that begins at {lsn_text(cursor.segment)} is gone")
+        self.offset, self.last, self.at = cursor.offset, cursor.at, cursor.at
+
+    def next(self) -> Commit | None:
+        """The next commit, None where there is none yet. What it has, `parts` reads.
+
+        An Unfit says that commits after the LSN aren't in the feed, and a Damaged that the feed can't be read.
+        """
+        was_open = self.segment is not None
+        try:
+            return self.step()
+        except Damaged:
+            if not was_open:
+                raise
+        # (the filter may have cut the feed, and other bytes are there now)
+        self.close()
+        return self.step()
+
+    def step(self) -> Commit | None:
+        confirmed = 0
+        while (segment := self.segment or self.find()) is not None:
+            found = segment.commit(self.offset)
+            if isinstance(found, Commit) and self.offset + COMMIT_SIZE + found.bytes <= segment.size():
+                if found.xid == XID and found.end > max(confirmed, self.at or 0):
+                    confirmed = read_confirmed(self.folder) or 0
+                    self.look_after(segment)
+                    if confirmed < found.end:
+                        return None
+                    # (its line is read again: another commit may have been confirmed in its place)
+                elif self.takes(segment, found):
+                    return found
+            elif not self.go_on(segment, found if isinstance(found, Closing) else None):
+                self.look_after(segment)
+                return None
+        return None
+
+    def takes(self, segment: Segment, commit: Commit) -> bool:
+        """Goes on after a whole commit; whether it ends above the LSN, which it moves then."""
+        if commit.prev != self.last or commit.end <= commit.prev:
+            text = f"a commit from {lsn_text(commit.prev)} to {commit.text()} where {lsn_text(self.last)} was reached"
+            raise Damaged(ORDER, segment.path, self.offset, text)
+        at = self.last if self.at is None else self.at
+        if commit.end > at and commit.prev != at:
+            raise Unfit(
+                f"{self.folder}: no commit ends at {lsn_text(at)}: the next one goes from {lsn_text(commit.prev)} to {commit.text()}, so"
+                " what was read before isn't what the feed has. Begin anew from an export"
+            )
+        self.body = self.offset + COMMIT_SIZE
+        self.offset, self.last = self.body + commit.bytes, commit.end
+        if commit.end <= at:
+            return False
+        self.at = commit.end
+        return True
+
+    def find(self) -> Segment | None:
+        """Opens the segment with what follows the LSN. None where it isn't there yet."""
+        there = segments(self.folder)
+        if not there:
+            return None
+        at = there[0][0] if self.at is None else self.at
+        before = [it for it in there if it[0] <= at]
+        if not before:
+            raise Unfit(f"{self.folder}: the feed begins at {lsn_text(there[0][0])}, and the commits after {lsn_text(at)} aren't in it")
+        self.at = at
+        return self.open(*before[-1])
+
+    def open(self, base: int, name: str) -> Segment | None:
+        """Opens a segment in the place of the one before. None where it isn't there yet."""
+        try:
+            segment = Segment(self.folder, base, name)
+        except FileNotFoundError:
+            return None
+        if segment.head is None:
+            segment.close()
+            return None
+        if self.head and segment.head.source() != self.head.source():
+            segment.close()
+            text = f"a feed of {segment.head.text()}, and before of {self.head.text()}"
+            raise Damaged(OTHER_FEED, segment.path, 0, text)
+        self.close()
+        self.segment, self.head = segment, segment.head
+        self.offset, self.last = HEAD_SIZE, base
+        return segment
+
+    def go_on(self, segment: Segment, closing: Closing | None) -> bool:
+        """Opens the segment that begins where this one ends. Returns false where it isn't there yet."""
+        if closing and closing.last != self.last:
+            text = f"the segment says that it ends at {lsn_text(closing.last)}, and its last commit at {lsn_text(self.last)}"
+            raise Damaged(ORDER, segment.path, self.offset, text)
+        if self.last != segment.base and (name := self.named(self.last)):
+            return self.open(self.last, name) is not None
+        # (a segment is looked for by its name as long as others may be begun: there may be many, and this is asked again and again)
+        after = [base for base, _ in self.listing.segments()[-1:] if base > self.last] if closing else []
+        if after and not self.named(self.last):
+            base = min(it for it, _ in self.listing.segments() if it > self.last)
+            raise Unfit(
+                f"{self.folder}: the segment that begins at {lsn_text(self.last)} is gone, and the next one begins at"
+                f" {lsn_text(base)}: commits are missing. Begin anew from an export"
+            )
+        return False
+
+    def named(self, base: int) -> str | None:
+        """The name of the segment that begins there, None where there is none."""
+        return next((it for it in (f"{base:016X}", f"{base:016x}") if os.path.exists(os.path.join(self.folder, it))), None)
+
+    def look_after(self, segment: Segment) -> None:
+        """Lets go of a segment that was replaced, is gone, or was cut before where the reader is: it may end there now."""
+        if not segment.is_there() or segment.size() < self.offset:
+            self.close()
+
+    def own_line(self, commit: Commit) -> bytes:
+        """The line of the commit that was taken last."""
+        assert self.segment
+        return self.segment.read(self.body - COMMIT_SIZE, COMMIT_SIZE)
+
+    def raw(self, commit: Commit) -> Iterator[list[bytes]]:
+        """The lines of the commit that was taken last, without their ends, some at a time."""
+        assert self.segment
+        return self.segment.lines(self.body, commit.bytes)
+
+    def parts(self, commit: Commit) -> Iterator[Part]:
+        """What the commit that was taken last has, in order."""
+        assert self.segment
+        segment, path, body = self.segment, self.segment.path, self.body
+        decoder = self.decoder
+        decoder.begin(commit, lambda number, offset, what: Damaged(number, path, body + offset, what))
+        for lines in segment.lines(body, commit.bytes):
+            yield from decoder.read(lines)
+        decoder.finish()
+
+    def close(self) -> None:
+        if self.segment:
+            self.segment.close()
+            self.segment = None

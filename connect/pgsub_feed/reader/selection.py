@@ -1,0 +1,21 @@
+"""The tables that `--table` names."""
+
+from __future__ import annotations
+
+from collections.abc import Iterable
+
+from ..tables.names import names_of
+from pgsub_connect.drift.remembered import Relation
+
+
+class Chosen:
+    """Tells which relations are chosen: all where none is named. `unseen`: the names of none so far."""
+
+    def __init__(self, names: Iterable[str]) -> None:
+        self.names = set(names)
+        self.unseen = set(names)
+
+    def __call__(self, relation: Relation) -> bool:
+        found = self.names & names_of(relation.namespace, relation.name)
+        self.unseen -= found
+        return bool(found) or not self.names

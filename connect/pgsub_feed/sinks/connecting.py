@@ -1,0 +1,115 @@
+"""A connection to a server, for whose parts nothing is waited longer than a moment at once."""
+
+from __future__ import annotations
+
+import errno
+import ipaddress
+import os
+import queue
+import select
+import socket
+import ssl
+import threading
+import time
+from typing import Any, Union
+
+from pgsub_connect.server.connection import Check
+
+# For how long one wait lasts at most, in seconds.
+TICK = 0.1
+# What getaddrinfo returns of a host: an address and how to make a socket for it.
+Address = tuple[Any, Any, int, str, Any]
+BUSY = (BlockingIOError, ssl.SSLWantReadError, ssl.SSLWantWriteError)
+
+
+def connected(host: str, port: int, seconds: float, check: Check) -> socket.socket:
+    """A connection to the first of a host's addresses that takes one in this time, which doesn't
+    block. An OSError says why there is none."""
+    error = OSError(errno.EADDRNOTAVAIL, "the host has no address")
+    for family, kind, protocol, _, address in addresses(host, port, seconds, check):
+        made = socket.socket(family, kind, protocol)
+        try:
+            made.setblocking(False)
+            connect(made, address, time.monotonic() + seconds, check)
+            return made
+        except OSError as failed:
+            made.close()
+            error = failed
+        except BaseException:
+            made.close()
+            raise
+    raise error
+
+
+def addresses(host: str, port: int, seconds: float, check: Check) -> list[Address]:
+    """A host's addresses. A name is looked up by another thread, since no signal ends that."""
+    end = time.monotonic() + seconds
+    found: queue.SimpleQueue[Union[list[Address], Exception]] = queue.SimpleQueue()
+
+    def look() -> None:
+        try:
+            found.put(socket.getaddrinfo(host, port, type=socket.SOCK_STREAM))
+        except (OSError, ValueError) as error:
+            # (a ValueError: it can't be a name)
+            found.put(error)
+
+    threading.Thread(target=look, daemon=True).start()
+    while True:
+        try:
+            said = found.get(timeout=TICK)
+        except queue.Empty:
+            check()
+            if time.monotonic() > end:
+                raise TimeoutError(errno.ETIMEDOUT, "its name isn't found in time") from None
+            continue
+        if isinstance(said, Exception):
+            raise said if isinstance(said, OSError) else OSError(errno.EINVAL, str(said))
+        return said
+
+
+def connect(made: socket.socket, address: Any, end: float, check: Check) -> None:
+    code = made.connect_ex(address)
+    while code == errno.EINPROGRESS:
+        if is_ready(made, end, check, writes=True):
+            code = made.getsockopt(socket.SOL_SOCKET, socket.SO_ERROR)
+        else:
+            code = errno.ETIMEDOUT
+    if code:
+        raise OSError(code, os.strerror(code))
+
+
+def is_ready(made: socket.socket, end: float, check: Check, writes: bool = False) -> bool:
+    """Waits until something can be read or written. Returns false where it can't in time."""
+    wanted = [made]
+    while True:
+        check()
+        left = end - time.monotonic()
+        reads, writes_to = ([], wanted) if writes else (wanted, [])
+        ready = select.select(reads, writes_to, [], max(0.0, min(left, TICK)))
+        if ready[0] or ready[1]:
+            return True
+        if left <= 0:
+            return False
+
+
+def encrypted(made: socket.socket, host: str, seconds: float, check: Check) -> ssl.SSLSocket:
+    """The connection by TLS, whose certificate is that of the host."""
+    end = time.monotonic() + seconds
+    found = ssl.create_default_context().wrap_socket(
+        made, server_hostname=host, do_handshake_on_connect=False
+    )
+    while True:
+        try:
+            found.do_handshake()
+            return found
+        except BUSY as busy:
+            if not is_ready(found, end, check, isinstance(busy, ssl.SSLWantWriteError)):
+                raise TimeoutError(errno.ETIMEDOUT, "TLS isn't there in time") from None
+
+
+def is_loopback(host: str) -> bool:
+    """Whether a name or address is this machine's own."""
+    try:
+        return ipaddress.ip_address(host.partition("%")[0]).is_loopback
+    except ValueError:
+        return host.lower().rstrip(".") == "localhost" or host.lower().endswith(".localhost")

@@ -1,0 +1,99 @@
+"""The rows with which a sink begins: those of an export whose values are texts, or none."""
+
+from __future__ import annotations
+
+import contextlib
+import dataclasses
+import os
+import sqlite3
+from collections.abc import Iterator
+from typing import TYPE_CHECKING
+
+from pgsub_connect.errors import FileError, Unfit
+from pgsub_connect.store.export import run as export
+from ..tables.first_rows import check_begin, opened
+from ..reader.commits import Cells
+from ..tables.file import unlisted
+from ..tables.names import POSITION, TABLES, names_of, told_columns
+from pgsub_connect.server.connection import Check
+from pgsub_connect.drift.remembered import Relation
+from pgsub_connect.store.at_rest import own_name
+from pgsub_connect.store.snapshot import remove
+from pgsub_connect.store.file import is_export
+from ..texts import identifier, parse_lsn
+
+if TYPE_CHECKING:
+    from pgsub_connect.commands.options import Options
+
+
+class Base:
+    """No rows, those before the first commit of a feed."""
+
+    lsn = 0
+
+    def tables(self) -> list[Relation]:
+        return []
+
+    def rows(self, relation: Relation) -> Iterator[Cells]:
+        """The rows of one of the tables."""
+        raise NotImplementedError
+
+
+class Exported(Base):
+    """Those of an export."""
+
+    def __init__(self, db: sqlite3.Connection, path: str, chosen: tuple[str, ...]) -> None:
+        self.db, self.path, self.chosen = db, path, set(chosen)
+        self.lsn = parse_lsn(db.execute(f"SELECT lsn FROM {POSITION}").fetchone()[0])
+        self.names = dict[int, str]()
+
+    def tables(self) -> list[Relation]:
+        found = []
+        for name, schema, table, oid in self.db.execute(f"SELECT * FROM {TABLES} ORDER BY oid").fetchall():
+            relation = unlisted(self.db, name, schema, table, oid)
+            if not self.chosen or self.chosen & names_of(relation.namespace, relation.name):
+                self.check(name, relation)
+                self.names[oid] = name
+                found.append(relation)
+        return found
+
+    def check(self, name: str, relation: Relation) -> None:
+        """Rejects a table whose values, or the names of whose columns, aren't the server's."""
+        if self.db.execute("SELECT EXISTS (SELECT 1 FROM pragma_table_info(?) WHERE type <> 'TEXT')", (name,)).fetchone()[0]:
+            raise FileError(f"--base {self.path}: its values aren't as the server prints them: make it by `pgsub-connect export --text`")
+        columns = [it.name for it in relation.shape.columns]
+        if told_columns(columns) != columns:
+            text = "names of columns are equal but for case, and an export can't tell them apart: choose other tables"
+            raise Unfit(f"{relation.text()}: {text}")
+
+    def rows(self, relation: Relation) -> Iterator[Cells]:
+        for row in self.db.execute(f"SELECT * FROM {identifier(self.names[relation.oid])} ORDER BY rowid"):
+            # (one without columns has one there)
+            yield list(row) if relation.shape.columns else []
+
+
+@contextlib.contextmanager
+def base_of(options: Options, chosen: tuple[str, ...], check: Check) -> Iterator[Base]:
+    """What a sink begins with: an export that is named or asked for, or nothing, where that is what its feed begins with."""
+    if options.base:
+        with exported(options.base, chosen) as found:
+            yield found
+    elif options.store:
+        path = own_name(options.store + ".base")
+        try:
+            export(dataclasses.replace(options, command="export", text=True, into=path), check)
+            with exported(path, chosen) as found:
+                yield found
+        finally:
+            remove(path)
+    else:
+        check_begin(options, check)
+        yield Base()
+
+
+@contextlib.contextmanager
+def exported(path: str, chosen: tuple[str, ...]) -> Iterator[Base]:
+    if not (os.path.isfile(path) and is_export(path)):
+        raise FileError(f"--base {path}: it is no export")
+    with contextlib.closing(opened(path)) as db:
+        yield Exported(db, path, chosen)

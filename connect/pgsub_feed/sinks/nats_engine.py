@@ -1,0 +1,215 @@
+"""NATS JetStream: the stream's own last message says where a sink is, and each message is taken in its place or not at all.
+
+A commit of which only a part was published is completed: its first messages are there, and those that follow are published. Nothing has
+two messages, since one is only taken as the one after the message that was the last when it was made.
+"""
+
+from __future__ import annotations
+
+import contextlib
+import secrets
+import time
+from collections.abc import Iterable, Iterator
+from typing import Any
+
+from .. import log
+from pgsub_connect.errors import Passing, Stopped, TooLarge, Unfit
+from ..faults import Damaged
+from ..reader.commits import Commit, TableLine
+from ..tables.names import names_of
+from pgsub_connect.server.connection import Check
+from ..texts import lsn_text, shortened
+from .first_rows import Base
+from .engine import Read, Wanted
+from .jetstream import Info, JetStream, Stored
+from .nats_messages import COMMIT, Said, base_message, change_message, last_message, numbered, read_id, read_last
+from .nats_wire import Wire
+from .reached import Trail
+
+STREAM = "pgsub"
+# How many bytes of a commit are made into messages at once. A larger one is read twice.
+ROOM = 32 << 20
+# A server writes to its disk what it has taken, and syncs that each two minutes. In seconds.
+SYNCED = 150.0
+# How often it is looked whether the server is there, in seconds.
+OFTEN = 20.0
+# For how long nobody may publish to a stream with a part of a base until that goes, in seconds.
+STILL = 2.0
+
+
+class Nats:
+    """An engine."""
+
+    def __init__(self, stream: JetStream, check: Check) -> None:
+        self.stream, self.name, self.check = stream, stream.stream, check
+        self.at = self.end = 0
+        self.looked = time.monotonic()
+        # of the commit of which a part is published already: where it ends, and the number of the last change
+        self.part: tuple[int, int] | None = None
+        # whether there is a part of a base
+        self.has_left = False
+        self.trail = Trail()
+
+    # ---- what is there
+
+    def open(self, wanted: Wanted) -> bool:
+        self.chosen = set(wanted.chosen)
+        self.about: dict[str, Any] = {**wanted.source(), "tables": list(wanted.chosen)}
+        info = self.stream.begin()
+        if f"{self.name}.>" not in info.subjects:
+            raise Unfit(f"{self.stream.where}: it is there, and its subjects aren't {self.name}.>: take another one")
+        if not self.stream.sequence:
+            return False
+        last = self.stream.message(seq=self.stream.sequence) if info.messages else None
+        read = read_id(last.id) if last else None
+        if last is None or read is None:
+            found = f"its last one, {last.sequence}, isn't of a sink" if last else "its last one is gone"
+            raise Unfit(f"{self.stream.where}: messages are there, and {found}: take another one, or remove it to begin anew")
+        commit = last if read.n is None else self.stream.message(last_by_subj=f"{self.name}.{COMMIT}")
+        if commit is None and read.n == -1:
+            # (the rows of a base, of which a part was published; they go once there is something to begin with)
+            self.has_left = True
+            return False
+        rows = self.go_on(commit, read.lsn, read.n)
+        if rows is not None and last is commit:
+            self.remove_before(last.sequence - rows, info)
+        return True
+
+    def remove_before(self, first: int, info: Info) -> None:
+        """Removes what a base that was begun before has left before the first message of the one that is whole."""
+        if 0 < info.first < first:
+            self.stream.purge(seq=first)
+
+    def go_on(self, commit: Stored | None, lsn: int, n: int | None) -> int | None:
+        """Goes on after the last message of a commit, and the messages of a part of the next one. Returns how many rows that commit has,
+        which is a base."""
+        try:
+            at, about, rows = read_last(commit.data if commit else b"")
+        except ValueError:
+            raise Unfit(f"{self.stream.where}: the last message of the commit before is gone: remove it to begin anew") from None
+        if about != self.about:
+            told = shortened(str(about))
+            raise Unfit(f"{self.stream.where}: what is kept there is of {told}, and this would be of {self.about}: take another stream")
+        self.at = self.end = at
+        self.trail.note(at, time.monotonic())
+        self.part = None if n is None else (lsn, n)
+        return rows
+
+    def remove_left(self) -> None:
+        """Removes the part of a base that a sink has left, but for its last message: by that the next start knows what there is. One that
+        publishes it still would go on, and never know of it."""
+        end = time.monotonic() + STILL
+        while time.monotonic() < end:
+            self.check()
+            time.sleep(STILL / 20)
+        if self.stream.last() != self.stream.sequence:
+            raise Passing(f"{self.stream.where}: another sink publishes the rows of a base there")
+        log.warning(f"{self.stream.where}: its messages are a part of a base: they go, and it begins anew")
+        self.stream.purge(keep=1)
+
+    def begin(self, base: Base) -> None:
+        if self.has_left:
+            self.remove_left()
+        number, rows = secrets.token_hex(4), 0
+        for relation, n, row in numbered(base.tables(), base.rows):
+            if not n % 1000:
+                self.check()
+            self.publish(self.sized(base_message(self.name, relation, base.lsn, number, n, row)))
+            rows = n + 1
+        self.publish(last_message(self.name, Commit(base.lsn, base.lsn, 0, 0), self.about, rows))
+        self.end = base.lsn
+        self.settle()
+        if self.has_left:
+            self.stream.purge(seq=self.stream.sequence - rows)
+
+    # ---- commits
+
+    def take(self, commit: Commit, read: Read) -> None:
+        if self.part and self.part[0] != commit.end:
+            raise Unfit(
+                f"{self.stream.where}: it has a part of a commit that ends at {lsn_text(self.part[0])}, and the feed's next one ends at"
+                f" {commit.text()}: remove it to begin anew"
+            )
+        if commit.bytes <= ROOM:
+            self.publish_all(list(self.messages(commit, read)))
+        else:
+            for _ in self.messages(commit, read):
+                self.check()
+            try:
+                self.publish_all(self.messages(commit, read))
+            except Damaged as damaged:
+                raise Passing(f"the feed was altered while a commit was published: {damaged}") from None
+        self.part, self.end = None, commit.end
+
+    def messages(self, commit: Commit, read: Read) -> Iterator[Said]:
+        """The messages of a commit that aren't there yet. Nothing is published of one that has a change which is too large."""
+        after = self.part[1] if self.part else -1
+        for part in read():
+            if isinstance(part, TableLine) or part.n <= after:
+                continue
+            if not self.chosen or self.chosen & names_of(part.relation.namespace, part.relation.name):
+                yield self.sized(change_message(self.name, commit, part))
+        yield last_message(self.name, commit, self.about)
+
+    def sized(self, message: Said) -> Said:
+        size, most = len(self.stream.headers(message.id)) + len(message.payload), self.stream.most
+        # (the sequence may have more digits by then)
+        if size + 20 > most:
+            self.settle()
+            raise TooLarge(
+                f"{message.id}: a change of {message.about} makes a message of {size} bytes, and {self.stream.where} takes {most}:"
+                " raise its max_payload"
+            )
+        return message
+
+    def publish_all(self, messages: Iterable[Said]) -> None:
+        for message in messages:
+            self.publish(message)
+
+    def publish(self, message: Said) -> None:
+        self.stream.publish(message.subject, message.id, message.payload)
+
+    def settle(self) -> None:
+        self.stream.settle()
+        if self.end != self.at:
+            self.at = self.end
+            self.trail.note(self.at, time.monotonic())
+
+    def forget(self) -> None:
+        # (what was taken is published)
+        self.settle()
+
+    def look(self) -> None:
+        now = time.monotonic()
+        if now - self.looked > OFTEN:
+            self.looked = now
+            self.stream.wire.ping(OFTEN)
+        else:
+            self.stream.wire.receive(0.0)
+
+    def check_disk(self) -> None:
+        # (a server doesn't tell how often it syncs)
+        pass
+
+    def safe(self) -> int | None:
+        return self.trail.pass_to(time.monotonic() - SYNCED)
+
+    def finish(self, seconds: float) -> bool:
+        end = time.monotonic() + seconds
+
+        def check() -> None:
+            if time.monotonic() > end:
+                raise Stopped
+
+        self.stream.wire.check = check
+        with contextlib.suppress(Stopped):
+            self.settle()
+            return True
+        return False
+
+    def close(self) -> None:
+        self.stream.wire.close()
+
+
+def connect(url: str, stream: str, check: Check) -> Nats:
+    return Nats(JetStream(Wire(url, check), stream), check)

@@ -1,0 +1,160 @@
+"""Commands of Redis and what it says to them, by Debian's python3-redis."""
+
+from __future__ import annotations
+
+import contextlib
+import importlib
+import urllib.parse
+from collections.abc import Callable, Iterator, Sequence
+from typing import Any, Protocol, Union
+
+from .. import log
+from pgsub_connect.errors import EngineError, FileError, Passing, Stopped, UsageError
+from ..interruption import interruptible
+from pgsub_connect.server.connection import Check, never
+from ..texts import shortened
+from .connecting import addresses, is_loopback
+
+Command = Sequence[Union[bytes, str, int]]
+# The errors that may pass: it loads its files or runs a script, its memory or its disk is full, or another one is the primary by now.
+PASSES = ("LOADING", "BUSY", "OOM", "MISCONF", "READONLY", "MASTERDOWN", "CLUSTERDOWN", "TRYAGAIN", "NOREPLICAS", "NOGOODSLAVE")
+# How long to wait for a connection, and for what it says, in seconds.
+CONNECT, LONGEST = 10.0, 300.0
+# From how many bytes on Redis may end a connection because of them.
+MUCH = 1 << 29
+
+
+class Said(Exception):
+    """An error that Redis has said."""
+
+    def __init__(self, text: str) -> None:
+        super().__init__(shortened(text))
+
+    def is_passing(self) -> bool:
+        return str(self).startswith(PASSES)
+
+
+def raised(said: Said, where: str) -> Exception:
+    """What an error is for the sink."""
+    return (Passing if said.is_passing() else EngineError)(f"{where}: {said}")
+
+
+@contextlib.contextmanager
+def understood(where: str) -> Iterator[None]:
+    """Rejects what Redis has said where that isn't what the command is for, or what is kept there isn't a sink's."""
+    try:
+        yield
+    except (ValueError, TypeError, KeyError, IndexError, AttributeError, RecursionError) as error:
+        text = f"{type(error).__name__}: {shortened(str(error))}"
+        better = "is it a Redis, whose `pgsub:` keys nothing else writes?"
+        raise EngineError(f"{where}: it said what a sink can't read ({text}): {better}") from None
+
+
+def packed_command(command: Command) -> bytes:
+    """A command as it is sent. (The library takes longer for that than all else that a change needs.)"""
+    words = [it if isinstance(it, bytes) else str(it).encode() for it in command]
+    return b"".join([b"*%d\r\n" % len(words), *(b"$%d\r\n%b\r\n" % (len(it), it) for it in words)])
+
+
+class Calls(Protocol):
+    """A connection. What Redis says is bytes, a number, None or a list of these; an error is a Said that is returned.
+
+    `check` is called before it is waited for, and a signal ends that: then the connection is lost.
+    """
+
+    where: str
+    check: Check
+    is_lost: bool
+
+    def run(self, commands: Sequence[Command]) -> list[Any]:
+        """Sends commands, and returns what each got."""
+
+    def close(self) -> None:
+        """Ends it."""
+
+
+class Connection:
+    """A connection to a real one. It isn't made again where it is lost, since what was watched would be forgotten."""
+
+    def __init__(self, url: str, check: Check = never) -> None:
+        self.check, self.is_lost = check, False
+        try:
+            self.redis: Any = importlib.import_module("redis")
+        except ModuleNotFoundError:
+            raise FileError("python3-redis is needed: apt-get install python3-redis") from None
+        try:
+            # (a socket of a file takes neither)
+            more = {} if url.startswith("unix:") else {"socket_connect_timeout": CONNECT, "socket_keepalive": True}
+            pool = self.redis.ConnectionPool.from_url(url, socket_timeout=LONGEST, **more)
+            self.connection = pool.make_connection()
+        except (ValueError, TypeError) as error:
+            raise UsageError(f"the URL of Redis: {error}") from None
+        named = self.connection.__dict__
+        self.where = f"Redis at {named.get('host') or named.get('path')}{':' + str(named['port']) if named.get('port') else ''}"
+        if host := named.get("host"):
+            self.look_up(url, str(host), int(named["port"]))
+        self.guarded(0, self.connection.connect)
+
+    def look_up(self, url: str, host: str, port: int) -> None:
+        """Looks at where it is."""
+        if urllib.parse.urlsplit(url).password and url.startswith("redis:") and not is_loopback(host):
+            log.warning(f"{self.where}: the password goes there in plain text: use rediss://")
+        try:
+            # (the library's own look can't be ended)
+            addresses(host, port, CONNECT, self.check)
+        except OSError as error:
+            raise Passing(f"{self.where}: {error}") from None
+
+    def guarded(self, size: int, call: Callable[[], Any]) -> Any:
+        """Calls. What is wrong with the connection passes, unless it is the login."""
+        errors = self.redis.exceptions
+        try:
+            with interruptible(self.check):
+                return call()
+        except Stopped:
+            self.is_lost = True
+            raise
+        except errors.AuthenticationError as error:
+            raise EngineError(f"{self.where}: {shortened(str(error))}") from None
+        except errors.ResponseError as error:
+            raise raised(Said(self.text(error)), self.where) from None
+        except (errors.InvalidResponse, ValueError) as error:
+            raise EngineError(f"{self.where}: it said what isn't Redis' protocol: {str(error)[:200]}") from None
+        except RecursionError:
+            raise EngineError(f"{self.where}: it said what isn't Redis' protocol") from None
+        except (errors.RedisError, OSError) as error:
+            hint = f" (of {size >> 20} MB that were sent: client-query-buffer-limit may be below that)" if size > MUCH else ""
+            raise Passing(f"{self.where}: {shortened(str(error)) or type(error).__name__}{hint}") from None
+
+    def text(self, error: Exception) -> str:
+        """An error as Redis has said it: the library takes the code away from those that it knows."""
+        codes = {
+            "BusyLoadingError": "LOADING", "ReadOnlyError": "READONLY", "NoScriptError": "NOSCRIPT", "ExecAbortError": "EXECABORT",
+            "NoPermissionError": "NOPERM", "OutOfMemoryError": "OOM",
+        }
+        code = codes.get(type(error).__name__, "")
+        return str(error) if str(error).startswith(code) else f"{code} {error}"
+
+    def run(self, commands: Sequence[Command]) -> list[Any]:
+        if self.is_lost:
+            # (the library would connect again, and what was watched is forgotten)
+            raise Passing(f"{self.where}: the connection is lost")
+        packed = b"".join(map(packed_command, commands))
+        size = len(packed)
+        self.guarded(size, lambda: self.connection.send_packed_command([packed]))
+        found: list[Any] = self.guarded(size, lambda: [self.said() for _ in commands])
+        return found
+
+    def said(self) -> Any:
+        try:
+            return self.whole(self.connection.read_response())
+        except self.redis.exceptions.ResponseError as error:
+            return Said(self.text(error))
+
+    def whole(self, said: Any) -> Any:
+        if isinstance(said, list):
+            return [self.whole(it) for it in said]
+        return Said(self.text(said)) if isinstance(said, Exception) else said
+
+    def close(self) -> None:
+        self.connection.disconnect()

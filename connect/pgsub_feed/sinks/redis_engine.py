@@ -1,0 +1,294 @@
+"""Redis: rows and LSN in one MULTI, and no MULTI of a sink whose place another one has taken.
+
+| Key | Has |
+|---|---|
+| `pgsub:lsn` | the LSN at which the last commit ends whose changes are there |
+| `pgsub:sink` | a text of the sink that writes: the one that was started last |
+| `pgsub:feed` | what is kept, and of what it is a feed |
+| `pgsub:tables` | the definitions that were told last, and the names of tables |
+| `pgsub:loading` | while the rows of a base are written: the names of its tables |
+
+The first two are watched from one MULTI to the next. So where another sink has begun, or has written, a MULTI has no effect at all.
+"""
+
+from __future__ import annotations
+
+import contextlib
+import json
+import os
+import secrets
+import socket
+import time
+from collections.abc import Iterable, Iterator, Sequence
+from typing import Any, Optional, Protocol
+
+from pgsub_connect.errors import EngineError, Passing, Stopped, Unfit
+from ..reader.commits import Cells, Change, Commit, Missed, TableLine
+from ..interruption import at_most
+from ..json_texts import list_of, parsed, text_of
+from pgsub_connect.server.connection import Check, never
+from ..texts import lsn_text, parse_lsn, shortened
+from .first_rows import Base
+from .engine import Read, Wanted
+from .redis_calls import Calls, Command, Said, raised, understood
+from .relations import Holder, Kept, Relations
+from .redis_disk import Disk
+
+LSN, SINK, FEED, TABLES, LOADING = "pgsub:lsn", "pgsub:sink", "pgsub:feed", "pgsub:tables", "pgsub:loading"
+WATCH, ASK = ("WATCH", LSN, SINK), ("MGET", LSN, SINK)
+# How many commands one MULTI gets where more commits are there.
+MOST = 20000
+# How often one MULTI is tried where somebody reads or trims a stream meanwhile.
+TRIES = 50
+# How often it is looked whether this is still the sink that writes, in seconds.
+OFTEN = 5.0
+
+
+class Form(Holder, Protocol):
+    """How rows and changes are written. What it was given waits until it is written by `commands`, or forgotten by `clear`."""
+
+    name: str
+    is_keyed_only: bool
+
+    def put(self, kept: Kept, row: Cells, n: int, lsn: int) -> None:
+        """A row of a base, the n-th of its table."""
+
+    def change(self, kept: Kept, it: Change | Missed, lsn: int) -> None:
+        """A change of the commit that ends there."""
+
+    def size(self) -> int:
+        """About how many commands wait."""
+
+    def watched(self) -> list[str]:
+        """The keys beside those of the sink that decide whether the commands can be run."""
+
+    def prepare(self) -> None:
+        """Looks at these, once they are watched."""
+
+    def commands(self) -> list[Command]:
+        """What writes all that waits."""
+
+    def accepts(self, said: Said) -> bool:
+        """Whether one of these commands may end with this error."""
+
+    def clear(self) -> None:
+        """Forgets what waits."""
+
+    def check_new(self) -> None:
+        """Looks at what there is before anything is begun."""
+
+    def removals(self, names: Iterable[str]) -> Iterator[Command]:
+        """What removes all that the tables with these names have."""
+
+
+class Redis:
+    """An engine."""
+
+    def __init__(self, calls: Calls, form: Form, check: Check) -> None:
+        self.calls, self.form, self.check = calls, form, check
+        self.owner = f"{socket.gethostname()} {os.getpid()} {secrets.token_hex(8)}".encode()
+        # the LSN that all is at, as a text too, None before there is one; and where the last commit ends that was taken
+        self.at, self.lsn, self.end = 0, None, 0
+        self.looked = time.monotonic()
+        self.left: list[str] = []
+        self.disk = Disk(calls)
+
+    at: int
+    lsn: bytes | None
+    relations: Relations
+
+    # ---- what is there
+
+    def open(self, wanted: Wanted) -> bool:
+        self.relations = Relations(wanted.chosen, self.form.is_keyed_only, self.form)
+        self.about: dict[str, Any] = {**wanted.source(), "tables": list(wanted.chosen), "as": self.form.name}
+        lsn, about = self.two(("MGET", LSN, FEED))
+        if lsn is None:
+            # (another one may begin just now, and goes on as long as there is nothing to begin with here)
+            return False
+        # (before this one takes over, since another one that is fine would end)
+        self.check_about(about)
+        with understood(self.calls.where):
+            at = parse_lsn(lsn.decode())
+        wanted.check_after(at)
+        self.take_over()
+        about, tables = self.two(("MGET", FEED, TABLES))
+        if self.lsn is None:
+            raise Passing(f"{self.calls.where}: {LSN} was removed just now")
+        self.check_about(about)
+        if tables is None:
+            raise Unfit(f"{self.calls.where}: something else has removed {TABLES}: remove {LSN} and the rows to begin anew")
+        with understood(self.calls.where):
+            self.relations.load(tables.decode())
+            at = parse_lsn(self.lsn.decode())
+        self.reach(at)
+        return True
+
+    def take_over(self) -> None:
+        """From now on no other sink's MULTI has an effect."""
+        self.run([("SET", SINK, self.owner)])
+        self.lsn = self.both(self.run([WATCH, ASK])[1])[0]
+
+    def check_about(self, about: bytes | None) -> None:
+        """Rejects what is of another feed, or of other tables."""
+        with understood(self.calls.where):
+            is_same = about is not None and parsed(about) == self.about
+        if not is_same:
+            was, now = shortened((about or b"nothing").decode(errors="replace")), json.dumps(self.about)
+            raise Unfit(f"{self.calls.where}: what is kept there is of {was}, and this would be of {now}: take another database")
+
+    def reach(self, at: int) -> None:
+        self.at = self.end = at
+        self.disk.note(at)
+
+    # ---- calls
+
+    def run(self, commands: Sequence[Command]) -> list[Any]:
+        """Runs commands outside of a MULTI, of which none may fail."""
+        said = self.calls.run(commands)
+        self.check_said(said)
+        return said
+
+    def two(self, command: Command) -> tuple[Any, Any]:
+        """The two values that a command asks for, each bytes or None."""
+        return self.both(self.run([command])[0])
+
+    def both(self, found: Any) -> tuple[Any, Any]:
+        with understood(self.calls.where):
+            first, second = found
+            if not all(it is None or isinstance(it, bytes) for it in found):
+                raise TypeError("no bytes")
+        return first, second
+
+    def check_said(self, said: Iterable[Any]) -> None:
+        for it in said:
+            if isinstance(it, Said):
+                raise raised(it, self.calls.where)
+
+    def transact(self, commands: Sequence[Command], after: bytes | None) -> None:
+        """Runs commands in one MULTI, which leave the LSN at what is said, as long as this is the sink that writes."""
+        for _ in range(TRIES):
+            if watched := self.form.watched():
+                self.run([("WATCH", *watched)])
+                self.form.prepare()
+            *queued, done, _, found = self.calls.run([("MULTI",), *commands, ("EXEC",), WATCH, ASK])
+            self.check_said([*queued, done, found])
+            lsn, owner = self.both(found)
+            self.check_owner(owner)
+            if done is not None:
+                return self.check_done(done, lsn, after)
+            self.check_lsn(lsn, self.lsn)
+        raise Passing(f"{self.calls.where}: its streams are altered again and again meanwhile")
+
+    def check_owner(self, found: bytes | None) -> None:
+        if found is None:
+            raise Unfit(f"{self.calls.where}: something else has removed keys of the sink, {SINK} among them")
+        if found != self.owner:
+            told = shortened(found.decode(errors="replace"))
+            raise Unfit(f"{self.calls.where}: another sink has begun to write there, {told}, so this one ends")
+
+    def check_lsn(self, found: bytes | None, expected: bytes | None) -> None:
+        if found != expected:
+            told, should = (shortened((it or b"none").decode(errors="replace")) for it in (found, expected))
+            raise Unfit(f"{self.calls.where}: {LSN} is {told} in place of {should}, so something else has written it: this sink ends")
+
+    def check_done(self, done: list[Any], lsn: bytes | None, after: bytes | None) -> None:
+        with understood(self.calls.where):
+            wrong = [it for it in done if isinstance(it, Said) and not self.form.accepts(it)]
+        if wrong:
+            # (the others had their effect, so nothing may go on from there)
+            self.run([("DEL", LSN)])
+            raise EngineError(f"{self.calls.where}: keys of the sink were altered by something else, begin anew: {wrong[0]}")
+        self.check_lsn(lsn, after)
+        self.lsn = after
+
+    # ---- beginning
+
+    def begin(self, base: Base) -> None:
+        form = self.form
+        # (before this one takes over, since another one may have begun, and be fine)
+        self.check_lsn(self.two(ASK)[0], None)
+        self.take_over()
+        self.check_lsn(self.lsn, None)
+        with understood(self.calls.where):
+            self.left = [text_of(it) for it in list_of(parsed(self.run([("MGET", LOADING)])[0][0] or b"[]"))]
+        self.transact([*form.removals(self.left), ("DEL", LOADING)], self.lsn)
+        form.check_new()
+        tables = [it for it in map(self.relations.describe, base.tables()) if it]
+        if tables:
+            names = json.dumps([it.name for it in tables])
+            self.transact([("SET", LOADING, names)], self.lsn)
+            for kept in tables:
+                self.load(base, kept)
+        self.end, self.relations.is_changed = base.lsn, True
+        self.write([("SET", FEED, json.dumps(self.about)), ("DEL", LOADING)])
+
+    def load(self, base: Base, kept: Kept) -> None:
+        """Writes a table's rows, in parts."""
+        for n, row in enumerate(base.rows(kept.relation)):
+            self.form.put(kept, row, n, base.lsn)
+            if self.form.size() >= MOST:
+                self.check()
+                self.transact(self.form.commands(), self.lsn)
+                self.form.clear()
+
+    # ---- commits
+
+    def take(self, commit: Commit, read: Read) -> None:
+        described = dict[int, Optional[Kept]]()
+        for part in read():
+            if isinstance(part, TableLine):
+                described[part.relation.oid] = self.relations.describe(part.relation)
+            elif kept := described[part.relation.oid]:
+                self.form.change(kept, part, commit.end)
+        self.end = commit.end
+        if self.form.size() >= MOST:
+            self.settle()
+
+    def settle(self) -> None:
+        if self.end != self.at:
+            self.write([])
+
+    def write(self, more: Sequence[Command]) -> None:
+        """Writes what waits, with its LSN."""
+        text = lsn_text(self.end)
+        commands = [*self.form.commands(), *more, ("SET", LSN, text)]
+        tables = self.relations.text() if self.relations.is_changed else None
+        if tables is not None:
+            commands.append(("SET", TABLES, tables))
+        self.transact(commands, text.encode())
+        self.form.clear()
+        if tables is not None:
+            self.relations.saved, self.relations.is_changed = tables, False
+        self.reach(self.end)
+
+    def forget(self) -> None:
+        self.form.clear()
+        self.relations.load(self.relations.saved)
+        self.end = self.at
+
+    def look(self) -> None:
+        now = time.monotonic()
+        if now - self.looked > OFTEN:
+            self.looked = now
+            lsn, owner = self.two(ASK)
+            self.check_owner(owner)
+            self.check_lsn(lsn, self.lsn)
+
+    def finish(self, seconds: float) -> bool:
+        if self.calls.is_lost:
+            return False
+        self.calls.check = never
+        with contextlib.suppress(Stopped), at_most(seconds):
+            self.settle()
+            return True
+        return False
+
+    def check_disk(self) -> None:
+        self.disk.check()
+
+    def safe(self) -> int | None:
+        return self.disk.safe()
+
+    def close(self) -> None:
+        self.calls.close()

@@ -1,0 +1,210 @@
+"""A hash of Redis for each row: `stock:A-1` has the row of `stock` with the key `A-1`, its fields the values that aren't null.
+
+What waits is kept by keys: of several changes of one row only the last is written. Rows of a table that is truncated, gets another name
+or another shape are looked for among all keys.
+"""
+
+from __future__ import annotations
+
+import dataclasses
+import re
+from collections.abc import Iterable, Iterator, Sequence
+from typing import Union
+
+from pgsub_connect.errors import Unfit
+from ..formats.keys import NULL, row_text
+from ..reader.commits import Cell, Cells, Change, Missed
+from pgsub_connect.server.connection import Check
+from .redis_calls import Calls, Command, Said, raised, understood
+from .relations import Kept
+
+# How many keys one command has, and one step of a search looks at.
+KEYS, LOOKED = 500, 1000
+# What a row has in the place of values where all are null, since there are no empty hashes.
+EMPTY = ("", "")
+MOVING = "pgsub:moving:"
+SIGNS = re.compile(r"([][*?^\\-])")
+
+
+@dataclasses.dataclass(frozen=True)
+class Stored:
+    """A row as it is stored under a key, without some of its fields."""
+
+    key: str
+    dropped: tuple[str, ...] = ()
+
+
+# Names and values in turn.
+Fields = tuple[Union[str, bytes], ...]
+# What is under a key: no row, a new one, or one that was there.
+Value = Union[Fields, Stored, None]
+
+
+def fields_of(kept: Kept, cells: Sequence[Cell]) -> Fields:
+    found = tuple(it for name, cell in zip(kept.columns, cells, strict=True) if cell is not None for it in (name, cell))
+    return found or EMPTY
+
+
+def key_text(kept: Kept, cells: Sequence[Cell]) -> str:
+    return f"{kept.name}:{row_text(kept.key, cells)}"
+
+
+class Hashes:
+    """How rows are written."""
+
+    name, is_keyed_only = "hashes", True
+
+    def __init__(self, calls: Calls, check: Check) -> None:
+        self.calls, self.check = calls, check
+        self.waiting = dict[str, Value]()
+        # what keys that were there before began with
+        self.foreign = set[str]()
+
+    def size(self) -> int:
+        return len(self.waiting)
+
+    def clear(self) -> None:
+        self.waiting.clear()
+
+    def watched(self) -> list[str]:
+        return []
+
+    def prepare(self) -> None:
+        pass
+
+    def accepts(self, said: Said) -> bool:
+        # (a row that was evicted, or removed by somebody else, has no other key to get)
+        return "no such key" in str(said)
+
+    # ---- rows
+
+    def put(self, kept: Kept, row: Cells, n: int, lsn: int) -> None:
+        self.add(kept, row)
+
+    def add(self, kept: Kept, cells: Cells) -> None:
+        self.waiting[key_text(kept, cells)] = fields_of(kept, cells)
+
+    def change(self, kept: Kept, it: Change | Missed, lsn: int) -> None:
+        if isinstance(it, Missed):
+            return
+        if it.op == "t":
+            self.remove(kept)
+        if it.before is not None:
+            self.waiting[key_text(kept, it.before)] = None
+        if it.after is not None:
+            self.add(kept, it.after)
+
+    def rows(self, name: str) -> dict[str, Stored | Fields]:
+        """All rows of a table, as they are with what waits."""
+        begin, found = name + ":", dict[str, Union[Stored, Fields]]()
+        for key in self.scan(SIGNS.sub(r"\\\1", begin) + "*"):
+            if key not in self.waiting:
+                found[key] = Stored(key)
+        for key, value in self.waiting.items():
+            if value is not None and key.startswith(begin):
+                found[key] = value
+        return found
+
+    def scan(self, pattern: str) -> Iterator[str]:
+        cursor = b"0"
+        while True:
+            self.check()
+            said = self.calls.run([("SCAN", cursor, "MATCH", pattern, "COUNT", LOOKED)])[0]
+            if isinstance(said, Said):
+                raise raised(said, self.calls.where)
+            with understood(self.calls.where):
+                cursor, keys = said
+                is_end = int(cursor) == 0
+                # (what isn't UTF-8 is no key of a row)
+                found = [text for it in keys if isinstance(text := text_of(it), str)]
+            yield from found
+            if is_end:
+                return
+
+    # ---- tables
+
+    def check_new(self) -> None:
+        self.foreign = {begin for begin, sign, _ in (it.partition(":") for it in self.scan("*:*")) if sign}
+
+    def make(self, new: Kept) -> None:
+        if new.name in self.foreign:
+            raise Unfit(
+                f"{self.calls.where}: there are keys that begin with {new.name}: already, as those of {new.relation.text()} would: remove"
+                " them, or take another database"
+            )
+
+    def remove(self, old: Kept) -> None:
+        self.waiting.update(dict.fromkeys(self.rows(old.name)))
+
+    def removals(self, names: Iterable[str]) -> Iterator[Command]:
+        for name in names:
+            yield from unlinks(list(self.rows(name)))
+
+    def carry(self, old: Kept, new: Kept) -> None:
+        """Gives rows another name, another key, or the fields of another shape. (A new column is null, and so no field.)"""
+        dropped = tuple(set(old.columns) - set(new.columns))
+        is_same_key = old.keys == new.keys
+        if old.name == new.name and is_same_key and not dropped:
+            return
+        moved = dict[str, Value]()
+        rows = self.rows(old.name)
+        for key, value in rows.items():
+            is_plain = is_same_key and NULL not in key
+            other, left = (new.name + key[len(old.name) :], without(value, dropped)) if is_plain else self.rekeyed(old, new, value)
+            if other in moved:
+                text = f"two rows have one key, {other}, since the server didn't send what is in it: begin anew"
+                raise Unfit(f"{new.relation.text()}: {text}")
+            moved[other] = left
+        self.waiting.update(dict.fromkeys(rows))
+        self.waiting.update(moved)
+
+    def rekeyed(self, old: Kept, new: Kept, value: Stored | Fields) -> tuple[str, Stored | Fields]:
+        """A row's key and fields in another shape."""
+        found = dict(zip(value[::2], value[1::2])) if isinstance(value, tuple) else self.read(value)
+        cells: Cells = [found.get(name) if name in old.columns else None for name in new.columns]
+        return key_text(new, cells), fields_of(new, cells)
+
+    def read(self, value: Stored) -> dict[str | bytes, str | bytes]:
+        """A row that is stored."""
+        said = self.calls.run([("HGETALL", value.key)])[0]
+        if isinstance(said, Said):
+            raise raised(said, self.calls.where)
+        with understood(self.calls.where):
+            return {name.decode(): text_of(cell) for name, cell in zip(said[::2], said[1::2]) if name.decode() not in value.dropped}
+
+    # ---- commands
+
+    def commands(self) -> list[Command]:
+        waiting = self.waiting
+        moved = [(key, it.key) for key, it in waiting.items() if isinstance(it, Stored) and it.key != key]
+        commands: list[Command] = [("RENAME", old, f"{MOVING}{at}") for at, (_, old) in enumerate(moved)]
+        # (whatever a key has, a row takes its place)
+        commands += unlinks([key for key, it in waiting.items() if not isinstance(it, Stored)])
+        commands += [("RENAME", f"{MOVING}{at}", key) for at, (key, _) in enumerate(moved)]
+        for key, it in waiting.items():
+            if isinstance(it, tuple):
+                commands.append(("HSET", key, *it))
+            elif it and it.dropped:
+                commands.append(("HDEL", key, *it.dropped))
+        return commands
+
+
+def unlinks(keys: Sequence[str]) -> Iterator[Command]:
+    for at in range(0, len(keys), KEYS):
+        yield ("UNLINK", *keys[at : at + KEYS])
+
+
+def without(value: Stored | Fields, dropped: tuple[str, ...]) -> Stored | Fields:
+    """A row without some of its fields."""
+    if isinstance(value, Stored):
+        return Stored(value.key, tuple({*value.dropped, *dropped}))
+    left = tuple(it for name, cell in zip(value[::2], value[1::2]) if name not in dropped for it in (name, cell))
+    return left or EMPTY
+
+
+def text_of(cell: bytes) -> str | bytes:
+    """A value as it is stored: bytes that aren't UTF-8 are a binary value."""
+    try:
+        return cell.decode()
+    except UnicodeDecodeError:
+        return cell

@@ -1,0 +1,89 @@
+"""A stream of Redis for each table: an entry for each change, its id the LSN at which its commit ends and its number in there."""
+
+from __future__ import annotations
+
+from collections.abc import Iterable, Iterator
+
+from pgsub_connect.errors import Unfit
+from ..reader.commits import Cells, Change, Missed
+from .entries import base_entry, entry
+from .redis_calls import Calls, Command, Said, raised, understood
+from .relations import Kept
+
+NONE = (0, 0)
+
+
+class Streams:
+    """How changes are written."""
+
+    name, is_keyed_only = "streams", False
+
+    def __init__(self, calls: Calls) -> None:
+        self.calls = calls
+        self.waiting = list[Command]()
+        # by stream the first id of what waits
+        self.first = dict[str, tuple[int, int]]()
+
+    def size(self) -> int:
+        return len(self.waiting)
+
+    def clear(self) -> None:
+        self.waiting.clear()
+        self.first.clear()
+
+    def add(self, kept: Kept, lsn: int, n: int, told: dict[str, str]) -> None:
+        self.first.setdefault(kept.name, (lsn, n))
+        self.waiting.append(("XADD", kept.name, f"{lsn}-{n}", *(it for pair in told.items() for it in pair)))
+
+    def put(self, kept: Kept, row: Cells, n: int, lsn: int) -> None:
+        self.add(kept, lsn, n, base_entry(kept.relation, row))
+
+    def change(self, kept: Kept, it: Change | Missed, lsn: int) -> None:
+        self.add(kept, lsn, it.n, entry(it))
+
+    def watched(self) -> list[str]:
+        return list(self.first)
+
+    def prepare(self) -> None:
+        """Rejects a stream that has later entries than those that wait, or a key that is none."""
+        said = self.calls.run([("XINFO", "STREAM", it) for it in self.first])
+        for (stream, first), it in zip(self.first.items(), said, strict=True):
+            last = self.last(stream, it)
+            if last >= first:
+                text = "{}-{} isn't above {}-{}, which it has".format(*first, *last)
+                raise Unfit(f"{self.calls.where}: something else has written the stream {stream}: {text}. Take another database")
+
+    def last(self, stream: str, said: object) -> tuple[int, int]:
+        if isinstance(said, Said):
+            if "no such key" in str(said):
+                return NONE
+            if str(said).startswith("WRONGTYPE"):
+                raise Unfit(f"{self.calls.where}: the key {stream} is there already, and isn't a stream: take another database")
+            raise raised(said, self.calls.where)
+        with understood(self.calls.where):
+            if not isinstance(said, list):
+                raise TypeError("no list")
+            milliseconds, _, number = dict(zip(said[::2], said[1::2]))[b"last-generated-id"].partition(b"-")
+            return int(milliseconds), int(number)
+
+    def accepts(self, said: Said) -> bool:
+        return False
+
+    def commands(self) -> list[Command]:
+        return list(self.waiting)
+
+    def check_new(self) -> None:
+        pass
+
+    def make(self, new: Kept) -> None:
+        pass
+
+    def carry(self, old: Kept, new: Kept) -> None:
+        pass
+
+    def remove(self, old: Kept) -> None:
+        pass
+
+    def removals(self, names: Iterable[str]) -> Iterator[Command]:
+        for name in names:
+            yield ("UNLINK", name)

@@ -1,0 +1,1 @@
+"""Tables of SQLite that follow a feed: the file, its values and names, and how commits change it."""

@@ -1,0 +1,399 @@
+"""A file of tables that follows a feed.
+
+| Table | Has |
+|---|---|
+| `pgsub_position` | `lsn`, the end of the last commit whose changes are in it |
+| `pgsub_tables` | by `name`, that of a table here: `schema`, `table` and `oid` of the publisher's |
+| `pgsub_relations` | by `oid` the definition that was told last, as in the feed, and the table here, null of one that wasn't chosen, or is set aside |
+| `pgsub_feed` | the folder of the feed, what it is a feed of, and the tables that were chosen |
+| `pgsub_aside` | by `oid` the tables that are set aside, as the module `asides` says |
+| `pgsub_digests` | where that was asked for, by `oid` a digest of the table's rows, as the module `digesting` says |
+| any other | the rows of one of the publisher's tables |
+
+Where another table got the name of one, the older one's rows are in `pgsub_old OID`: it may come back under another name.
+"""
+
+from __future__ import annotations
+
+import json
+import sqlite3
+
+from .. import log
+from pgsub_connect.server.catalog import Column, Shape
+from pgsub_connect.errors import FileError, Passing, Unfit
+from pgsub_connect.store.export import NONE, key_index
+from .names import OLD, POSITION, TABLES, distinct_name, folded, names_of, told_columns
+from pgsub_connect.drift.remembered import Relation
+from ..texts import identifier, lsn_text, parse_lsn
+from .set_aside import Asides, CANT_KEEP, Unkept, is_of_table, nested, reason
+from .reshape import LOOSE, carry, loosen, sources
+from ..reader.lines import read_relation
+from .digests import Digests, has_digests
+from .digests import FORMAT as WITH_DIGESTS
+from .digests import SCHEMA as DIGESTS_SCHEMA
+from .user_sql import Init
+from .table import IS_MINUS_ZERO, Kept, is_minus_zero, rows_index
+from .primary_keys import Keys, inherited, primary_in
+from ..reader.commits import Head
+
+APPLICATION, FORMAT = 0x70677374, 1
+RELATIONS, FEED = "pgsub_relations", "pgsub_feed"
+# What the name of an older table begins with whose name another one got.
+OLDER = OLD + " "
+# How long to wait for others that write the file or read it, in seconds.
+BUSY = 60.0
+# A type for each kind of column, of a table whose definition isn't known.
+TYPES = {"INTEGER": 20, "BLOB": 17, "ANY": 701}
+SCHEMA = (
+    f"CREATE TABLE {POSITION} (lsn TEXT NOT NULL) STRICT",
+    f'CREATE TABLE {TABLES} (name TEXT PRIMARY KEY, schema TEXT NOT NULL, "table" TEXT NOT NULL, oid INTEGER NOT NULL) STRICT',
+    f"INSERT INTO {POSITION} VALUES ('0/0')",
+)
+MORE = (
+    f"CREATE TABLE {RELATIONS} (oid INTEGER PRIMARY KEY, name TEXT, definition TEXT) STRICT",
+    f"CREATE TABLE {FEED} (folder TEXT NOT NULL, system TEXT, database TEXT, slot TEXT, chosen TEXT NOT NULL) STRICT",
+    f"PRAGMA application_id = {APPLICATION}",
+    f"PRAGMA user_version = {FORMAT}",
+)
+
+
+def relation_text(it: Relation) -> str:
+    """A definition as the feed has it."""
+    columns = [[column.name, column.type_oid, column.modifier] for column in it.shape.columns]
+    key = [column.name for column in it.shape.columns if column.key] or None
+    told = {"oid": it.oid, "schema": it.namespace, "table": it.name, "identity": it.shape.identity, "key": key, "columns": columns}
+    return json.dumps(told, ensure_ascii=False, separators=(",", ":"))
+
+
+def full_name(relation: Relation) -> tuple[str, str]:
+    return relation.namespace or "pg_catalog", relation.name
+
+
+def unlisted(db: sqlite3.Connection, name: str, schema: str, table: str, oid: int) -> Relation:
+    """What is known of a table of an export."""
+    info = db.execute("SELECT name, type, pk FROM pragma_table_info(?)", (name,)).fetchall()
+    if [column for column, _, _ in info] == [NONE.name]:
+        info = []
+    indexed = {column for (column,) in db.execute("SELECT name FROM pragma_index_info(?)", (key_index(oid),))}
+    keys = {column for column, _, at in info if at} or indexed
+    columns = tuple(Column(column, TYPES.get(kind, 25), -1, column in keys) for column, kind, _ in info)
+    return Relation(oid, schema, table, Shape("d" if keys else "f", columns))
+
+
+class Rows:
+    """The file, open for writing. All that is done to it is in a transaction, which `settle` commits with an LSN."""
+
+    def __init__(self, path: str, init: Init | None = None, store: str = "") -> None:
+        self.path, self.init, self.keys = path, init, Keys(store)
+        self.db = sqlite3.connect(path, timeout=BUSY, isolation_level=None, cached_statements=2000)
+        self.asides = Asides(self.db, path)
+        try:
+            self.set_up()
+            self.reload()
+        except BaseException:
+            self.db.close()
+            raise
+
+    def set_up(self) -> None:
+        if self.db.execute("PRAGMA user_version").fetchone()[0] not in (FORMAT, WITH_DIGESTS):
+            raise FileError(f"{self.path}: another version of {log.PROGRAM} has made the file")
+        if self.db.execute("PRAGMA journal_mode = WAL").fetchone()[0] != "wal":
+            raise FileError(f"{self.path}: SQLite can't keep a log beside the file there")
+        # (what a power cut takes, the feed still has)
+        for pragma in ("synchronous = NORMAL", "legacy_alter_table = ON", "foreign_keys = OFF", "cache_size = -32000"):
+            self.db.execute(f"PRAGMA {pragma}")
+        self.db.create_function(IS_MINUS_ZERO, 1, is_minus_zero, deterministic=True)
+
+    def reload(self) -> None:
+        """Reads what the file has."""
+        db = self.db
+        self.at = self.position()
+        self.kept: dict[int, Kept] = {}
+        self.left_out: set[int] = set()
+        # those that have a name of the publisher's, by that as SQLite compares it, and by the publisher's
+        self.names: dict[str, Kept] = {}
+        self.holders: dict[tuple[str, str], Kept] = {}
+        self.asides.load()
+        self.untold: set[int] = set()
+        self.is_init_due = False
+        tables = {oid: (name, schema, table) for name, schema, table, oid in db.execute(f"SELECT * FROM {TABLES}")}
+        for oid, name, definition in db.execute(f"SELECT * FROM {RELATIONS}").fetchall():
+            if name is None:
+                self.left_out |= {oid} - self.asides.known.keys()
+                continue
+            if definition is None:
+                self.untold.add(oid)
+            relation = read_relation(json.loads(definition)) if definition else unlisted(db, *tables[oid], oid)
+            self.load(name, relation)
+        chosen = db.execute(f"SELECT chosen FROM {FEED}").fetchone()
+        self.chosen = set(json.loads(chosen[0])) if chosen else set[str]()
+        self.digests = Digests(db) if has_digests(db) else None
+
+    def load(self, name: str, relation: Relation) -> None:
+        keys = self.db.execute("SELECT cid FROM pragma_table_info(?) WHERE pk", (name,)).fetchall()
+        primary = primary_in(relation, [at for (at,) in keys])
+        kept = Kept(name, relation, primary, is_loose=not keys)
+        indexes = [key_index(relation.oid), rows_index(relation.oid)]
+        kept.has_index = bool(self.db.execute("SELECT 1 FROM sqlite_schema WHERE type = 'index' AND name IN (?, ?)", indexes).fetchone())
+        if relation.oid in self.untold:
+            names = told_columns(it.name for it in relation.shape.columns)
+            kept.others = {it: at for at, it in enumerate(names)}
+        self.kept[relation.oid] = kept
+        if not name.startswith(OLDER):
+            self.hold(kept)
+
+    def hold(self, kept: Kept) -> None:
+        """A table has its name."""
+        self.names[folded(kept.name)] = self.holders[full_name(kept.relation)] = kept
+
+    def position(self) -> int:
+        return parse_lsn(self.db.execute(f"SELECT lsn FROM {POSITION}").fetchone()[0])
+
+    def begin(self) -> None:
+        """Begins a transaction, unless one is open."""
+        if not self.db.in_transaction:
+            self.db.execute("BEGIN IMMEDIATE")
+            if self.position() != self.at:
+                # (one that is about to end, since what has started it was killed)
+                raise Passing(f"{self.path}: another process has written it meanwhile")
+
+    def settle(self, at: int) -> None:
+        """Ends the transaction: the rows are those after the commit that ends there."""
+        if self.db.in_transaction:
+            if self.digests:
+                self.digests.write()
+            self.db.execute(f"UPDATE {POSITION} SET lsn = ?", (lsn_text(at),))
+            self.db.execute("COMMIT")
+            self.at = at
+            if self.asides.known or self.asides.told:
+                self.asides.tell(read_folder(self.db))
+
+    def roll_back(self) -> None:
+        if self.db.in_transaction:
+            self.db.execute("ROLLBACK")
+            self.reload()
+
+    def reload_within(self) -> None:
+        """Reads what the file has once a part of the transaction was undone."""
+        is_init_due = self.is_init_due
+        if self.digests:
+            self.digests.write()
+        self.reload()
+        self.is_init_due = is_init_due
+
+    def close(self, is_orderly: bool) -> None:
+        """Closes the file. At an orderly end it needs no log, unless somebody reads it just then."""
+        if self.db.in_transaction:
+            self.db.execute("ROLLBACK")
+        if is_orderly:
+            self.db.execute("PRAGMA busy_timeout = 200")
+            try:
+                self.db.execute("PRAGMA wal_checkpoint(TRUNCATE)")
+                self.db.execute("PRAGMA journal_mode = DELETE")
+            except sqlite3.OperationalError:
+                # (it is locked)
+                pass
+        self.db.close()
+
+    # ---- what it is kept of
+
+    def note_folder(self, folder: str) -> None:
+        """Notes where the feed is, for those who wait."""
+        if read_folder(self.db) != folder:
+            self.begin()
+            self.db.execute(f"UPDATE {FEED} SET folder = CAST(? AS TEXT)", (path_bytes(folder),))
+            self.settle(self.at)
+
+    def check_source(self, head: Head) -> None:
+        """Notes what the feed is a feed of, or rejects one of something else."""
+        system, database, slot = self.db.execute(f"SELECT system, database, slot FROM {FEED}").fetchone()
+        if system is None:
+            self.begin()
+            self.db.execute(f"UPDATE {FEED} SET system = ?, database = ?, slot = ?", head.source())
+            self.settle(self.at)
+        elif (system, database, slot) != head.source():
+            was = Head(0, system, database, slot)
+            raise Unfit(f"{self.path} has rows of {was.text()}, and the feed is of {head.text()}")
+
+    def keep_digests(self) -> None:
+        """Keeps a digest of each table from now on. (One whose definition wasn't told gets it with that.)"""
+        self.begin()
+        self.db.execute(DIGESTS_SCHEMA)
+        self.db.execute(f"PRAGMA user_version = {WITH_DIGESTS}")
+        self.digests = Digests(self.db)
+        for kept in self.kept.values():
+            if kept.oid not in self.untold:
+                self.digests.add_up(kept)
+        self.settle(self.at)
+
+    def is_chosen(self, relation: Relation) -> bool:
+        return not self.chosen or bool(self.chosen & names_of(relation.namespace, relation.name))
+
+    # ---- its tables
+
+    def describe(self, relation: Relation, at: int) -> Kept | None:
+        """The table of a relation, in the shape that was told last, by the commit that ends there. None of one that
+        wasn't chosen, or is set aside."""
+        kept = self.kept.get(relation.oid)
+        is_older = kept is not None and kept.name.startswith(OLDER)
+        if kept and kept.relation == relation and relation.oid not in self.untold and not is_older:
+            return self.attempt(relation, at) if self.keys.has_news(relation) else kept
+        if not self.is_chosen(relation):
+            self.leave_out(relation, kept)
+            return None
+        if relation.oid in self.asides.known:
+            self.asides.rename(relation)
+            return None
+        return self.attempt(relation, at)
+
+    def attempt(self, relation: Relation, at: int) -> Kept | None:
+        """Makes a table, or gives it another name or shape; where that can't be, sets it aside."""
+        try:
+            with nested(self.db):
+                return self.shape(relation)
+        except CANT_KEEP as error:
+            if not is_of_table(error):
+                raise
+            why = reason(error)
+        self.reload_within()
+        self.set_aside(relation, at, why)
+        return None
+
+    def shape(self, relation: Relation) -> Kept:
+        kept = self.kept.get(relation.oid)
+        if relation.oid in self.left_out:
+            raise Unkept(relation, "it had another name before, which wasn't chosen: its rows from then are missing")
+        name = self.claim(relation, kept)
+        before = kept and relation.oid not in self.untold and kept.relation.shape.columns
+        primary = self.keys.of(relation)
+        if kept is None:
+            kept = Kept(name, relation, primary or ())
+            kept.make(self.db)
+        else:
+            primary = inherited(kept, relation) if primary is None else primary
+            self.rename(kept, name)
+            kept = self.reshaped(kept, Kept(name, relation, primary))
+        self.is_init_due = True
+        self.note(kept)
+        if self.digests and before != relation.shape.columns:
+            self.digests.add_up(kept)
+        return kept
+
+    def claim(self, relation: Relation, kept: Kept | None) -> str:
+        """The name of a relation's table. Another table that has the same name at the publisher is moved aside."""
+        named = full_name(relation)
+        holder = self.holders.get(named)
+        if holder and holder.oid != relation.oid:
+            self.rename(holder, OLDER + str(holder.oid))
+            self.note(holder)
+        elif holder:
+            return holder.name
+        own = {folded(kept.name)} if kept else set[str]()
+        return distinct_name(relation.oid, *named, self.names.keys() - own if own else self.names.keys())
+
+    def set_aside(self, relation: Relation, at: int, why: str) -> None:
+        """Leaves a table out from the commit that ends there on, until its rows come anew."""
+        if kept := self.kept.get(relation.oid):
+            self.drop(kept)
+        self.left_out.discard(relation.oid)
+        self.db.execute(f"INSERT OR REPLACE INTO {RELATIONS} VALUES (?, NULL, NULL)", (relation.oid,))
+        self.asides.put(relation, at, why)
+
+    def take_up(self, relation: Relation, at: int) -> Kept | None:
+        """Makes a table again that was set aside: all of its rows come."""
+        self.asides.drop(relation.oid)
+        self.db.execute(f"DELETE FROM {RELATIONS} WHERE oid = ?", (relation.oid,))
+        return self.describe(relation, at)
+
+    def rename(self, kept: Kept, name: str) -> None:
+        if kept.name == name:
+            return
+        self.db.execute(f"ALTER TABLE {identifier(kept.name)} RENAME TO {OLD}")
+        self.db.execute(f"ALTER TABLE {OLD} RENAME TO {identifier(name)}")
+        self.forget(kept)
+        kept.rename(name)
+
+    def reshaped(self, old: Kept, new: Kept) -> Kept:
+        """Makes a table have a new shape, where it is another one."""
+        was, now = old.target, new.target
+        is_same = (was.columns, was.key) == (now.columns, now.key) and [it[0] for it in was.kinds] == [it[0] for it in now.kinds]
+        if is_same and (old.oid in self.untold or sources(old, new) == list(range(new.width))):
+            same = Kept(new.name, new.relation, new.primary, is_loose=not was.is_keyed)
+            same.has_index = old.has_index
+            return same
+        return carry(self.db, old, new)
+
+    def rekeyed(self, kept: Kept) -> Kept:
+        """Gives a table that is empty now the primary key that the server has."""
+        primary = self.keys.of(kept.relation)
+        new = Kept(kept.name, kept.relation, primary or ())
+        if not primary or (new.target.key == kept.target.key and kept.target.is_keyed):
+            return kept
+        with nested(self.db):
+            kept = carry(self.db, kept, new)
+        self.is_init_due = True
+        self.note(kept)
+        return kept
+
+    def loosen(self, kept: Kept) -> Kept:
+        log.warning(f"{kept.relation.text()}: {LOOSE}")
+        with nested(self.db):
+            kept = loosen(self.db, kept)
+        self.is_init_due = True
+        self.note(kept)
+        return kept
+
+    def drop(self, kept: Kept) -> None:
+        self.db.execute(f"DROP TABLE IF EXISTS {identifier(kept.name)}")
+        self.db.execute(f"DELETE FROM {RELATIONS} WHERE oid = ?", (kept.oid,))
+        self.forget(kept)
+        del self.kept[kept.oid]
+        if self.digests:
+            self.digests.drop(kept.oid)
+
+    def leave_out(self, relation: Relation, kept: Kept | None) -> None:
+        if kept:
+            self.drop(kept)
+        self.asides.drop(relation.oid)
+        if relation.oid not in self.left_out:
+            self.left_out.add(relation.oid)
+            self.db.execute(f"INSERT OR REPLACE INTO {RELATIONS} VALUES (?, NULL, NULL)", (relation.oid,))
+
+    def forget(self, kept: Kept) -> None:
+        """Takes a table's name away."""
+        if self.names.get(folded(kept.name)) is kept:
+            del self.names[folded(kept.name)]
+        if self.holders.get(full_name(kept.relation)) is kept:
+            del self.holders[full_name(kept.relation)]
+        self.db.execute(f"DELETE FROM {TABLES} WHERE oid = ?", (kept.oid,))
+
+    def note(self, kept: Kept) -> None:
+        """Writes down a table's name and definition."""
+        relation = kept.relation
+        before = self.kept.get(kept.oid)
+        if before:
+            self.forget(before)
+        self.kept[kept.oid] = kept
+        self.untold.discard(kept.oid)
+        if not kept.name.startswith(OLDER):
+            self.hold(kept)
+            named = (kept.name, relation.namespace or "pg_catalog", relation.name, kept.oid)
+            self.db.execute(f"INSERT INTO {TABLES} VALUES (?, ?, ?, ?)", named)
+        self.db.execute(f"INSERT OR REPLACE INTO {RELATIONS} VALUES (?, ?, ?)", (kept.oid, kept.name, relation_text(relation)))
+
+    def initialize(self) -> None:
+        """Runs what the user wants to have run after a table was made or altered."""
+        if self.is_init_due and self.init:
+            self.init.run(self.db)
+        self.is_init_due = False
+
+
+def path_bytes(path: str) -> bytes:
+    """A path for SQLite, which takes no text for one that is no UTF-8."""
+    return path.encode(errors="surrogateescape")
+
+
+def read_folder(db: sqlite3.Connection) -> str:
+    """The folder of the feed."""
+    folder: bytes = db.execute(f"SELECT CAST(folder AS BLOB) FROM {FEED}").fetchone()[0]
+    return folder.decode(errors="surrogateescape")

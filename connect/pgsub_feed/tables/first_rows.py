@@ -1,0 +1,153 @@
+"""A new file of tables: empty, with the rows of an export, or a copy of another such file."""
+
+from __future__ import annotations
+
+import contextlib
+import dataclasses
+import json
+import os
+import sqlite3
+import urllib.parse
+from collections.abc import Iterable, Iterator
+from typing import TYPE_CHECKING
+
+from pgsub_connect.errors import FileError, Passing, Unfit
+from pgsub_connect.store.export import run as export
+from .names import POSITION, TABLES, names_of
+from ..ownership import real
+from pgsub_connect.store.placing import placed
+from pgsub_connect.server.connection import Check
+from pgsub_connect.store.at_rest import is_followed, own_name
+from pgsub_connect.store.snapshot import copy, remove
+from pgsub_connect.store.file import APPLICATION_AT, MAGIC, is_export
+from ..texts import identifier, lsn_text, parse_lsn
+from ..reader.positions import Noted
+from ..reader.polling import Poll
+from ..reader.segments import Reader, read_confirmed, segments
+from .file import APPLICATION, FEED, MORE, RELATIONS, SCHEMA, path_bytes
+
+if TYPE_CHECKING:
+    from pgsub_connect.commands.options import Options
+
+
+def is_tables(path: str) -> bool:
+    """Whether a file is one of tables that follow a feed."""
+    with open(path, "rb") as file:
+        head = file.read(100)
+    return head.startswith(MAGIC) and int.from_bytes(head[APPLICATION_AT : APPLICATION_AT + 4], "big") == APPLICATION
+
+
+def opened(path: str) -> sqlite3.Connection:
+    """Opens a file of tables for reading."""
+    name = f"file:{urllib.parse.quote(os.fsencode(os.path.abspath(path)))}?mode=ro"
+    return sqlite3.connect(name, uri=True, timeout=10.0, isolation_level=None)
+
+
+def check_file(path: str) -> None:
+    """Rejects a file that can't be made, or is there and isn't one of tables that follow a feed."""
+    folder = os.path.dirname(real(path))
+    if not os.path.isdir(folder):
+        raise FileError(f"--into {path}: there is no folder {folder}")
+    if os.path.lexists(path) and not (os.path.isfile(path) and is_tables(path)):
+        raise FileError(f"{path} is there and has no tables that follow a feed: remove it, or name another file")
+
+
+@contextlib.contextmanager
+def keeping(options: Options) -> Iterator[None]:
+    """Keeps the segments that a new reader with a name needs, while its first rows are made. Where that fails its name goes again."""
+    bases = [base for base, _ in segments(options.feed)] if options.reader else []
+    if not options.reader or not bases:
+        yield
+        return
+    at, noted = begins_at(options), Noted(options.feed, options.reader, None, options.mode)
+    # (the rows may be taken back from there)
+    at = at if options.at is None else min(at, options.at)
+    was_there = os.path.exists(noted.path)
+    noted.note(max((it for it in bases if it <= at), default=bases[0]), is_last=True)
+    try:
+        yield
+    except BaseException:
+        if not was_there:
+            remove(noted.path)
+        raise
+
+
+def begins_at(options: Options) -> int:
+    """An LSN that a new reader's first rows aren't below, 0 where none is known."""
+    if options.base:
+        with contextlib.suppress(OSError, sqlite3.Error, TypeError, ValueError), contextlib.closing(opened(options.base)) as db:
+            return parse_lsn(db.execute(f"SELECT lsn FROM {POSITION}").fetchone()[0])
+        return 0
+    # (the copy that a follower makes has all that is confirmed)
+    return read_confirmed(options.feed) or 0 if options.store and is_followed(options.store) else 0
+
+
+def make(options: Options, check: Check) -> None:
+    """Makes the file."""
+    if options.base:
+        make_from(options.base, options, check)
+    elif options.store:
+        base = own_name(options.into + ".base")
+        try:
+            export(dataclasses.replace(options, command="export", into=base, table=[]), check)
+            make_from(base, options, check)
+        finally:
+            remove(base)
+    else:
+        check_begin(options, check)
+        make_from(None, options, check)
+
+
+def make_from(base: str | None, options: Options, check: Check) -> None:
+    """Makes the file with the rows of another one, or empty."""
+    folder = os.path.abspath(options.feed)
+    if base and not (os.path.isfile(base) and (is_export(base) or is_tables(base))):
+        raise FileError(f"--base {base}: it is no export, nor a file of tables that follow a feed")
+    with placed(options.into, options.mode) as new:
+        if base and is_tables(base):
+            clone(base, new)
+            return
+        if base:
+            remove(new)
+            copy(base, new, 0o600, check)
+        with contextlib.closing(sqlite3.connect(new, isolation_level=None)) as db:
+            prepare(db, folder, options.table, bool(base))
+
+
+def prepare(db: sqlite3.Connection, folder: str, chosen: Iterable[str], is_base: bool) -> None:
+    """Makes a new file, or an export, one that follows a feed."""
+    db.execute("BEGIN IMMEDIATE")
+    for statement in (() if is_base else SCHEMA) + MORE:
+        db.execute(statement)
+    names = sorted(set(chosen))
+    db.execute(f"INSERT INTO {FEED} VALUES (CAST(? AS TEXT), NULL, NULL, NULL, ?)", (path_bytes(folder), json.dumps(names)))
+    for name, schema, table, oid in db.execute(f"SELECT * FROM {TABLES}").fetchall():
+        if not names or set(names) & names_of(schema, table):
+            db.execute(f"INSERT INTO {RELATIONS} VALUES (?, ?, NULL)", (oid, name))
+        else:
+            db.execute(f"DROP TABLE {identifier(name)}")
+            db.execute(f"DELETE FROM {TABLES} WHERE oid = ?", (oid,))
+            db.execute(f"INSERT INTO {RELATIONS} VALUES (?, NULL, NULL)", (oid,))
+    db.execute("COMMIT")
+
+
+def clone(base: str, new: str) -> None:
+    """Copies a file that may be in use."""
+    with contextlib.closing(opened(base)) as source, contextlib.closing(sqlite3.connect(new, isolation_level=None)) as db:
+        source.backup(db)
+        db.execute("PRAGMA journal_mode = DELETE")
+
+
+def check_begin(options: Options, check: Check) -> None:
+    """Waits for the feed's first segment, which has to be that of a copy that was empty."""
+    with contextlib.closing(Reader(options.feed)) as reader:
+        poll = Poll(reader, not options.once, check)
+        while poll.next() is None and reader.segment is None and not options.once:
+            poll.rest()
+        if reader.segment is None:
+            raise Passing(f"{options.feed}: the feed has no segment yet")
+        if reader.segment.base:
+            raise Unfit(
+                f"{options.feed}: the feed begins at {lsn_text(reader.segment.base)}, and there may be rows from before: name the store"
+                " by --store, or an export since then by --base"
+            )

@@ -1,0 +1,89 @@
+"""Names of tables and columns in SQLite, which can't tell all of the publisher's apart.
+
+An export and a file that follows a feed name a table by one rule: its own name in `public`, else
+with the schema; `_` before it where SQLite or such a file keeps the name for itself; and the OID
+behind it where another table has the name, as SQLite compares it. In an export the one with the
+smaller OID has it, and in a file that follows the one that was told first.
+"""
+
+from __future__ import annotations
+
+from collections.abc import Collection, Iterable
+
+from ..texts import identifier
+
+# Tables of an export itself.
+POSITION, TABLES = "pgsub_position", "pgsub_tables"
+# What a table is called while it is made anew.
+OLD = "pgsub_old"
+# What SQLite and these files keep for themselves.
+RESERVED = ("sqlite_", "pgsub_")
+
+
+def folded(name: str) -> str:
+    """A name as SQLite compares it: without the case of ASCII letters."""
+    return "".join(chr(ord(it) + 32) if "A" <= it <= "Z" else it for it in name)
+
+
+def table_name(schema: str, table: str) -> str:
+    """The name that a table gets where nothing else has it: its own in `public`, and else with the schema."""
+    return table if schema == "public" else f"{schema or 'pg_catalog'}.{table}"
+
+
+def names_of(schema: str, table: str) -> set[str]:
+    """The names by which a table may be chosen: each part as it is, or quoted as in SQL."""
+    tables = written(table)
+    with_schema = {f"{one}.{other}" for one in written(schema or "pg_catalog") for other in tables}
+    return with_schema | tables if schema == "public" else with_schema
+
+
+def written(name: str) -> set[str]:
+    return {name, identifier(name)}
+
+
+def usable_name(schema: str, table: str) -> str:
+    """The same, with something before it where it is kept for others."""
+    name = table_name(schema, table)
+    return f"_{name}" if folded(name).startswith(RESERVED) else name
+
+
+def distinct_name(oid: int, schema: str, table: str, taken: Collection[str]) -> str:
+    """The name of a table where these are taken, as SQLite compares them."""
+    name = usable_name(schema, table)
+    return unused(name, f"{name} {oid}", taken)
+
+
+def name_tables(tables: Iterable[tuple[int, str, str]]) -> dict[int, str]:
+    """By OID the name of each table, given with schema and name."""
+    taken, names = set[str](), dict[int, str]()
+    for oid, schema, table in sorted(tables):
+        names[oid] = distinct_name(oid, schema, table, taken)
+        taken.add(folded(names[oid]))
+    return names
+
+
+def unused(name: str, second: str, taken: Collection[str]) -> str:
+    """The first of these names that isn't taken."""
+    found = second if folded(name) in taken else name
+    while folded(found) in taken:
+        found += "_"
+    return found
+
+
+def told_columns(names: Iterable[str]) -> list[str]:
+    """The names that columns may have at the publisher whose names here are these, as `name_columns` gave them."""
+    taken, found = set[str](), []
+    for number, name in enumerate(names, 1):
+        first = name.rstrip("_").removesuffix(f" {number}")
+        found.append(first if folded(first) in taken else name)
+        taken.add(folded(name))
+    return found
+
+
+def name_columns(columns: Iterable[str]) -> list[str]:
+    """The names of a table's columns, with a number where SQLite has the name already."""
+    taken, found = set[str](), []
+    for number, column in enumerate(columns, 1):
+        found.append(unused(column, f"{column} {number}", taken))
+        taken.add(folded(found[-1]))
+    return found

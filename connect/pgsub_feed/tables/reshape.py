@@ -1,0 +1,121 @@
+"""A table's rows in another shape: each column has the values of the one that had its name, and a new one null.
+
+The server says how it altered a table, and not what it made of the rows. Where a column's type in SQLite is another one, each value
+is printed as the server prints those of the old type, and read as one of the new.
+"""
+
+from __future__ import annotations
+
+import contextlib
+import sqlite3
+from collections.abc import Iterator
+
+from .. import log
+from pgsub_connect.server.catalog import Column
+from pgsub_connect.store.export import Bound, key_index, with_columns
+from .floats import printed_float
+from .names import OLD
+from ..texts import identifier
+from .values import BOOL, FLOAT4
+from .table import Kept, Valued, rows_index
+from ..reader.commits import Cell
+
+# What is told of a table whose key is none of SQLite's.
+LOOSE = "rows have null in the key, or equal keys: the table has an index in place of a primary key"
+
+
+def printed(column: Column, value: Bound) -> Cell:
+    """A value of SQLite as the server prints it."""
+    if value is None or isinstance(value, str):
+        return value
+    if isinstance(value, bytes):
+        return "\\x" + value.hex()
+    if isinstance(value, float):
+        return printed_float(value, column.type_oid == FLOAT4)
+    return ("t" if value else "f") if column.type_oid == BOOL else str(value)
+
+
+def sources(old: Valued, new: Valued) -> list[int | None]:
+    """For each column of a shape the number of the old shape's that has its name."""
+    named = dict[str, int]()
+    for at, column in enumerate(with_columns(old.relation).shape.columns):
+        named.setdefault(column.name, at)
+    for name, at in old.others.items():
+        named.setdefault(name, at)
+    return [named.get(column.name) for column in with_columns(new.relation).shape.columns]
+
+
+def carry(db: sqlite3.Connection, old: Kept, new: Kept) -> Kept:
+    """Makes a table that is there into one of another shape, with its rows. Returns it."""
+    if extend(db, old, new):
+        return new
+    for index in (key_index(old.oid), rows_index(old.oid)):
+        db.execute(f"DROP INDEX IF EXISTS {identifier(index)}")
+    db.execute(f"ALTER TABLE {identifier(old.name)} RENAME TO {OLD}")
+    with contextlib.closing(db.cursor()) as cursor:
+        if not has_null_keys(db, old, new):
+            new.make(db)
+            try:
+                put(cursor, old, new)
+                return finish(db, new)
+            except sqlite3.IntegrityError:
+                db.execute(f"DROP TABLE {identifier(new.name)}")
+        log.warning(f"{new.relation.text()}: {LOOSE}")
+        new = Kept(new.name, new.relation, new.primary, is_loose=True)
+        new.make(db)
+        put(cursor, old, new)
+    return finish(db, new)
+
+
+def finish(db: sqlite3.Connection, new: Kept) -> Kept:
+    db.execute(f"DROP TABLE {OLD}")
+    return new
+
+
+def loosen(db: sqlite3.Connection, kept: Kept) -> Kept:
+    """Makes a table anew whose key can't be a primary key."""
+    return carry(db, kept, Kept(kept.name, kept.relation, kept.primary, is_loose=True))
+
+
+def extend(db: sqlite3.Connection, old: Kept, new: Kept) -> bool:
+    """Adds columns to the table that is there, where nothing else was altered; whether that was so."""
+    was, now, count = old.target, new.target, old.width
+    if (was.columns, was.key, was.is_keyed) != (now.columns[:count], now.key, now.is_keyed):
+        return False
+    if [it[0] for it in was.kinds] != [it[0] for it in now.kinds[:count]] or sources(old, new)[:count] != list(range(count)):
+        return False
+    for column, (kind, _, _) in list(zip(now.columns, now.kinds, strict=True))[count:]:
+        db.execute(f"ALTER TABLE {identifier(new.name)} ADD COLUMN {column} {kind}")
+    new.has_index = old.has_index
+    return True
+
+
+def has_null_keys(db: sqlite3.Connection, old: Kept, new: Kept) -> bool:
+    """Whether a row has null in the key of the new shape."""
+    if not new.target.is_keyed:
+        return False
+    places = sources(old, new)
+    nulls = [f"{old.target.columns[at]} IS NULL" if (at := places[key]) is not None else "TRUE" for key in new.target.key]
+    return bool(db.execute(f"SELECT EXISTS (SELECT 1 FROM {OLD} WHERE {' OR '.join(nulls[:500])})").fetchone()[0])
+
+
+def put(cursor: sqlite3.Cursor, old: Kept, new: Kept) -> None:
+    """Puts the old table's rows into the new one."""
+    places = sources(old, new)
+    chosen = ", ".join("NULL" if at is None else old.target.columns[at] for at in places)
+    query = f"SELECT {chosen} FROM {OLD} ORDER BY {old.row_id()}"
+    kinds = [(None if at is None else old.target.kinds[at][0], kind) for at, (kind, _, _) in zip(places, new.target.kinds, strict=True)]
+    if all(was in (None, now) for was, now in kinds):
+        cursor.execute(f"INSERT INTO {identifier(new.name)} {query}")
+    else:
+        cursor.executemany(new.insertion, converted(cursor.connection, query, old, new))
+
+
+def converted(db: sqlite3.Connection, query: str, old: Kept, new: Kept) -> Iterator[list[Bound]]:
+    """The rows with what their values are in the new shape."""
+    columns = [None if at is None else with_columns(old.relation).shape.columns[at] for at in sources(old, new)]
+    # (closed where a value isn't one of the new type, as a table that is read can't be dropped)
+    with contextlib.closing(db.execute(query)) as rows:
+        for row in rows:
+            pairs = zip(columns, row, strict=True)
+            yield new.row([None if column is None else printed(column, value) for column, value in pairs])

@@ -1,0 +1,171 @@
+"""One table of a file of tables: what a row's cells are there, and the statements that change it."""
+
+from __future__ import annotations
+
+import math
+import sqlite3
+from collections.abc import Sequence
+
+from pgsub_connect.store.export import Bound, Target, key_index, unlike_reason, with_columns
+from .names import folded, name_columns
+from pgsub_connect.drift.remembered import Relation
+from ..texts import identifier
+from .values import Unlike
+from .set_aside import Unkept
+from ..reader.commits import Cell
+
+# How many columns the index has by which a row without a key is found.
+INDEXED = 4
+ROW_IDS = ("rowid", "_rowid_", "oid")
+# The function of a connection that tells a zero with a sign, which SQLite takes for one without.
+IS_MINUS_ZERO = "pgsub_is_minus_zero"
+
+
+def is_minus_zero(value: Bound) -> bool:
+    return value == 0 and isinstance(value, float) and math.copysign(1, value) < 0
+
+
+def listed(columns: Sequence[str], values: Sequence[str]) -> str:
+    """A comparison that null is equal to null in."""
+    return f"({', '.join(columns)}) IS ({', '.join(values)})" if len(columns) > 1 else f"{columns[0]} IS {values[0]}"
+
+
+def rows_index(oid: int) -> str:
+    """The name of the index by which the rows of a table without a key are found."""
+    return f"rows of table {oid}"
+
+
+class Valued:
+    """A relation as a table of SQLite: what a row's cells are there."""
+
+    def __init__(self, name: str, relation: Relation, primary: tuple[str, ...] = ()) -> None:
+        self.relation, self.oid, self.name, self.primary = relation, relation.oid, name, primary
+        self.target = Target(name, with_columns(relation), False, primary)
+        self.width = len(self.target.columns)
+        # numbers of columns by names that they may have at the publisher beside their own, of a table of an export
+        self.others: dict[str, int] = {}
+        # the columns whose values aren't what their cells are
+        self.read = [at for at, (kind, _, _) in enumerate(self.target.kinds) if kind != "TEXT"]
+
+    def row(self, cells: Sequence[Cell]) -> list[Bound]:
+        """A row's cells as SQLite takes them."""
+        if not cells:
+            return [None]
+        values: list[Bound] = list(cells)
+        if bytes in map(type, cells):
+            return [self.value(at, cell) for at, cell in enumerate(cells)]
+        for at in self.read:
+            if cells[at] is not None:
+                values[at] = self.value(at, cells[at])
+        return values
+
+    def unlike(self, at: int, cell: Bound) -> Unkept:
+        shown = cell if isinstance(cell, bytes) else str(cell).encode()
+        return Unkept(self.relation, unlike_reason(self.relation, Unlike(at, shown)))
+
+    def value(self, at: int, cell: Cell) -> Bound:
+        kind, read, read_binary = self.target.kinds[at]
+        try:
+            if isinstance(cell, bytes):
+                value: Bound = read_binary(cell)
+            elif cell is None or kind == "TEXT":
+                return cell
+            else:
+                value = read(cell.encode())
+        except ValueError:
+            raise self.unlike(at, cell) from None
+        return value.decode() if isinstance(value, bytes) and kind == "ANY" else value
+
+
+class Kept(Valued):
+    """A table. Rows of a keyed one are found by the key, and any other's by all of their values, one of several equal rows.
+
+    `primary`: the columns of its primary key, where its replica identity is another. SQLite has each
+    key once, so the row that has it is the one that the feed changes, whatever the server forbids.
+    """
+
+    def __init__(
+        self, name: str, relation: Relation, primary: tuple[str, ...] = (), is_loose: bool = False
+    ) -> None:
+        super().__init__(name, relation, primary)
+        if is_loose:
+            self.target.is_keyed = False
+        self.has_index = False
+        self.write_statements()
+
+    def rename(self, name: str) -> None:
+        self.name = self.target.name = name
+        self.write_statements()
+
+    def write_statements(self) -> None:
+        target, name = self.target, identifier(self.name)
+        columns = target.columns
+        self.insertion = target.insertion()
+        everything = list(range(self.width))
+        self.found = target.key if target.is_keyed else everything
+        rest = [at for at in everything if at not in self.found] if target.is_keyed else everything
+        changes = [f"{column} = {value}" for column, value in zip(columns, self.values(everything, 0), strict=True)]
+        # (the values of the new row, and then those that find the old one)
+        where = self.where(self.width)
+        self.update = f"UPDATE {name} SET {', '.join(changes)} WHERE {where}"
+        # of a row whose key stays
+        self.change = f"UPDATE {name} SET {', '.join(changes[at] for at in rest)} WHERE {where}" if rest else ""
+        self.deletion = f"DELETE FROM {name} WHERE {self.where(0)}"
+        self.truncation = f"DELETE FROM {name}"
+
+    def values(self, places: Sequence[int], first: int) -> list[str]:
+        """The values of these columns as they are bound."""
+        kinds = [self.target.kinds[at][0] for at in places]
+        return [f"CAST(?{at} AS TEXT)" if kind == "TEXT" else f"?{at}" for at, kind in enumerate(kinds, first + 1)]
+
+    def where(self, first: int) -> str:
+        """What finds a row, by values that are bound from a number on."""
+        columns, values = [self.target.columns[at] for at in self.found], self.values(self.found, first)
+        where = listed(columns, values)
+        if self.target.is_keyed:
+            return where
+        if floats := [at for at, (kind, _, _) in enumerate(self.target.kinds) if kind == "ANY"]:
+            where += " AND " + listed(*([f"{IS_MINUS_ZERO}({some[at]})" for at in floats] for some in (columns, values)))
+        row_id = self.row_id()
+        return f"{row_id} = (SELECT {row_id} FROM {identifier(self.name)} WHERE {where} LIMIT 1)"
+
+    def row_id(self) -> str:
+        taken = {folded(it) for it in self.target.columns}
+        for it in ROW_IDS:
+            if identifier(it) not in taken:
+                return it
+        why = f"a table without a key whose columns have the names {', '.join(ROW_IDS)} can't be kept"
+        raise Unkept(self.relation, why)
+
+    def searched(self, cells: Sequence[Cell]) -> list[Bound]:
+        """The values that find a row: of a keyed one only its key is looked at."""
+        if not self.target.is_keyed:
+            return self.row(cells)
+        return [self.value(at, cells[at]) for at in self.found]
+
+    def keeps_key(self, before: Sequence[Cell], after: Sequence[Cell]) -> bool:
+        return self.target.is_keyed and all(before[at] == after[at] for at in self.target.key)
+
+    def has_null_key(self, cells: Sequence[Cell]) -> bool:
+        return self.target.is_keyed and any(cells[at] is None for at in self.target.key)
+
+    def is_of_key(self, error: sqlite3.IntegrityError) -> bool:
+        """Whether the values of a key are there already."""
+        names = name_columns(it.name for it in self.target.relation.shape.columns)
+        return str(error) == "UNIQUE constraint failed: " + ", ".join(f"{self.name}.{names[at]}" for at in self.target.key)
+
+    def make(self, db: sqlite3.Connection) -> None:
+        """Makes the table, empty."""
+        db.execute(self.target.definition())
+        if self.target.key and not self.target.is_keyed:
+            self.index(db, key_index(self.oid), self.target.keys())
+            self.has_index = True
+
+    def find_rows(self, db: sqlite3.Connection) -> None:
+        """Sees to it that rows without a key are found without looking at all of them."""
+        if not (self.has_index or self.target.is_keyed):
+            self.index(db, rows_index(self.oid), ", ".join(self.target.columns[:INDEXED]))
+            self.has_index = True
+
+    def index(self, db: sqlite3.Connection, name: str, columns: str) -> None:
+        db.execute(f"CREATE INDEX IF NOT EXISTS {identifier(name)} ON {identifier(self.name)} ({columns})")

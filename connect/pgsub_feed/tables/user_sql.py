@@ -1,0 +1,67 @@
+"""A user's own SQL for a file of tables: indexes and views, made again after a table was made or altered."""
+
+from __future__ import annotations
+
+import sqlite3
+from collections.abc import Iterator
+
+from .. import log
+from pgsub_connect.errors import FileError
+from pgsub_connect.store.at_rest import FULL
+
+# What passes: a table that isn't there yet, and what is there already.
+PASSED = ("no such ", "already exists")
+DENIED = {sqlite3.SQLITE_TRANSACTION, sqlite3.SQLITE_SAVEPOINT, sqlite3.SQLITE_ATTACH, sqlite3.SQLITE_DETACH}
+
+
+def statements(text: str) -> Iterator[str]:
+    """The statements of a text."""
+    first = at = 0
+    while (at := text.find(";", at) + 1) > 0:
+        if sqlite3.complete_statement(text[first:at]):
+            yield text[first:at].strip()
+            first = at
+    if rest := text[first:].strip():
+        yield rest
+
+
+def allow(action: int, *_: object) -> int:
+    return sqlite3.SQLITE_DENY if action in DENIED else sqlite3.SQLITE_OK
+
+
+class Init:
+    """The statements of a file. They are run in the transaction that made or altered the table."""
+
+    def __init__(self, path: str) -> None:
+        self.path = path
+        self.told: set[str] = set()
+        try:
+            with open(path, encoding="utf-8") as file:
+                self.statements = list(statements(file.read()))
+        except OSError as error:
+            raise FileError(f"{path}: {error.strerror}") from None
+        except UnicodeDecodeError:
+            raise FileError(f"{path}: it isn't in UTF-8") from None
+
+    def run(self, db: sqlite3.Connection) -> None:
+        db.set_authorizer(allow)
+        try:
+            for it in self.statements:
+                self.run_one(db, it)
+        finally:
+            db.set_authorizer(lambda *_: sqlite3.SQLITE_OK)
+
+    def run_one(self, db: sqlite3.Connection, statement: str) -> None:
+        try:
+            db.execute(statement)
+        except sqlite3.OperationalError as error:
+            if FULL in str(error):
+                # (whatever else is written would tell the same)
+                raise
+            if not any(it in str(error) for it in PASSED):
+                raise FileError(f"{self.path}: {error}: {statement[:100]}") from None
+            if statement not in self.told:
+                self.told.add(statement)
+                log.info(f"{self.path}: passed over, {error}: {statement[:100]}")
+        except sqlite3.Error as error:
+            raise FileError(f"{self.path}: {error}: {statement[:100]}") from None

@@ -1,0 +1,190 @@
+"""The tables of a file that follows a feed, read in one transaction, and taken back to an LSN by the images of its feed.
+
+They are a side of a comparison, as the module `sides` has a store's file. Of each table its rows are summed up by chunks, or the digest is
+taken that the file keeps; the images of the commits above the LSN are taken off.
+"""
+
+from __future__ import annotations
+
+import contextlib
+import json
+import os
+import sqlite3
+from collections.abc import Collection, Iterable, Iterator
+
+from pgsub_connect.server.catalog import Column
+from pgsub_connect.verify.digests import Plan, Summing, Sums, text_of
+from pgsub_connect.verify.digests import Fields as Texts
+from pgsub_connect.errors import FileError, Passing
+from .names import POSITION, TABLES, name_columns, names_of
+from pgsub_connect.server.connection import Check
+from pgsub_connect.server.publications import Table
+from pgsub_connect.drift.remembered import Relation
+from pgsub_connect.verify.sides import ROWS, Row
+from ..texts import identifier, parse_lsn
+from .set_aside import Aside, read_asides
+from .first_rows import is_tables, opened
+from ..reader.lines import read_relation
+from .digests import Digest, read_digests
+from .printed import Fields
+from .table import Valued
+from ..reader.commits import Head
+from .file import FEED, RELATIONS, unlisted
+from ..reader.trail import Image, Trail
+
+
+def check_tables(path: str) -> None:
+    """Rejects a file without such tables."""
+    if not os.path.isfile(path):
+        raise FileError(f"there is no file {path}")
+    if not is_tables(path):
+        raise FileError(f"{path} has no tables that follow a feed")
+
+
+class View:
+    """A file's tables at its LSN, `at`, in a transaction that lasts until `close`. With a trail, at the trail's point."""
+
+    def __init__(self, path: str, check: Check) -> None:
+        self.path, self.check = path, check
+        self.db = opened(path)
+        self.trail: Trail | None = None
+        try:
+            self.db.text_factory = lambda it: it.decode(errors="surrogateescape")
+            self.db.execute("BEGIN")
+            self.read()
+        except BaseException:
+            self.db.close()
+            raise
+
+    def read(self) -> None:
+        db = self.db
+        self.at = parse_lsn(db.execute(f"SELECT lsn FROM {POSITION}").fetchone()[0])
+        self.folder, *source, chosen = db.execute(f"SELECT folder, system, database, slot, chosen FROM {FEED}").fetchone()
+        # what it is a feed of, None where nothing was taken of it yet
+        self.source = Head(0, *source) if source[0] is not None else None
+        self.chosen = set(json.loads(chosen))
+        self.digests: dict[int, Digest] = read_digests(db)
+        # those whose digest isn't that of their rows
+        self.wrong: list[Relation] = []
+        self.left_out, self.untold = set[int](), set[int]()
+        # those that are set aside, and what of them was looked for
+        self.asides: dict[int, Aside] = read_asides(db)
+        self.lacks: list[Aside] = []
+        self.tables: dict[int, Valued] = {}
+        named = {oid: (name, schema, table) for name, schema, table, oid in db.execute(f"SELECT * FROM {TABLES}")}
+        for oid, name, definition in db.execute(f"SELECT oid, name, definition FROM {RELATIONS}").fetchall():
+            if name is None:
+                self.left_out |= {oid} - self.asides.keys()
+            elif definition is None:
+                self.untold.add(oid)
+                self.tables[oid] = Valued(name, unlisted(db, *named[oid], oid))
+            else:
+                self.tables[oid] = Valued(name, read_relation(json.loads(definition)))
+        self.counts = {oid: self.count(it) for oid, it in self.tables.items()}
+
+    def count(self, table: Valued) -> int:
+        return int(self.db.execute(f"SELECT count(*) FROM {identifier(table.name)}").fetchone()[0])
+
+    def relation(self, oid: int) -> Relation | None:
+        return self.tables[oid].relation if oid in self.tables else None
+
+    def is_chosen(self, table: Table) -> bool:
+        """Whether the file has a table's rows, or would have them."""
+        if table.oid in self.tables:
+            return True
+        names = names_of(table.namespace, table.name)
+        return table.oid not in self.left_out and (not self.chosen or bool(self.chosen & names))
+
+    def columns(self, table: Table) -> list[str]:
+        theirs = [it.name for it in table.columns]
+        if not (relation := self.relation(table.oid)):
+            return theirs
+        ours = [it.name for it in relation.shape.columns]
+        # (of an export the names in SQLite are all that is known)
+        return theirs if table.oid in self.untold and ours == name_columns(theirs) else ours
+
+    def left(self, tables: Iterable[Table]) -> list[Relation]:
+        known = {it.oid for it in tables}
+        return [it.relation for oid, it in self.tables.items() if oid not in known and self.counts[oid]]
+
+    def fields(self, plan: Plan) -> Fields | None:
+        """What makes the fields of a table's rows, None where it isn't here. Where its types weren't told they are the other side's."""
+        valued = self.tables.get(plan.table.oid)
+        if valued is None:
+            return None
+        theirs = [Column(it.name, it.type_oid, it.modifier, it.key) for it in plan.table.columns]
+        return Fields(valued, theirs if plan.table.oid in self.untold else valued.relation.shape.columns)
+
+    def texts(self, plan: Plan) -> Iterator[Texts]:
+        """The fields of a table's rows at the LSN of the file."""
+        if fields := self.fields(plan):
+            rows = self.db.execute(fields.query)
+            while several := rows.fetchmany(ROWS):
+                self.check()
+                yield from map(fields.of_row, several)
+
+    def sums(self, plans: Iterable[Plan]) -> dict[int, Sums]:
+        """Those of each table, by its rows."""
+        found = {it.table.oid: Summing(it) for it in plans}
+        for oid, summing in found.items():
+            for fields in self.texts(summing.plan):
+                summing.add_fields(fields, 1)
+            if oid in self.tables and oid in self.digests and self.digests[oid] != summing.sums.totals():
+                self.wrong.append(self.tables[oid].relation)
+        self.take_back(found)
+        return {oid: it.sums for oid, it in found.items()}
+
+    def digested(self, plans: Iterable[Plan]) -> dict[int, Sums]:
+        """Those of tables with one chunk, by the digests that the file keeps. Of one that has none, by its rows."""
+        found, read = dict[int, Summing](), list[Plan]()
+        for plan in plans:
+            digest = self.digests.get(plan.table.oid)
+            if digest is None:
+                read.append(plan)
+            else:
+                found[plan.table.oid] = Summing(plan)
+                found[plan.table.oid].sums.set(0, *digest)
+        self.take_back(found)
+        return {**{oid: it.sums for oid, it in found.items()}, **self.sums(read)}
+
+    def take_back(self, found: dict[int, Summing]) -> None:
+        for image, fields in self.images([it.plan for it in found.values()]):
+            found[image.relation.oid].add_fields(fields, image.sign)
+
+    def images(self, plans: Collection[Plan]) -> Iterator[tuple[Image, Texts]]:
+        """The images that take these tables back, with their fields."""
+        if self.trail is None:
+            return
+        by_oid = {it.table.oid: it for it in plans}
+        valued = dict[int, Fields]()
+        for image in self.trail.images(self.at, by_oid.keys()):
+            self.check()
+            relation, oid = image.relation, image.relation.oid
+            if oid not in valued or valued[oid].valued.relation is not relation:
+                if [it.name for it in relation.shape.columns] != [it.name for it in by_oid[oid].table.columns]:
+                    raise Passing(f"{relation.text()} was altered meanwhile: compare again")
+                valued[oid] = Fields(Valued("", relation), relation.shape.columns)
+            yield image, valued[oid].of_cells(image.cells)
+
+    def rows(self, plan: Plan, chunks: list[int]) -> Iterator[Row]:
+        wanted = set(chunks)
+
+        def found() -> Iterator[Row]:
+            there = ((fields, 1) for fields in self.texts(plan))
+            back = ((fields, image.sign) for image, fields in self.images([plan]))
+            for some in (there, back):
+                for fields, copies in some:
+                    text = text_of(fields)
+                    key = plan.key_text(fields, text)
+                    if plan.chunk_of(key) in wanted:
+                        yield key, text, copies
+
+        # (what is large is on the disk)
+        with contextlib.closing(sqlite3.connect("", isolation_level=None)) as room:
+            room.execute("CREATE TABLE found (key BLOB, text BLOB, copies INTEGER)")
+            room.execute("BEGIN")
+            room.executemany("INSERT INTO found VALUES (?, ?, ?)", found())
+            yield from room.execute("SELECT key, text, sum(copies) FROM found GROUP BY key, text HAVING sum(copies) <> 0 ORDER BY key, text")
+
+    def close(self) -> None:
+        self.db.close()

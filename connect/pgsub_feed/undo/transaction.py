@@ -1,0 +1,193 @@
+"""SQL that takes commits of a feed back at the publisher, in one transaction.
+
+It restores each row that they have changed, whatever became of it on the way. A row has to be as
+the commits left it: where somebody has changed one since it raises an error, and nothing at all is
+taken back. So it does where a row can't be as it was.
+"""
+
+from __future__ import annotations
+
+from collections.abc import Callable, Iterable, Iterator
+
+from .. import log
+from pgsub_connect.errors import Unfit
+from pgsub_connect.server.connection import Check
+from pgsub_connect.drift.remembered import Relation
+from pgsub_connect.add.replacement import XID
+from pgsub_connect.server.session import SETTINGS
+from ..texts import identifier, literal, lsn_text
+from . import restore_sql
+from ..reader.selection import Chosen
+from .net import Changed, Net, Row
+from ..reader.commits import Cell, Change, Commit, Missed, TableLine
+from ..reader.polling import Poll
+from ..reader.segments import Reader
+from ..tables.file import full_name
+
+# On these it depends how a value is printed.
+PRINTED = (
+    "search_path", "datestyle", "intervalstyle", "extra_float_digits", "bytea_output", "timezone",
+    "lc_monetary", "quote_all_identifiers", "xmlbinary",
+)
+# On the others how a constant is read; and rows that a policy hides are an error.
+SETTLED = {
+    **{name: SETTINGS[name] for name in PRINTED},
+    "xmloption": "content", "array_nulls": "on", "row_security": "off",
+}
+# Types whose values are looked up in an index by `=`: bool, bytea, "char", name, int8, int2, int4,
+# text, oid, float4, float8, macaddr, inet, bpchar, varchar, date, time, timestamp, timestamptz,
+# interval, timetz, bit, varbit, numeric, uuid, pg_lsn, jsonb. The operator of another type may be
+# in any schema, or be that of a type which reads the constant in another way.
+COMPARED = frozenset((
+    16, 17, 18, 19, 20, 21, 23, 25, 26, 700, 701, 829, 869, 1042, 1043, 1082, 1083, 1114, 1184,
+    1186, 1266, 1560, 1562, 1700, 2950, 3220, 3802,
+))
+# What an editor or a terminal may make another character of.
+CONTROLS = {it: f"\\x{it:02x}" for it in (*range(1, 32), 127)}
+CONTROLS |= {it: f"\\u{it:04x}" for it in range(0x80, 0xA0)}
+# How many characters the rows of one command have, but for the last of them.
+MOST = 200000
+BEGIN = """\
+-- Takes back the commits after {begin} up to {end}: psql -X -v ON_ERROR_STOP=1 -f FILE
+BEGIN ISOLATION LEVEL READ COMMITTED;
+SET LOCAL client_encoding = 'UTF8';
+CREATE TEMPORARY TABLE pgsub_settings ON COMMIT DROP AS
+  SELECT name, pg_catalog.current_setting(name) AS theirs, ours FROM (VALUES
+  {settings}
+  ) it (name, ours);
+"""
+SETTLE = f"DO $pgsub$ BEGIN {restore_sql.TO_OURS} END $pgsub$;\n"
+END = f"DO $pgsub$ BEGIN {restore_sql.TO_THEIRS} END $pgsub$;\nCOMMIT;\n"
+STEPS = (
+    restore_sql.CHECK, restore_sql.DESCRIBE, restore_sql.READ, restore_sql.FIND, restore_sql.REPLACE,
+    restore_sql.REFERENCES, restore_sql.CHANGE, restore_sql.LOOK,
+)
+
+
+def quoted(text: str) -> str:
+    """A constant of SQL, in which control characters are escaped."""
+    plain = literal(text).strip()
+    escaped = plain.translate(CONTROLS)
+    return escaped if escaped == plain or escaped.startswith("E") else f"E{escaped}"
+
+
+def constant(cell: Cell) -> str:
+    assert not isinstance(cell, bytes)
+    return "NULL" if cell is None else quoted(cell)
+
+
+def array(cells: Iterable[str]) -> str:
+    """An array of these constants."""
+    text = ", ".join(cells)
+    return f"ARRAY[{text}]" if text else "'{}'"
+
+
+def row_constant(row: Row | None) -> str:
+    return "NULL" if row is None else array(map(constant, row))
+
+
+def table_line(t: int, net: Net) -> str:
+    """What `pgsub_tables` has of a table at first."""
+    relation = net.relation
+    columns = relation.shape.columns
+    equal = [at for at in net.key if columns[at].type_oid in COMPARED]
+    told = quoted(".".join(full_name(relation)))
+    name = quoted(".".join(map(identifier, full_name(relation))))
+    keys = ", ".join(array(str(at + 1) for at in some) for some in (net.key, equal))
+    return f"({t}, {told}, {name}, {array(quoted(it.name) for it in columns)}, {keys})"
+
+
+def row_line(t: int, it: Changed) -> str:
+    return f"{t}, {quoted(it.told)}, {row_constant(it.was)}, {row_constant(it.now)}"
+
+
+class Undoing:
+    """Collects what commits have made of rows, and makes the SQL that takes it back."""
+
+    def __init__(self, is_chosen: Callable[[Relation], bool], begin: int, end: int) -> None:
+        self.is_chosen, self.begin, self.end = is_chosen, begin, end
+        self.nets: dict[int, Net] = {}
+
+    def take(self, reader: Reader, commit: Commit) -> None:
+        chosen = dict[int, bool]()
+        for part in reader.parts(commit):
+            relation = part.relation
+            if isinstance(part, TableLine):
+                chosen[relation.oid] = self.is_chosen(relation)
+            elif not chosen[relation.oid]:
+                continue
+            elif isinstance(part, Missed):
+                what = f"{commit.text()}:{part.n}: a change of {relation.text()}"
+                log.warning(f"{what} isn't taken back: the copy didn't have its row")
+            else:
+                self.change(commit, part)
+
+    def change(self, commit: Commit, it: Change) -> None:
+        relation, where = it.relation, commit.text()
+        if it.op == "t":
+            text = "and the feed doesn't have the rows that were in it"
+            raise Unfit(f"{where} truncates {relation.text()}, {text}: {self.apart(commit)}")
+        if commit.xid == XID:
+            text = "were copied here, by no commit of the server's"
+            raise Unfit(f"{where}: rows of {relation.text()} {text}: {self.apart(commit)}")
+        if bytes in map(type, (*(it.before or ()), *(it.after or ()))):
+            text = "a value was sent in binary format, which SQL has no constant for"
+            raise Unfit(f"{where}: {relation.text()}: {text}: follow without --binary")
+        net = self.nets.setdefault(relation.oid, Net(relation))
+        if net.relation is not relation and not net.describe(relation):
+            text = f"{relation.text()} was altered since the commits before"
+            raise Unfit(f"{where}: {text}: take back only those after {lsn_text(commit.prev)}")
+        net.take(it, f"{where}:{it.n}, {'.'.join(full_name(relation))}")
+
+    def apart(self, commit: Commit) -> str:
+        """What to do where a commit can't be taken back."""
+        some = [f"those after {commit.text()}"] if commit.end < self.end else []
+        some += [f"those up to {lsn_text(commit.prev)}"] if commit.prev > self.begin else []
+        text = "take back only " + ", and then ".join(some)
+        return text if some else "leave its table out, by --table for the others"
+
+    def texts(self) -> Iterator[str]:
+        """The SQL."""
+        some = (f"({literal(name)}, {literal(value)})" for name, value in SETTLED.items())
+        settings = ",\n  ".join(some)
+        begin, end = lsn_text(self.begin), lsn_text(self.end)
+        yield BEGIN.format(begin=begin, end=end, settings=settings)
+        yield SETTLE + restore_sql.TABLES
+        rows = {t: it.changed() for t, it in enumerate(self.nets.values(), 1)}
+        for t, net in enumerate(self.nets.values(), 1):
+            yield f"INSERT INTO pgsub_tables VALUES {table_line(t, net)};\n" if rows[t] else ""
+        yield from commands(row_line(t, it) for t, some in rows.items() for it in some)
+        yield from (*STEPS, END)
+
+
+def commands(lines: Iterable[str]) -> Iterator[str]:
+    """The commands that have the rows."""
+    front = "INSERT INTO pgsub_rows (n, t, told, was, now) VALUES\n  "
+    between, size = ",\n  ", 0
+    for n, line in enumerate(lines, 1):
+        yield f"{between if size else front}({n}, {line})"
+        size = size + len(line) if size + len(line) < MOST else 0
+        yield "" if size else ";\n"
+    yield ";\n" if size else ""
+
+
+def undo(
+    reader: Reader, end: int, chosen: Chosen, check: Check, put: Callable[[bytes], None]
+) -> None:
+    """Prints the SQL that takes the commits up to an LSN back."""
+    begin, is_there = reader.at or 0, False
+    undoing = Undoing(chosen, begin, end)
+    for commit in Poll(reader, False, check).commits():
+        if commit.end > end:
+            break
+        check()
+        is_there = True
+        undoing.take(reader, commit)
+    if not is_there:
+        text = f"no commit ends up to {lsn_text(end)} after {lsn_text(begin)}"
+        raise Unfit(f"{reader.folder}: {text}")
+    if chosen.unseen:
+        text = f"no commit after {lsn_text(begin)} up to {lsn_text(end)} has such a table"
+        raise Unfit(f"--table {min(chosen.unseen)}: {text}")
+    for text in undoing.texts():
+        put(text.encode())
