@@ -10,32 +10,48 @@ import traceback
 from collections.abc import Callable, Sequence
 from typing import Any, Protocol
 
-from .commands import add, check as check_module, drop, refresh, snapshot, status as status_module, verify as verify_module
-from .store import export
 from pgsub_feed import log
-from .server import transport
-from .store import checkpoint as known_of
-from .follow.server_watch import Asker
-from .store.checkpoint import Checkpoint
-from .server.followed_publications import require_published
+from pgsub_feed.interruption import interrupt
+
+from .commands import add
+from .commands import check as check_module
+from .commands import drop, refresh, sink, snapshot
+from .commands import status as status_module
+from .commands import tables
+from .commands import verify as verify_module
+from .commands import wait
+from .commands.options import Options
+from .commands.record import Aside, Recorder, Recording
+from .commands.words import arguments, settle_options
 from .copy.copier import Copier, create_slot, maker_of
-from .errors import EngineError, FileError, FilterFault, NoSlot, Passing, ServerError, Stopped, TooLarge, Unfit, UsageError
-from .commands import tables, wait
-from .verify import tables_file as tables_verifying
+from .drift.remembered import Remembered, print_names
+from .errors import (
+    EngineError,
+    FileError,
+    FilterFault,
+    NoSlot,
+    Passing,
+    ServerError,
+    Stopped,
+    TooLarge,
+    Unfit,
+    UsageError,
+)
 from .follow.feed import Feeding
 from .follow.filter import Filter, FilterEnded
 from .follow.follower import Follower
-from pgsub_feed.interruption import interrupt
-from .commands.options import Options
-from .store.placing import check_meant
+from .follow.server_watch import Asker
+from .server import transport
 from .server.connection import Check
-from .status.progress import Progress
-from .commands.record import Aside, Recorder, Recording
-from .drift.remembered import Remembered, print_names
+from .server.followed_publications import require_published
 from .status.files import Reporter
-from .commands import sink
+from .status.progress import Progress
+from .store import checkpoint as known_of
+from .store import export
+from .store.checkpoint import Checkpoint
+from .store.placing import check_meant
 from .store.snapshot import Snapshots, part_of
-from .commands.words import arguments, settle_options
+from .verify import tables_file as tables_verifying
 
 REJECTED, USAGE, FILE, SERVER, UNFIT, BUG, PASSING, NO_SLOT, MISSED = 1, 2, 3, 4, 5, 6, 7, 8, 9
 
@@ -91,7 +107,11 @@ def follow(options: Options) -> int:
     if options.snapshot:
         snapshot.check_copied(options.store, options.snapshot, "--snapshot")
     check_meant(options.store)
-    if not (options.create or options.no_copy or any(os.path.exists(options.store + it) for it in ("", ".connector"))):
+    if not (
+        options.create
+        or options.no_copy
+        or any(os.path.exists(options.store + it) for it in ("", ".connector"))
+    ):
         # (before there is a file that would stay)
         raise no_store(options)
     checkpoint = Checkpoint(options.store, start.check)
@@ -100,16 +120,30 @@ def follow(options: Options) -> int:
     remembered = Remembered(options.store, options.mode)
     feeding = Feeding(options, checkpoint, progress, remembered)
     feeding.check()
-    recording = Aside(Recording(options.record, True, options.bytes, options.mode)) if options.record else None
-    copier = Copier(options, checkpoint, make_filter(options, checkpoint, part_of(options.store)), progress, remembered)
+    recording = (
+        Aside(Recording(options.record, True, options.bytes, options.mode))
+        if options.record
+        else None
+    )
+    copier = Copier(
+        options,
+        checkpoint,
+        make_filter(options, checkpoint, part_of(options.store)),
+        progress,
+        remembered,
+    )
     child = make_filter(options, checkpoint, options.store)
     snapshots = Snapshots(options.store, options.snapshot, options.snapshot_every, options.mode)
-    follower = Follower(options, checkpoint, child, progress, recording, snapshots, remembered, feeding)
+    follower = Follower(
+        options, checkpoint, child, progress, recording, snapshots, remembered, feeding
+    )
     snapshot_by_signal(snapshots)
     stop_by_signals(copier, follower)
     if start.stop_asked:
         copier.stop_asked = follower.stop_asked = True
-    reporter, asker = Reporter(options, progress) if options.status_file or options.metrics_file else None, Asker(options, progress)
+    reporter, asker = Reporter(
+        options, progress
+    ) if options.status_file or options.metrics_file else None, Asker(options, progress)
     asker.start()
     if reporter:
         reporter.start()
@@ -140,16 +174,22 @@ def follow(options: Options) -> int:
 
 
 def no_store(options: Options) -> Unfit:
-    return Unfit(f"there is no store {options.store}: --create makes it, with publication and slot; see --help")
+    return Unfit(
+        f"there is no store {options.store}: --create makes it, with publication and slot; see --help"
+    )
 
 
-def begin(options: Options, checkpoint: Checkpoint, copier: Copier, remembered: Remembered, check: Check) -> None:
+def begin(
+    options: Options, checkpoint: Checkpoint, copier: Copier, remembered: Remembered, check: Check
+) -> None:
     """What a start does where there is no store."""
     known = checkpoint.known
     if options.create and not options.no_copy:
         return copier.run()
     if known.phase == known_of.FOLLOWING and not options.accepts("gap"):
-        raise Unfit(f"{options.store} is gone, and the slot {known.slot} went on: remove {checkpoint.path} to begin anew")
+        raise Unfit(
+            f"{options.store} is gone, and the slot {known.slot} went on: remove {checkpoint.path} to begin anew"
+        )
     if not options.create and not options.no_copy:
         raise no_store(options)
     if options.create:
@@ -160,7 +200,10 @@ def begin(options: Options, checkpoint: Checkpoint, copier: Copier, remembered: 
 
 def record(options: Options) -> None:
     assert options.record
-    recorder = Recorder(options, Recording(options.record, options.append, options.bytes, options.mode, options.overwrite))
+    recorder = Recorder(
+        options,
+        Recording(options.record, options.append, options.bytes, options.mode, options.overwrite),
+    )
     stop_by_signals(recorder)
     maker = maker_of(options, recorder.check_stop)
     try:
@@ -187,14 +230,28 @@ def stoppable(call: Callable[[Options, Check], int]) -> Callable[[Options], int]
 
 
 def verify(options: Options, check: Check) -> int:
-    return tables_verifying.run(options, check) if options.tables else verify_module.run(options, check)
+    return (
+        tables_verifying.run(options, check)
+        if options.tables
+        else verify_module.run(options, check)
+    )
 
 
 RUNS: dict[str, Callable[[Options], Any]] = {
-    "follow": follow, "record": record, "check": stoppable(check_module.run), "drop": stoppable(drop.run),
-    "export": stoppable(export.run), "snapshot": stoppable(snapshot.run),
-    "verify": stoppable(verify), "add": stoppable(add.run), "refresh": stoppable(refresh.run), "names": lambda options: print_names(options.store), "status": status_module.run,
-    "tables": stoppable(tables.run), "sink": stoppable(sink.run), "wait": stoppable(wait.run),
+    "follow": follow,
+    "record": record,
+    "check": stoppable(check_module.run),
+    "drop": stoppable(drop.run),
+    "export": stoppable(export.run),
+    "snapshot": stoppable(snapshot.run),
+    "verify": stoppable(verify),
+    "add": stoppable(add.run),
+    "refresh": stoppable(refresh.run),
+    "names": lambda options: print_names(options.store),
+    "status": status_module.run,
+    "tables": stoppable(tables.run),
+    "sink": stoppable(sink.run),
+    "wait": stoppable(wait.run),
 }
 
 
@@ -246,11 +303,25 @@ def status_of(ended: FilterEnded) -> int:
 
 
 STATUSES: dict[type[Exception], int] = {
-    Unfit: UNFIT, FileError: FILE, FilterFault: FILE, Passing: PASSING, NoSlot: NO_SLOT, UsageError: USAGE,
-    EngineError: SERVER, TooLarge: REJECTED,
+    Unfit: UNFIT,
+    FileError: FILE,
+    FilterFault: FILE,
+    Passing: PASSING,
+    NoSlot: NO_SLOT,
+    UsageError: USAGE,
+    EngineError: SERVER,
+    TooLarge: REJECTED,
 }
 PASSING_ERRORS = (
-    errno.ENOSPC, errno.EDQUOT, errno.ENOMEM, errno.EAGAIN, errno.EMFILE, errno.ENFILE, errno.ESTALE, errno.ETIMEDOUT, errno.EHOSTDOWN,
+    errno.ENOSPC,
+    errno.EDQUOT,
+    errno.ENOMEM,
+    errno.EAGAIN,
+    errno.EMFILE,
+    errno.ENFILE,
+    errno.ESTALE,
+    errno.ETIMEDOUT,
+    errno.EHOSTDOWN,
 )
 
 

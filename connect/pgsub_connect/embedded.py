@@ -1,8 +1,10 @@
 """The decoder and the subscriber as a library for Python.
 
-It loads a shared object that is linked from the static library of crates/pgsub_c, whose header `pgsub.h` tells what each call does:
+It loads a shared object that is linked from the static library of crates/pgsub_c, whose header
+`pgsub.h` tells what each call does:
 
-    cc -shared -o libpgsub.so -Wl,--whole-archive libpgsub_c.a -Wl,--no-whole-archive libos_c.a liblibc_c.a
+    cc -shared -o libpgsub.so -Wl,--whole-archive libpgsub_c.a -Wl,--no-whole-archive libos_c.a
+    liblibc_c.a
 
 A recording's sessions, each as its bytes, have the lines that `pgsub show` prints:
 
@@ -27,8 +29,17 @@ ROOM = 10
 # what the text of a fault has at most
 TEXT = 256
 NAMES = {
-    1: "wire", 2: "decode", 3: "order", 4: "relation", 5: "spool", 6: "store", 8: "closed", 9: "memory", 11: "no such protocol version",
-    12: "the subscriber is closed", 13: "the subscriber is open",
+    1: "wire",
+    2: "decode",
+    3: "order",
+    4: "relation",
+    5: "spool",
+    6: "store",
+    8: "closed",
+    9: "memory",
+    11: "no such protocol version",
+    12: "the subscriber is closed",
+    13: "the subscriber is open",
 }
 
 
@@ -75,8 +86,13 @@ class Library:
         self._show.argtypes, self._show.restype = (number, *bytes_, *room, *room), number
         handle, clock, lsn = ctypes.POINTER(Handle), ctypes.c_int64, ctypes.POINTER(ctypes.c_uint64)
         for name, *words in (
-            ("open", number, handle), ("feed", handle, *bytes_, clock, *room), ("status", handle, clock, ctypes.c_bool),
-            ("replies", handle, *room), ("rows", handle, *room), ("position", handle, lsn, lsn), ("disconnect", handle),
+            ("open", number, handle),
+            ("feed", handle, *bytes_, clock, *room),
+            ("status", handle, clock, ctypes.c_bool),
+            ("replies", handle, *room),
+            ("rows", handle, *room),
+            ("position", handle, lsn, lsn),
+            ("disconnect", handle),
         ):
             call = getattr(calls, f"pgsub_{name}")
             call.argtypes, call.restype = words, number
@@ -91,8 +107,11 @@ class Library:
         self.calls.pgsub_close(handle)
 
     def decode(self, payload: bytes, in_block: bool = False) -> str:
-        """The line of a payload of CopyData, without its line feed. `in_block`: between Stream Start and Stream Stop."""
-        number, room = with_room(lambda room: int(self._decode(payload, len(payload), in_block, *room.words())))
+        """The line of a payload of CopyData, without its line feed. `in_block`: between Stream
+        Start and Stream Stop."""
+        number, room = with_room(
+            lambda room: int(self._decode(payload, len(payload), in_block, *room.words()))
+        )
         if number:
             raise Fault(number, room.text())
         return room.text().rstrip("\n")
@@ -100,12 +119,17 @@ class Library:
     def show_session(self, session: bytes, version: int = 2) -> tuple[list[str], Fault | None]:
         """The lines of a session's frames, and the fault that ends them."""
         text = Room(TEXT)
-        number, room = with_room(lambda room: int(self._show(version, session, len(session), *room.words(), *text.words())))
+        number, room = with_room(
+            lambda room: int(
+                self._show(version, session, len(session), *room.words(), *text.words())
+            )
+        )
         # (a text has line feeds only where a line ends)
         return room.text().split("\n")[:-1], Fault(number, text.text()) if number else None
 
     def show(self, sessions: Iterable[bytes], version: int = 2) -> Iterator[str]:
-        """The lines of a recording's sessions, with `--` between two of them. Raises the first fault after what comes before it."""
+        """The lines of a recording's sessions, with `--` between two of them. Raises the first
+        fault after what comes before it."""
         for at, session in enumerate(sessions):
             if at:
                 yield "--"
@@ -128,10 +152,13 @@ class Subscriber:
             raise Fault(number, room.text() if room else "")
 
     def feed(self, piece: bytes, clock: int = 0) -> None:
-        """Feeds a chunk of a session's bytes. `clock`: microseconds since 2000-01-01 00:00 UTC. Raises the first fault, up to which all
-        is applied; from then on each chunk is rejected, until `disconnect`."""
+        """Feeds a chunk of a session's bytes. `clock`: microseconds since 2000-01-01 00:00 UTC.
+        Raises the first fault, up to which all is applied; from then on each chunk is rejected,
+        until `disconnect`."""
         text = Room(TEXT)
-        self.check(self.library.call("feed", self.handle, piece, len(piece), clock, *text.words()), text)
+        self.check(
+            self.library.call("feed", self.handle, piece, len(piece), clock, *text.words()), text
+        )
 
     def status(self, clock: int = 0, ask: bool = False) -> None:
         """Appends a Standby status update to the replies. `ask` asks the server for a reply."""
@@ -153,7 +180,8 @@ class Subscriber:
         return room.bytes.raw[: room.length.value]
 
     def position(self) -> tuple[int, int]:
-        """The LSN up to which the rows are complete, and the LSN up to which the server may forget."""
+        """The LSN up to which the rows are complete, and the LSN up to which the server may
+        forget."""
         position, confirmed = ctypes.c_uint64(), ctypes.c_uint64()
         self.check(self.library.call("position", self.handle, position, confirmed))
         return position.value, confirmed.value
@@ -174,7 +202,8 @@ class Subscriber:
 
 
 def with_room(call: Callable[[Room], int], size: int = 1 << 12) -> tuple[int, Room]:
-    """Calls with room, and once more where it was too small. Returns the number, and the room with what was written."""
+    """Calls with room, and once more where it was too small. Returns the number, and the room with
+    what was written."""
     room = Room(size)
     number = call(room)
     if number == ROOM:

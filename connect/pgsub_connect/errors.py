@@ -26,7 +26,8 @@ class Passing(Exception):
 
 
 class Delayed(Passing):
-    """Commits at the server had to wait for too long, so nothing was repaired: another try may take less."""
+    """Commits at the server had to wait for too long, so nothing was repaired: another try may take
+    less."""
 
 
 class NoSlot(Exception):
@@ -42,7 +43,8 @@ class UsageError(Exception):
 
 
 class EngineError(Exception):
-    """The engine that a sink writes to rejected a command, or returned what isn't of its protocol: another try ends in the same way."""
+    """The engine that a sink writes to rejected a command, or returned what isn't of its protocol:
+    another try ends in the same way."""
 
 
 class TooLarge(Exception):
@@ -53,8 +55,8 @@ class FilterFault(Exception):
     """The filter wrote what isn't a status, or can't be started."""
 
 
-# The classes and codes of errors that another try doesn't mend: the feature, the login, the database, the rights, the state
-# of the slot. A slot that is in use and the like may pass.
+# The classes and codes of errors that another try doesn't mend: the feature, the login, the
+# database, the rights, the state of the slot. A slot that is in use and the like may pass.
 LOGIN = "28"
 LASTING = ("0A", LOGIN, "3D", "42", "55000", "22023")
 IN_USE = "55006"

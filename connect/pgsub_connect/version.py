@@ -1,7 +1,8 @@
 """Which build this connector is of, and whether a program is of the same one.
 
-What is installed has a file `BUILD` beside the program and another one in this package: a word and its value on each line, `version`,
-`commit`, `kit`, and `program`, the SHA-256 sum of the program. A checkout has none, and its connector takes any program.
+What is installed has a file `BUILD` beside the program and another one in this package: a word and
+its value on each line, `version`, `commit`, `kit`, and `program`, the SHA-256 sum of the program. A
+checkout has none, and its connector takes any program.
 """
 
 from __future__ import annotations
@@ -41,4 +42,8 @@ def check_program(program: str) -> None:
 
 
 def text_of(build: dict[str, str]) -> str:
-    return f"the build {build.get('version', '?')} ({build.get('program', '?')[:12]})" if build else "an unknown build"
+    return (
+        f"the build {build.get('version', '?')} ({build.get('program', '?')[:12]})"
+        if build
+        else "an unknown build"
+    )

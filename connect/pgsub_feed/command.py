@@ -10,18 +10,19 @@ import signal
 import sys
 from collections.abc import Callable, Iterator, Sequence
 
-from . import log
 from pgsub_connect.cli import Start, guarded, stop_by_signals
+from pgsub_connect.commands.words import TellVersion, lsn
+from pgsub_connect.drift.remembered import Relation
 from pgsub_connect.errors import Stopped
 from pgsub_connect.server.connection import Check
-from pgsub_connect.drift.remembered import Relation
-from pgsub_connect.commands.words import TellVersion, lsn
+
+from . import log
 from .formats.bulk import Bulk
-from .reader.selection import Chosen
 from .formats.lines import FORMATS, Format
 from .reader.commits import Commit
 from .reader.polling import Poll
 from .reader.segments import Reader
+from .reader.selection import Chosen
 from .undo.transaction import undo
 
 # Control characters that JSON leaves as they are: terminals take them for commands.
@@ -62,19 +63,56 @@ class Options:
 
 def arguments(words: Sequence[str]) -> Options:
     parser = argparse.ArgumentParser(
-        prog="pgsub-feed", description=ABOUT, epilog=FORMATS_ABOUT, formatter_class=argparse.RawDescriptionHelpFormatter, allow_abbrev=False
+        prog="pgsub-feed",
+        description=ABOUT,
+        epilog=FORMATS_ABOUT,
+        formatter_class=argparse.RawDescriptionHelpFormatter,
+        allow_abbrev=False,
     )
     add = parser.add_argument
     add("--feed", metavar="FOLDER", required=True, help="the feed")
-    add("--from", dest="begin", type=lsn, metavar="LSN", help="commits after this one, which must be the end of one (default: all)")
-    add("--to", dest="end", type=lsn, metavar="LSN", help="end before the first commit that ends above this LSN")
+    add(
+        "--from",
+        dest="begin",
+        type=lsn,
+        metavar="LSN",
+        help="commits after this one, which must be the end of one (default: all)",
+    )
+    add(
+        "--to",
+        dest="end",
+        type=lsn,
+        metavar="LSN",
+        help="end before the first commit that ends above this LSN",
+    )
     add("--follow", action="store_true", help="go on with the commits that come")
     add("--format", choices=[*FORMATS, "bulk"], default="objects", help="default: objects")
-    add("--truncated", type=lsn, metavar="LSN",
-        help="with --format bulk: all documents were deleted of the tables that the commit which ends there truncates")
-    add("--table", action="append", default=[], help="changes of this table, may be repeated (default: of all): t, or s.t of another schema than public; quoted as in SQL or not")
-    add("--undo", nargs=2, type=lsn, metavar=("FROM", "TO"), help="print the SQL that takes the commits after FROM, up to TO, back")
-    add("--version", action=TellVersion, nargs=0, default=argparse.SUPPRESS, help="show the version, and the commit of a checkout")
+    add(
+        "--truncated",
+        type=lsn,
+        metavar="LSN",
+        help="with --format bulk: all documents were deleted of the tables that the commit which ends there truncates",
+    )
+    add(
+        "--table",
+        action="append",
+        default=[],
+        help="changes of this table, may be repeated (default: of all): t, or s.t of another schema than public; quoted as in SQL or not",
+    )
+    add(
+        "--undo",
+        nargs=2,
+        type=lsn,
+        metavar=("FROM", "TO"),
+        help="print the SQL that takes the commits after FROM, up to TO, back",
+    )
+    add(
+        "--version",
+        action=TellVersion,
+        nargs=0,
+        default=argparse.SUPPRESS,
+        help="show the version, and the commit of a checkout",
+    )
     options = Options(**vars(parser.parse_args(words)))
     if options.undo and (options.follow or options.begin is not None or options.end is not None):
         parser.error("--undo has its own LSNs, and doesn't follow")
@@ -86,7 +124,11 @@ def arguments(words: Sequence[str]) -> Options:
 
 
 def form_of(options: Options, is_chosen: Callable[[Relation], bool]) -> Format | Bulk:
-    return Bulk(is_chosen, options.truncated) if options.format == "bulk" else FORMATS[options.format](is_chosen)
+    return (
+        Bulk(is_chosen, options.truncated)
+        if options.format == "bulk"
+        else FORMATS[options.format](is_chosen)
+    )
 
 
 def run(options: Options, check: Check) -> int:
@@ -96,7 +138,9 @@ def run(options: Options, check: Check) -> int:
         if options.undo:
             undo(reader, options.undo[1], chosen, check, put)
         else:
-            print_commits(Poll(reader, options.follow, check), options, form_of(options, chosen), chosen)
+            print_commits(
+                Poll(reader, options.follow, check), options, form_of(options, chosen), chosen
+            )
     return 0
 
 

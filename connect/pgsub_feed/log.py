@@ -1,4 +1,5 @@
-"""The lines on standard error: `2026-11-25T09:00:00Z pgsub-connect: warning: text`, with one of the levels info, warning and error."""
+"""The lines on standard error: `2026-11-25T09:00:00Z pgsub-connect: warning: text`, with one of the
+levels info, warning and error."""
 
 from __future__ import annotations
 
@@ -23,10 +24,14 @@ def escaped(text: str) -> str:
 
 
 def line(level: str, text: str) -> None:
-    """Writes a line. Each line of a longer text gets its own head, so that nothing can look as if this program had said it."""
+    """Writes a line. Each line of a longer text gets its own head, so that nothing can look as if
+    this program had said it."""
     now = time.strftime("%Y-%m-%dT%H:%M:%SZ", time.gmtime())
     first, *more = text.split("\n")
-    lines = [f"{now} {PROGRAM}: {level}: {escaped(first)}\n", *(f"{now} {PROGRAM}: {level}:   {escaped(it)}\n" for it in more)]
+    lines = [
+        f"{now} {PROGRAM}: {level}: {escaped(first)}\n",
+        *(f"{now} {PROGRAM}: {level}:   {escaped(it)}\n" for it in more),
+    ]
     # (where nobody reads them any more, following goes on)
     with contextlib.suppress(OSError, ValueError):
         sys.stderr.write("".join(lines))

@@ -9,7 +9,11 @@ LONGEST = 2000
 def parse_lsn(text: str) -> int:
     """The LSN that a text as `16/B374D848` is. A ValueError says that it is none."""
     high, _, low = text.partition("/")
-    if not (1 <= len(high) <= 8 and 1 <= len(low) <= 8 and all(it in "0123456789abcdefABCDEF" for it in high + low)):
+    if not (
+        1 <= len(high) <= 8
+        and 1 <= len(low) <= 8
+        and all(it in "0123456789abcdefABCDEF" for it in high + low)
+    ):
         raise ValueError(f"{text!r} is not an LSN, as 16/B374D848")
     return (int(high, 16) << 32) + int(low, 16)
 
@@ -25,7 +29,8 @@ def literal(text: str) -> str:
 
 
 def replication_literal(text: str) -> str:
-    """A string constant of a replication command, in which a backslash is a character as any other."""
+    """A string constant of a replication command, in which a backslash is a character as any
+    other."""
     return "'" + text.replace("'", "''") + "'"
 
 
@@ -38,7 +43,8 @@ def counted(number: int, thing: str) -> str:
 
 
 def is_utf_8(text: str) -> bool:
-    """Whether a word of the command line, or the like, was UTF-8: bytes that aren't have become surrogates."""
+    """Whether a word of the command line, or the like, was UTF-8: bytes that aren't have become
+    surrogates."""
     try:
         text.encode()
     except UnicodeEncodeError:

@@ -1,4 +1,5 @@
-"""Unit tests of the connector, without a server. Their files are in memory where that is possible, since they sync many of them."""
+"""Unit tests of the connector, without a server. Their files are in memory where that is possible,
+since they sync many of them."""
 
 import os
 import sys

@@ -1,4 +1,5 @@
-"""A follower of a server in small, which adds tables, and a comparison of what its store has in the end."""
+"""A follower of a server in small, which adds tables, and a comparison of what its store has in the
+end."""
 
 from __future__ import annotations
 
@@ -13,22 +14,31 @@ from pathlib import Path
 from unittest import mock
 
 from pgsub_connect.add import adder
-from pgsub_connect.follow import follower, statuses
-from pgsub_connect.server import connection
-from pgsub_connect.drift import watch
-from pgsub_connect.store.checkpoint import Checkpoint
 from pgsub_connect.commands.drop import read_known
+from pgsub_connect.commands.options import Options
+from pgsub_connect.drift import watch
+from pgsub_connect.drift.remembered import Remembered
+from pgsub_connect.follow import follower, statuses
 from pgsub_connect.follow.filter import Filter
 from pgsub_connect.follow.follower import Follower
-from pgsub_connect.commands.options import Options
+from pgsub_connect.server import connection
 from pgsub_connect.status.progress import Progress
-from pgsub_connect.drift.remembered import Remembered
+from pgsub_connect.store.checkpoint import Checkpoint
 from pgsub_connect.store.snapshot import Snapshots
 from pgsub_feed.texts import lsn_text
 
 from .fake_server import FakeServer, Quiet, Row
 from .row_filter import Store
-from .small_world import World, WorldServer, WorldSource, catalog_table, delete, insert, table, update
+from .small_world import (
+    World,
+    WorldServer,
+    WorldSource,
+    catalog_table,
+    delete,
+    insert,
+    table,
+    update,
+)
 from .vectors import a_catalog
 
 T, OTHER, THIRD = 16385, 16390, 16395
@@ -48,8 +58,8 @@ FILTER = compiled(os.path.join(os.path.dirname(os.path.abspath(__file__)), "row_
 
 
 class Begun:
-    """What a run over a world as it begins leaves, which is the same for all tests: the session, and
-    the files of the store."""
+    """What a run over a world as it begins leaves, which is the same for all tests: the session,
+    and the files of the store."""
 
     sessions: list[tuple[int, str]] = []
     files: dict[str, bytes] = {}
@@ -78,16 +88,32 @@ class Run:
         words = ["/usr/bin/python3", "-S", "-E", FILTER, "follow", "--store", case.store]
         most = options.get("max_buffered", 1 << 26)
         self.filter = Filter([*words, "--max-buffered", str(most)], (self.checkpoint.file,))
-        chosen = Options(store=case.store, dsn=case.server.dsn(), publication=["pgsub"], max_frame=1 << 24, heartbeat=0.2)
+        chosen = Options(
+            store=case.store,
+            dsn=case.server.dsn(),
+            publication=["pgsub"],
+            max_frame=1 << 24,
+            heartbeat=0.2,
+        )
         chosen.max_buffered = 1 << 26
         for name, value in options.items():
             setattr(chosen, name, value)
         self.progress, self.remembered = Progress(), Remembered(case.store)
         if self.remembered.catalog is None:
-            self.remembered.begin_copy(a_catalog(*map(catalog_table, case.world.tables.values())), 0)
+            self.remembered.begin_copy(
+                a_catalog(*map(catalog_table, case.world.tables.values())), 0
+            )
             self.remembered.save()
         self.snapshots = Snapshots(case.store, None, 0.0)
-        self.follower = Follower(chosen, self.checkpoint, self.filter, self.progress, None, self.snapshots, self.remembered)
+        self.follower = Follower(
+            chosen,
+            self.checkpoint,
+            self.filter,
+            self.progress,
+            None,
+            self.snapshots,
+            self.remembered,
+        )
         # what the follower's thread calls between payloads
         self.calls: collections.deque[Callable[[], None]] = collections.deque()
         real = self.follower.adder.step
@@ -142,18 +168,28 @@ class Case(Quiet):
         self.world = World(table(T, "t"), table(OTHER, "other"), table(THIRD, "third"))
         self.brain = FakeServer()
         answers: Sequence[tuple[str, Callable[[str], list[Row]]]] = (
-            ("IDENTIFY_SYSTEM", lambda _: [["77", "1", lsn_text(self.world.end), "shop"]]), ("pg_is_in_recovery", lambda _: [["f"]]),
-            ("pg_postmaster_start_time", lambda _: [["1000"]]), ("s.confirmed_flush_lsn", lambda _: [["pgoutput", "t", "f", "0"]]),
-            ("SHOW wal_sender_timeout", lambda _: [["1min"]]), ("set_config", lambda _: [[""]]),
+            ("IDENTIFY_SYSTEM", lambda _: [["77", "1", lsn_text(self.world.end), "shop"]]),
+            ("pg_is_in_recovery", lambda _: [["f"]]),
+            ("pg_postmaster_start_time", lambda _: [["1000"]]),
+            ("s.confirmed_flush_lsn", lambda _: [["pgoutput", "t", "f", "0"]]),
+            ("SHOW wal_sender_timeout", lambda _: [["1min"]]),
+            ("set_config", lambda _: [[""]]),
         )
         for part, rows in answers:
             self.brain.answer(part, rows)
         self.server = WorldServer(self.folder, self.brain, self.world)
         self.addCleanup(self.server.close)
         for where, name, by in (
-            (connection, "TICK", 0.02), (follower, "STEP", 0.02), (follower, "SLEEP", 0.02), (follower, "ASK", 0.02),
-            (statuses, "QUIET", 0.05), (follower, "FIRST_DELAY", 0.01), (adder, "FIRST_DELAY", 0.02), (adder, "Source", WorldSource),
-            (watch.Watch, "compare", lambda *_: True), (watch.Watch, "look_again", lambda *_: True),
+            (connection, "TICK", 0.02),
+            (follower, "STEP", 0.02),
+            (follower, "SLEEP", 0.02),
+            (follower, "ASK", 0.02),
+            (statuses, "QUIET", 0.05),
+            (follower, "FIRST_DELAY", 0.01),
+            (adder, "FIRST_DELAY", 0.02),
+            (adder, "Source", WorldSource),
+            (watch.Watch, "compare", lambda *_: True),
+            (watch.Watch, "look_again", lambda *_: True),
         ):
             self.patch(where, name, by)
         WorldSource.world = self.world
@@ -172,19 +208,36 @@ class Case(Quiet):
         """Changes of all kinds, in one commit and in several."""
         self.next += 1
         it, world = self.next, self.world
-        world.commit(insert(T, (it, "new")), insert(OTHER, (it, "new")), update(T, (it - 1, "changed")), delete(OTHER, it - 2))
+        world.commit(
+            insert(T, (it, "new")),
+            insert(OTHER, (it, "new")),
+            update(T, (it - 1, "changed")),
+            delete(OTHER, it - 2),
+        )
         world.commit(insert(T, (it + 1000, "t alone")))
-        world.commit(delete(T, it % 25), insert(T, (it % 25, f"{it}")), update(OTHER, (it % 25, f"{it}")))
+        world.commit(
+            delete(T, it % 25), insert(T, (it % 25, f"{it}")), update(OTHER, (it % 25, f"{it}"))
+        )
 
     def spoil(self) -> None:
         """Makes the rows of a table wrong in the copy, which nobody follows."""
         with contextlib.closing(Store(self.store).base) as base:
-            base.execute("UPDATE held SET body = (SELECT body FROM held WHERE oid = ? LIMIT 1) WHERE oid = ?", (OTHER, T))
-            base.execute("DELETE FROM held WHERE rowid IN (SELECT rowid FROM held WHERE oid = ? LIMIT 5)", (T,))
+            base.execute(
+                "UPDATE held SET body = (SELECT body FROM held WHERE oid = ? LIMIT 1) WHERE oid = ?",
+                (OTHER, T),
+            )
+            base.execute(
+                "DELETE FROM held WHERE rowid IN (SELECT rowid FROM held WHERE oid = ? LIMIT 5)",
+                (T,),
+            )
 
     def is_stored(self, run: Run) -> bool:
         """Whether the copy has all that the world has."""
-        return run.filter.is_running() and run.filter.status != b"" and run.filter.confirmed() >= self.world.commits[-1][0]
+        return (
+            run.filter.is_running()
+            and run.filter.status != b""
+            and run.filter.confirmed() >= self.world.commits[-1][0]
+        )
 
     def followed(self) -> None:
         """Follows until all is stored, and ends."""
@@ -215,7 +268,9 @@ class Case(Quiet):
             # (a session that has left out changes is followed by one that leaves out none)
             return changed and self.is_stored(run) and not run.follower.is_whole
 
-        self.assertTrue(run.until(is_done), (self.said, run.raised, run.checkpoint.known, run.remembered.wanted))
+        self.assertTrue(
+            run.until(is_done), (self.said, run.raised, run.checkpoint.known, run.remembered.wanted)
+        )
         run.end()
         self.assertIsNone(run.raised)
         self.compare()
@@ -225,4 +280,11 @@ class Case(Quiet):
         with contextlib.closing(Store(self.store).base):
             store = Store(self.store)
             self.assertEqual(store.rows(), self.world.rows())
-        self.assertEqual((WorldSource.open, read_known(self.store + ".connector").adding, Remembered(self.store).wanted), (0, {}, {}))
+        self.assertEqual(
+            (
+                WorldSource.open,
+                read_known(self.store + ".connector").adding,
+                Remembered(self.store).wanted,
+            ),
+            (0, {}, {}),
+        )

@@ -1,10 +1,12 @@
 #!/usr/bin/python3 -SE
-"""A filter in the place of `pgsub follow`: it stores nothing but its position, and says what the tests ask it to.
+"""A filter in the place of `pgsub follow`: it stores nothing but its position, and says what the
+tests ask it to.
 
 usage: fake_filter follow --store FILE [--proto N] [--feed FOLDER --feed-system TEXT --feed-database TEXT --feed-slot TEXT] ..
 
-The file holds the position as text. Of a commit the feed has the line alone. A Delete finds no row, and anything else does. FAKE_FILTER in its first line's place: a file
-FILE.says may hold one of these words:
+The file holds the position as text. Of a commit the feed has the line alone. A Delete finds no row,
+and anything else does. FAKE_FILTER in its first line's place: a file FILE.says may hold one of
+these words:
   `status N TEXT`    ends at the first frame, with this status and this line on standard error
   `bytes HEX`        writes these bytes in place of its first status
   `slow SECONDS`     waits so long before its first status
@@ -12,7 +14,8 @@ FILE.says may hold one of these words:
   `parts PATH`       says a line on standard error in two parts, the second one once this file is
                      there, which it takes away
   `dies LSN`         kills itself once it has stored the commit with this end, in decimal, and takes the file away
-  `rejects LSN N TEXT`  ends at the commit with this end, in decimal, with this status and this line on standard error, and takes the
+  `rejects LSN N TEXT`  ends at the commit with this end, in decimal, with this status and this line
+  on standard error, and takes the
                      file away; it confirms none of those before, as if all came at once
 
 The tests start it often, so it imports little.
@@ -56,7 +59,8 @@ class Fake:
 
     def __init__(self, store: str, says: list[str]) -> None:
         self.store, self.position, self.says = store, 0, says
-        # the tables of changes of a commit that found no row, and of all of them how many, and the first one's table and commit
+        # the tables of changes of a commit that found no row, and of all of them how many, and the
+        # first one's table and commit
         self.missing: list[int] = []
         self.count, self.first = 0, (0, 0)
         if os.path.exists(store):
@@ -66,7 +70,8 @@ class Fake:
         self.feed: Writer | None = None
 
     def open_feed(self, name: str, named: tuple[str, str, str]) -> bool:
-        """Begins a feed, or goes on with one whose last commit is the store's. Returns false where it isn't that of the store."""
+        """Begins a feed, or goes on with one whose last commit is the store's. Returns false where
+        it isn't that of the store."""
         from pathlib import Path
 
         sys.path.append(str(Path(__file__).resolve().parent.parent.parent / "tools"))
@@ -77,7 +82,10 @@ class Fake:
         if there:
             last = there[-1].read_bytes()
             commit = last[-COMMIT_SIZE:].decode() if len(last) > 1024 else ""
-            if f'"end":"{lsn_text(self.position)}"' not in commit and int(there[-1].name, 16) != self.position:
+            if (
+                f'"end":"{lsn_text(self.position)}"' not in commit
+                and int(there[-1].name, 16) != self.position
+            ):
                 return False
         self.feed = Writer(folder, self.position, named=named)
         return True
@@ -124,7 +132,8 @@ class Fake:
         os.write(2, line[cut:])
 
     def take(self, payload: bytes) -> None:
-        """Takes a payload, and says a status where the confirmed position has moved or one is asked for."""
+        """Takes a payload, and says a status where the confirmed position has moved or one is asked
+        for."""
         before = self.confirmed
         if payload[:1] == b"k":
             if not self.inside:
@@ -137,7 +146,9 @@ class Fake:
             at = 35 if payload[25] == COMMIT else 39
             self.keep(int.from_bytes(payload[at : at + 8], "big"))
             self.inside = False
-        if (self.confirmed > before or payload[:1] == b"k" and payload[17] == 1) and self.says[:1] != ["rejects"]:
+        if (self.confirmed > before or payload[:1] == b"k" and payload[17] == 1) and self.says[
+            :1
+        ] != ["rejects"]:
             self.status()
 
 
@@ -156,7 +167,9 @@ def main(words: list[str]) -> int:
     says = said(store)
     fake = Fake(store, says)
     if "--feed" in words:
-        folder, *named = (words[words.index(f"--feed{it}") + 1] for it in ("", "-system", "-database", "-slot"))
+        folder, *named = (
+            words[words.index(f"--feed{it}") + 1] for it in ("", "-system", "-database", "-slot")
+        )
         if not fake.open_feed(folder, (named[0], named[1], named[2])):
             print("pgsub: feed 1 NotAFeed", file=sys.stderr, flush=True)
             return 3

@@ -35,7 +35,8 @@ WINDOW = 120.0
 
 
 class FakeNats:
-    """The server. `stream` is what it keeps; `accepts`: after how many more messages the connection ends, None where it doesn't."""
+    """The server. `stream` is what it keeps; `accepts`: after how many more messages the connection
+    ends, None where it doesn't."""
 
     def __init__(self) -> None:
         self.listening = socket.create_server(("127.0.0.1", 0))
@@ -112,7 +113,13 @@ class FakeNats:
         if sequence and time.monotonic() - when < WINDOW:
             return {"stream": "pgsub", "seq": sequence, "duplicate": True}
         if int(header(headers, "Nats-Expected-Last-Sequence")) != self.last:
-            return {"error": {"code": 400, "err_code": 10071, "description": f"wrong last sequence: {self.last}"}}
+            return {
+                "error": {
+                    "code": 400,
+                    "err_code": 10071,
+                    "description": f"wrong last sequence: {self.last}",
+                }
+            }
         self.add(subject, headers, data)
         return {"stream": "pgsub", "seq": self.last}
 
@@ -132,16 +139,29 @@ class FakeNats:
             return {"error": {"code": 404, "err_code": 10059, "description": "stream not found"}}
         if call == "STREAM.PURGE":
             keep, first = body.get("keep", 0), body.get("seq", self.last + 1)
-            self.stream[:] = self.stream[len(self.stream) - keep :] if keep else [it for it in self.stream if it.sequence >= first]
+            self.stream[:] = (
+                self.stream[len(self.stream) - keep :]
+                if keep
+                else [it for it in self.stream if it.sequence >= first]
+            )
         if call == "STREAM.MSG.GET":
             return self.get(body)
         first = self.stream[0].sequence if self.stream else self.last + 1
-        return {"config": self.config, "state": {"messages": len(self.stream), "first_seq": first, "last_seq": self.last}}
+        return {
+            "config": self.config,
+            "state": {"messages": len(self.stream), "first_seq": first, "last_seq": self.last},
+        }
 
     def get(self, body: dict[str, Any]) -> dict[str, Any]:
-        found = [it for it in self.stream or [] if body.get("seq") == it.sequence or body.get("last_by_subj") == it.subject]
+        found = [
+            it
+            for it in self.stream or []
+            if body.get("seq") == it.sequence or body.get("last_by_subj") == it.subject
+        ]
         if not found:
             return {"error": {"code": 404, "err_code": 10037, "description": "no message found"}}
         it = found[-1]
         headers, data = (base64.b64encode(part).decode() for part in (it.headers, it.data))
-        return {"message": {"subject": it.subject, "seq": it.sequence, "hdrs": headers, "data": data}}
+        return {
+            "message": {"subject": it.subject, "seq": it.sequence, "hdrs": headers, "data": data}
+        }

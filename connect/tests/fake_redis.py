@@ -21,7 +21,8 @@ class Stream(dict[tuple[int, int], dict[bytes, bytes]]):
 
 
 class FakeRedis:
-    """What it has by keys: bytes, the fields of a hash, or a stream. `changed` counts how often a key was altered."""
+    """What it has by keys: bytes, the fields of a hash, or a stream. `changed` counts how often a
+    key was altered."""
 
     def __init__(self) -> None:
         self.data = dict[bytes, Any]()
@@ -36,8 +37,11 @@ class FakeRedis:
     def rows(self) -> dict[str, dict[str, str]]:
         """The hashes."""
         return {
-            key.decode(): {name.decode(): cell.decode(errors="backslashreplace") for name, cell in it.items()}
-            for key, it in self.data.items() if type(it) is dict
+            key.decode(): {
+                name.decode(): cell.decode(errors="backslashreplace") for name, cell in it.items()
+            }
+            for key, it in self.data.items()
+            if type(it) is dict
         }
 
     def at(self) -> str | None:
@@ -46,7 +50,10 @@ class FakeRedis:
 
     def entries(self, stream: str) -> list[tuple[tuple[int, int], dict[str, str]]]:
         found = self.data.get(stream.encode(), Stream())
-        return [(at, {name.decode(): it.decode() for name, it in fields.items()}) for at, fields in found.items()]
+        return [
+            (at, {name.decode(): it.decode() for name, it in fields.items()})
+            for at, fields in found.items()
+        ]
 
     # ---- commands
 
@@ -102,11 +109,15 @@ class FakeRedis:
     def do_hgetall(self, key: bytes) -> list[bytes]:
         return [it for pair in self.data.get(key, {}).items() for it in pair]
 
-    def do_scan(self, cursor: bytes, _: bytes, pattern: bytes, __: bytes, count: bytes) -> list[Any]:
+    def do_scan(
+        self, cursor: bytes, _: bytes, pattern: bytes, __: bytes, count: bytes
+    ) -> list[Any]:
         keys, at = sorted(self.data), int(cursor)
         # (a backslash escapes a sign)
         glob = re.sub(r"\\(.)", lambda it: f"[{it[1]}]", pattern.decode())
-        found = [it for it in keys[at : at + 3] if fnmatch.fnmatchcase(it.decode(errors="replace"), glob)]
+        found = [
+            it for it in keys[at : at + 3] if fnmatch.fnmatchcase(it.decode(errors="replace"), glob)
+        ]
         return [b"%d" % (at + 3 if at + 3 < len(keys) else 0), found]
 
     def do_xadd(self, key: bytes, id: bytes, *pairs: bytes) -> Any:
@@ -115,7 +126,9 @@ class FakeRedis:
             return Said(WRONG_TYPE)
         at = (int(id.partition(b"-")[0]), int(id.partition(b"-")[2]))
         if at <= found.last:
-            return Said("ERR The ID specified in XADD is equal or smaller than the target stream top item")
+            return Said(
+                "ERR The ID specified in XADD is equal or smaller than the target stream top item"
+            )
         found[at], found.last = dict(zip(pairs[::2], pairs[1::2])), at
         self.touch(key)
         return id
@@ -151,7 +164,10 @@ class FakeCalls:
         self.check: Check = never
 
     def run(self, commands: Sequence[Command]) -> list[Any]:
-        return [self.one([it if isinstance(it, bytes) else str(it).encode() for it in command]) for command in commands]
+        return [
+            self.one([it if isinstance(it, bytes) else str(it).encode() for it in command])
+            for command in commands
+        ]
 
     def one(self, command: list[bytes]) -> Any:
         name = command[0]

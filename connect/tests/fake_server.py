@@ -1,4 +1,5 @@
-"""A server in the place of one that is there: it answers queries by what stands in them, and keeps what it was told."""
+"""A server in the place of one that is there: it answers queries by what stands in them, and keeps
+what it was told."""
 
 from __future__ import annotations
 
@@ -131,6 +132,8 @@ class Quiet(unittest.TestCase):
 
     def setUp(self) -> None:
         self.said: list[str] = []
-        patch = mock.patch("pgsub_feed.log.line", lambda level, text: self.said.append(with_level(level, text)))
+        patch = mock.patch(
+            "pgsub_feed.log.line", lambda level, text: self.said.append(with_level(level, text))
+        )
         patch.start()
         self.addCleanup(patch.stop)

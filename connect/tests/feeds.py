@@ -15,7 +15,11 @@ ID, NAME = Column("id", INT4, -1, True), Column("name", TEXT)
 
 
 def table(
-    oid: int = 1, name: str = "stock", columns: Sequence[Column] = (ID, NAME), letter: str = "d", schema: str = "public"
+    oid: int = 1,
+    name: str = "stock",
+    columns: Sequence[Column] = (ID, NAME),
+    letter: str = "d",
+    schema: str = "public",
 ) -> Definition:
     return Definition(oid, schema, name, letter, tuple(columns))
 

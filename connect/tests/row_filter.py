@@ -1,11 +1,13 @@
 #!/usr/bin/python3 -SE
-"""A filter in the place of `pgsub follow` that keeps rows, in a file of the store's format: for tests that compare rows.
+"""A filter in the place of `pgsub follow` that keeps rows, in a file of the store's format: for
+tests that compare rows.
 
 usage: row_filter follow --store FILE [--proto N] [--max-buffered N] [--max-frame N] ..
        row_filter dump --store FILE
 
-It is a plain reading of docs/PROTOCOL.md, slow, and checks no more than it needs to. The file FILE.dies may hold an LSN in decimal: the
-filter kills itself before it stores the commit with that end, and takes the file away.
+It is a plain reading of docs/PROTOCOL.md, slow, and checks no more than it needs to. The file
+FILE.dies may hold an LSN in decimal: the filter kills itself before it stores the commit with that
+end, and takes the file away.
 
 The tests start it often, so it imports little.
 """
@@ -47,7 +49,13 @@ class Relation:
     """What a Relation message says."""
 
     def __init__(
-        self, oid: int, namespace: str, name: str, letter: str, columns: list[tuple[int, str]], raw: bytes
+        self,
+        oid: int,
+        namespace: str,
+        name: str,
+        letter: str,
+        columns: list[tuple[int, str]],
+        raw: bytes,
     ) -> None:
         self.oid, self.namespace, self.name, self.letter = oid, namespace, name, letter
         self.columns, self.raw = columns, raw
@@ -75,7 +83,12 @@ def read_relation(body: bytes) -> Relation:
     """A Relation message without its letter and xid."""
     namespace, at = string(body, 4)
     name, at = string(body, at)
-    letter, count, rest, columns = chr(body[at]), number(body, at + 1, 2), body[at + 1 :], list[tuple[int, str]]()
+    letter, count, rest, columns = (
+        chr(body[at]),
+        number(body, at + 1, 2),
+        body[at + 1 :],
+        list[tuple[int, str]](),
+    )
     at += 3
     for _ in range(count):
         column, end = string(body, at + 1)
@@ -99,7 +112,9 @@ def read_tuple(data: bytes, at: int) -> tuple[list[Cell], int]:
 def spelled(cells: list[Cell]) -> bytes:
     parts = [struct.pack(">H", len(cells))]
     for letter, value in cells:
-        parts.append(b"n" if letter == "n" else letter.encode() + struct.pack(">I", len(value)) + value)
+        parts.append(
+            b"n" if letter == "n" else letter.encode() + struct.pack(">I", len(value)) + value
+        )
     return b"".join(parts)
 
 
@@ -110,7 +125,10 @@ class Store:
         self.path = path
         # (what is in memory is read by several threads of a test, one at a time)
         self.base = sqlite3.connect(
-            path, isolation_level=None, timeout=0 if own else 5, check_same_thread=path != ":memory:"
+            path,
+            isolation_level=None,
+            timeout=0 if own else 5,
+            check_same_thread=path != ":memory:",
         )
         # (it outlasts a kill, and no power cut)
         self.base.execute("PRAGMA synchronous = OFF")
@@ -124,7 +142,15 @@ class Store:
         if row is None:
             self.base.execute("INSERT INTO pos VALUES (0, ?)", (bytes(8),))
         self.described = {
-            oid: read_relation(struct.pack(">I", oid) + nsp.encode() + b"\0" + name.encode() + b"\0" + bytes([letter]) + cols)
+            oid: read_relation(
+                struct.pack(">I", oid)
+                + nsp.encode()
+                + b"\0"
+                + name.encode()
+                + b"\0"
+                + bytes([letter])
+                + cols
+            )
             for oid, nsp, name, letter, cols in self.base.execute("SELECT * FROM rel")
         }
 
@@ -164,12 +190,16 @@ class Store:
             self.replace(relation, old if old is not None else new or [], new)
 
     def carry(self, before: Relation, now: Relation) -> None:
-        rows = self.base.execute("SELECT body, copies FROM held WHERE oid = ?", (now.oid,)).fetchall()
+        rows = self.base.execute(
+            "SELECT body, copies FROM held WHERE oid = ?", (now.oid,)
+        ).fetchall()
         self.base.execute("DELETE FROM held WHERE oid = ?", (now.oid,))
         names = [name for _, name in before.columns]
         for body, copies in rows:
             cells = read_tuple(body, 0)[0]
-            carried = [cells[names.index(name)] if name in names else ("n", b"") for _, name in now.columns]
+            carried = [
+                cells[names.index(name)] if name in names else ("n", b"") for _, name in now.columns
+            ]
             for _ in range(copies):
                 self.put(now, carried)
 
@@ -180,21 +210,32 @@ class Store:
 
     def put(self, relation: Relation, cells: list[Cell]) -> None:
         ident = self.ident(relation, cells)
-        found = self.base.execute("SELECT copies FROM held WHERE oid = ? AND ident = ?", (relation.oid, ident)).fetchone()
+        found = self.base.execute(
+            "SELECT copies FROM held WHERE oid = ? AND ident = ?", (relation.oid, ident)
+        ).fetchone()
         if found and relation.is_keyed():
             raise Fault(1, f"pgsub: store 1 Clash in {relation.name}")
         if found:
-            self.base.execute("UPDATE held SET copies = copies + 1 WHERE oid = ? AND ident = ?", (relation.oid, ident))
+            self.base.execute(
+                "UPDATE held SET copies = copies + 1 WHERE oid = ? AND ident = ?",
+                (relation.oid, ident),
+            )
         else:
-            self.base.execute("INSERT INTO held VALUES (?, ?, ?, 1)", (relation.oid, ident, spelled(cells)))
+            self.base.execute(
+                "INSERT INTO held VALUES (?, ?, ?, 1)", (relation.oid, ident, spelled(cells))
+            )
 
     def replace(self, relation: Relation, old: list[Cell], new: list[Cell] | None) -> None:
         where = (relation.oid, self.ident(relation, old))
-        found = self.base.execute("SELECT body, copies FROM held WHERE oid = ? AND ident = ?", where).fetchone()
+        found = self.base.execute(
+            "SELECT body, copies FROM held WHERE oid = ? AND ident = ?", where
+        ).fetchone()
         if found is None:
             return
         if found[1] > 1:
-            self.base.execute("UPDATE held SET copies = copies - 1 WHERE oid = ? AND ident = ?", where)
+            self.base.execute(
+                "UPDATE held SET copies = copies - 1 WHERE oid = ? AND ident = ?", where
+            )
         else:
             self.base.execute("DELETE FROM held WHERE oid = ? AND ident = ?", where)
         if new is not None:
@@ -205,7 +246,10 @@ class Store:
         """Each table's rows, and how often each is there."""
         found: dict[int, collections.Counter[tuple[str | None, ...]]] = {}
         for oid, body, copies in self.base.execute("SELECT oid, body, copies FROM held"):
-            cells = tuple(None if letter == "n" else value.decode() for letter, value in read_tuple(body, 0)[0])
+            cells = tuple(
+                None if letter == "n" else value.decode()
+                for letter, value in read_tuple(body, 0)[0]
+            )
             found.setdefault(oid, collections.Counter())[cells] += copies
         return found
 
@@ -293,7 +337,9 @@ class Subscriber:
                 relation = read_relation(body)
                 self.relations[relation.oid] = relation
             elif letter == "T":
-                changes += [(self.known(number(body, at, 4)), letter, b"") for at in range(5, len(body), 4)]
+                changes += [
+                    (self.known(number(body, at, 4)), letter, b"") for at in range(5, len(body), 4)
+                ]
             else:
                 changes.append((self.known(number(body, 0, 4)), letter, body))
         if end > self.store.position:
@@ -350,7 +396,9 @@ def dump(store: Store) -> None:
     for oid, rows in sorted(store.rows().items()):
         it = store.described[oid]
         for row, count in rows.items():
-            print(json.dumps([it.namespace or "pg_catalog", it.name, row, count], ensure_ascii=False))
+            print(
+                json.dumps([it.namespace or "pg_catalog", it.name, row, count], ensure_ascii=False)
+            )
     print(f"position {store.position >> 32:X}/{store.position & 0xFFFFFFFF:X}")
 
 

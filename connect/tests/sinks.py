@@ -7,9 +7,10 @@ from typing import Any
 from unittest import mock
 
 from feed_text import Line
+
+from pgsub_connect.commands import sink
 from pgsub_connect.commands.options import Options
 from pgsub_connect.server.connection import never
-from pgsub_connect.commands import sink
 
 from .fake_redis import FakeCalls, FakeRedis
 from .feeds import FeedCase
@@ -51,7 +52,9 @@ class RedisCase(SinkCase):
     def setUp(self) -> None:
         super().setUp()
         self.server = FakeRedis()
-        patched = mock.patch("pgsub_feed.sinks.redis_calls.Connection", lambda *_: FakeCalls(self.server))
+        patched = mock.patch(
+            "pgsub_feed.sinks.redis_calls.Connection", lambda *_: FakeCalls(self.server)
+        )
         patched.start()
         self.addCleanup(patched.stop)
 
@@ -66,5 +69,7 @@ def stock(*rows: Sequence[str | None]) -> dict[str, dict[str, str]]:
     """Rows of the table `stock`, as hashes."""
     found = {}
     for row in rows:
-        found[f"stock:{row[0]}"] = {name: it for name, it in zip(("id", "name"), row) if it is not None}
+        found[f"stock:{row[0]}"] = {
+            name: it for name, it in zip(("id", "name"), row) if it is not None
+        }
     return found

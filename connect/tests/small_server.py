@@ -1,4 +1,5 @@
-"""A server on a socket, as far as the connector's libpq needs one: it logs everybody in and answers queries by a FakeServer's answers."""
+"""A server on a socket, as far as the connector's libpq needs one: it logs everybody in and answers
+queries by a FakeServer's answers."""
 
 from __future__ import annotations
 
@@ -13,13 +14,13 @@ import threading
 import time
 from collections.abc import Iterator
 
-from pgsub_connect.errors import ServerError
-
 from server_messages import COPY_BOTH as COPY_BOTH
 from server_messages import READY as READY
 from server_messages import answered as answered
 from server_messages import error as error
 from server_messages import message as message
+
+from pgsub_connect.errors import ServerError
 
 from .fake_server import FakeServer
 
@@ -37,7 +38,15 @@ def make_certificate(path: str, name: str = "127.0.0.1") -> str:
     """Makes a file with a key and a certificate that it has signed itself, for an address. Returns
     its path."""
     words = ["openssl", "req", "-x509", "-newkey", "ec", "-pkeyopt", "ec_paramgen_curve:prime256v1"]
-    words += ["-nodes", "-days", "2", "-subj", f"/CN={name}", "-addext", f"subjectAltName=IP:{name}"]
+    words += [
+        "-nodes",
+        "-days",
+        "2",
+        "-subj",
+        f"/CN={name}",
+        "-addext",
+        f"subjectAltName=IP:{name}",
+    ]
     words += ["-keyout", path + ".key", "-out", path + ".crt"]
     subprocess.run(words, check=True, capture_output=True)
     with open(path, "w", encoding="ascii") as file:
@@ -54,10 +63,22 @@ class SmallServer:
     certificate and key by which it has TLS; `asks`: whether it asks for passwords in clear text."""
 
     def __init__(
-        self, folder: str, brain: FakeServer, *, port: int = 5432, standby: bool = False,
-        refusal: bytes = b"", by_tcp: bool = False,
+        self,
+        folder: str,
+        brain: FakeServer,
+        *,
+        port: int = 5432,
+        standby: bool = False,
+        refusal: bytes = b"",
+        by_tcp: bool = False,
     ) -> None:
-        self.folder, self.brain, self.port, self.standby, self.refusal = folder, brain, port, standby, refusal
+        self.folder, self.brain, self.port, self.standby, self.refusal = (
+            folder,
+            brain,
+            port,
+            standby,
+            refusal,
+        )
         self.silent, self.lets_in, self.version, self.read_only = "", True, "15.18", "off"
         # what a session sends once it copies, and what it was told then: when, and the payload
         self.to_send: list[bytes] = []
@@ -134,7 +155,11 @@ class SmallServer:
                 head = self.read(peer, 5)
                 password = self.read(peer, struct.unpack(">i", head[1:])[0] - 4)[:-1].decode()
                 self.passwords.append((password, not isinstance(peer, ssl.SSLSocket)))
-            said = {"server_version": self.version, "client_encoding": "UTF8", "default_transaction_read_only": self.read_only}
+            said = {
+                "server_version": self.version,
+                "client_encoding": "UTF8",
+                "default_transaction_read_only": self.read_only,
+            }
             said["in_hot_standby"] = "on" if self.standby else "off"
             peer.sendall(message(b"R", bytes(4)))
             for name, value in said.items():
@@ -207,8 +232,8 @@ class SmallServer:
             copies.clear()
 
     def send_all(self, peer: socket.socket, copies: threading.Event) -> None:
-        """Sends what there is to send as long as the session copies; what couldn't be sent is left to
-        the next one."""
+        """Sends what there is to send as long as the session copies; what couldn't be sent is left
+        to the next one."""
         with contextlib.suppress(OSError, EOFError):
             while copies.is_set():
                 while self.to_send:

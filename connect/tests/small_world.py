@@ -1,4 +1,5 @@
-"""A server in small whose tables change: commits at rising LSNs, sessions that send them, and slots with a snapshot."""
+"""A server in small whose tables change: commits at rising LSNs, sessions that send them, and slots
+with a snapshot."""
 
 from __future__ import annotations
 
@@ -12,10 +13,10 @@ import threading
 import time
 from collections.abc import Callable, Iterator
 
+from pgsub_connect.copy.messages import relation as relation_body
 from pgsub_connect.server.catalog import Column as CatalogColumn
 from pgsub_connect.server.catalog import Part, Shape
 from pgsub_connect.server.catalog import Table as CatalogTable
-from pgsub_connect.copy.messages import relation as relation_body
 from pgsub_connect.server.connection import Check
 from pgsub_connect.server.publications import Column, Table
 from pgsub_feed.texts import parse_lsn
@@ -31,16 +32,36 @@ Row = tuple[int, str]
 
 
 def table(oid: int, name: str) -> Table:
-    return Table(oid, "public", name, "r", "d", None, None, [Column("id", 23, -1, True, 1), Column("note", 25, -1, False, 2)])
+    return Table(
+        oid,
+        "public",
+        name,
+        "r",
+        "d",
+        None,
+        None,
+        [Column("id", 23, -1, True, 1), Column("note", 25, -1, False, 2)],
+    )
 
 
 def catalog_table(it: Table) -> CatalogTable:
-    columns = tuple(CatalogColumn(c.name, c.type_oid, c.modifier, c.key, c.number) for c in it.columns)
-    return CatalogTable(it.oid, it.namespace, it.name, it.kind, Shape(it.identity, columns), {"pgsub": Part(None, None, False)})
+    columns = tuple(
+        CatalogColumn(c.name, c.type_oid, c.modifier, c.key, c.number) for c in it.columns
+    )
+    return CatalogTable(
+        it.oid,
+        it.namespace,
+        it.name,
+        it.kind,
+        Shape(it.identity, columns),
+        {"pgsub": Part(None, None, False)},
+    )
 
 
 def cells(*values: str) -> bytes:
-    return struct.pack(">H", len(values)) + b"".join(b"t" + struct.pack(">I", len(it.encode())) + it.encode() for it in values)
+    return struct.pack(">H", len(values)) + b"".join(
+        b"t" + struct.pack(">I", len(it.encode())) + it.encode() for it in values
+    )
 
 
 def insert(oid: int, row: Row) -> bytes:
@@ -56,7 +77,8 @@ def delete(oid: int, key: int) -> bytes:
 
 
 class World:
-    """What the server has. `commits`: the payloads of each without Relation messages, with its end."""
+    """What the server has. `commits`: the payloads of each without Relation messages, with its
+    end."""
 
     def __init__(self, *tables: Table) -> None:
         # those that are published, and all that there ever were
@@ -95,8 +117,11 @@ class World:
     def rows_of(self, *oids: int) -> dict[int, collections.Counter[tuple[str | None, ...]]]:
         return {oid: rows for oid, rows in self.rows().items() if oid in oids}
 
-    def described(self, start: int, commits: list[tuple[int, list[bytes]]], sent: set[int] | None = None) -> Iterator[bytes]:
-        """What a session from an LSN on sends of commits: Relation messages before the first change of each table."""
+    def described(
+        self, start: int, commits: list[tuple[int, list[bytes]]], sent: set[int] | None = None
+    ) -> Iterator[bytes]:
+        """What a session from an LSN on sends of commits: Relation messages before the first change
+        of each table."""
         sent = set() if sent is None else sent
         for end, payloads in commits:
             if end <= start:
@@ -114,14 +139,19 @@ class World:
             self.end += RUNNING
             rows = self.rows()
             lines = {
-                oid: ["\t".join(it or "" for it in row).encode() + b"\n" for row, count in found.items() for _ in range(count)]
+                oid: [
+                    "\t".join(it or "" for it in row).encode() + b"\n"
+                    for row, count in found.items()
+                    for _ in range(count)
+                ]
                 for oid, found in rows.items()
             }
             return self.end, lines
 
 
 class WorldServer(SmallServer):
-    """A server on a socket that sends what is committed. `started`: from where each session began, and with which options."""
+    """A server on a socket that sends what is committed. `started`: from where each session began,
+    and with which options."""
 
     def __init__(self, folder: str, brain: FakeServer, world: World) -> None:
         self.world = world
@@ -175,7 +205,8 @@ class WorldServer(SmallServer):
 
 
 class WorldSource:
-    """In the place of `meeting.Source`: reads the tables of a world. `hook` is called with the name of each call, and may raise."""
+    """In the place of `meeting.Source`: reads the tables of a world. `hook` is called with the name
+    of each call, and may raise."""
 
     world: World
     hook: Callable[[str], None] = staticmethod(lambda name: None)
@@ -211,7 +242,9 @@ class WorldSource:
 
     def rows(self, command: str) -> list[list[str | None]]:
         """The sizes of tables."""
-        return [[str(oid), str(sum(map(len, lines)))] for oid, lines in self.world.slot()[1].items()]
+        return [
+            [str(oid), str(sum(map(len, lines)))] for oid, lines in self.world.slot()[1].items()
+        ]
 
     def copied_blocks(self, command: str, size: int) -> Iterator[list[bytes]]:
         self.hook("COPY")

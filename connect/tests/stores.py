@@ -35,13 +35,20 @@ def spelled_once(cells: tuple[Cell, ...]) -> bytes:
     parts = [struct.pack(">H", len(cells))]
     for cell in cells:
         body = cell.encode() if isinstance(cell, str) else cell
-        parts.append(b"n" if body is None else (b"t" if isinstance(cell, str) else b"b") + struct.pack(">I", len(body)) + body)
+        parts.append(
+            b"n"
+            if body is None
+            else (b"t" if isinstance(cell, str) else b"b") + struct.pack(">I", len(body)) + body
+        )
     return b"".join(parts)
 
 
 def described(columns: Sequence[Described]) -> bytes:
     parts = [struct.pack(">H", len(columns))]
-    parts += [bytes([key]) + name.encode() + b"\0" + struct.pack(">Ii", oid, modifier) for key, name, oid, modifier in columns]
+    parts += [
+        bytes([key]) + name.encode() + b"\0" + struct.pack(">Ii", oid, modifier)
+        for key, name, oid, modifier in columns
+    ]
     return b"".join(parts)
 
 
@@ -56,17 +63,30 @@ class Store:
         self.move(position)
 
     def move(self, position: int) -> None:
-        self.base.execute("INSERT OR REPLACE INTO pos VALUES (0, ?)", (position.to_bytes(8, "big"),))
+        self.base.execute(
+            "INSERT OR REPLACE INTO pos VALUES (0, ?)", (position.to_bytes(8, "big"),)
+        )
 
     def table(
-        self, oid: int, name: str, columns: Sequence[Described] = (ID, NAME), *, letter: str = "d", schema: str = "public"
+        self,
+        oid: int,
+        name: str,
+        columns: Sequence[Described] = (ID, NAME),
+        *,
+        letter: str = "d",
+        schema: str = "public",
     ) -> None:
-        self.base.execute("INSERT INTO rel VALUES (?, ?, ?, ?, ?)", (oid, schema, name, ord(letter), described(columns)))
+        self.base.execute(
+            "INSERT INTO rel VALUES (?, ?, ?, ?, ?)",
+            (oid, schema, name, ord(letter), described(columns)),
+        )
 
     def row(self, oid: int, *cells: Cell, key: int | None = 1, copies: int = 1) -> None:
         """Adds a row whose first cells are its key, None where all of it is."""
         ident = spelled(cells[:key])
-        self.base.execute("INSERT INTO held VALUES (?, ?, ?, ?)", (oid, ident, spelled(cells), copies))
+        self.base.execute(
+            "INSERT INTO held VALUES (?, ?, ?, ?)", (oid, ident, spelled(cells), copies)
+        )
 
     def close(self) -> None:
         with contextlib.suppress(sqlite3.Error):

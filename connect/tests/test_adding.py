@@ -1,4 +1,5 @@
-"""Tables that are added to a running copy: what the store has in the end, and what is noted, wherever it is cut."""
+"""Tables that are added to a running copy: what the store has in the end, and what is noted,
+wherever it is cut."""
 
 from __future__ import annotations
 
@@ -9,11 +10,11 @@ from unittest import mock
 
 from pgsub_connect.add import adder as adder_module
 from pgsub_connect.add.adder import Adder
-from pgsub_connect.store.checkpoint import Checkpoint
-from pgsub_connect.errors import NoSlot, Passing, ServerError, Stopped
+from pgsub_connect.add.replacement import Rows
 from pgsub_connect.drift.findings import About
 from pgsub_connect.drift.remembered import Remembered
-from pgsub_connect.add.replacement import Rows
+from pgsub_connect.errors import NoSlot, Passing, ServerError, Stopped
+from pgsub_connect.store.checkpoint import Checkpoint
 
 from .adding_case import OTHER, THIRD, Case, Run, T
 from .row_filter import Store
@@ -38,7 +39,10 @@ class Added(Case):
         self.assertTrue(run.until(lambda: run.progress.state == "following"))
         self.assertIsNone(run.ask(add=[T, OTHER]))
         self.change()
-        self.assertTrue(run.until(lambda: self.server.sessions >= 4 and not run.remembered.wanted), (self.said, run.raised))
+        self.assertTrue(
+            run.until(lambda: self.server.sessions >= 4 and not run.remembered.wanted),
+            (self.said, run.raised),
+        )
         self.change()
         self.assertTrue(run.until(lambda: self.is_stored(run)))
         run.end()
@@ -47,7 +51,8 @@ class Added(Case):
         self.assertEqual(streams, [True, False, True])
 
     def test_tables_that_the_initial_copy_has_left_for_later(self) -> None:
-        """All of them are left out from the first session on, since their rows are a part at most; none needs a session of its own."""
+        """All of them are left out from the first session on, since their rows are a part at most;
+        none needs a session of its own."""
         self.patch(adder_module, "MOST", 1)
         self.followed()
         self.spoil()
@@ -60,8 +65,14 @@ class Added(Case):
 
         WorldSource.hook = staticmethod(no_slot)
         run = Run(self)
-        self.assertTrue(run.until(lambda: any("made no slot" in it for it in self.said)), (self.said, run.raised))
-        self.assertEqual((run.follower.adder.leaving.points, run.checkpoint.known.adding), (dict.fromkeys((T, OTHER, THIRD), 0), {}))
+        self.assertTrue(
+            run.until(lambda: any("made no slot" in it for it in self.said)),
+            (self.said, run.raised),
+        )
+        self.assertEqual(
+            (run.follower.adder.leaving.points, run.checkpoint.known.adding),
+            (dict.fromkeys((T, OTHER, THIRD), 0), {}),
+        )
         run.end()
         WorldSource.hook = staticmethod(lambda name: None)
         self.goes_on()
@@ -90,7 +101,9 @@ class Added(Case):
         self.spoil()
         for moment in ("Source", "make_slot", "see", "COPY", "block"):
             self.want(T)
-            WorldSource.hook = staticmethod(lambda name, moment=moment: self.change() if name == moment else None)
+            WorldSource.hook = staticmethod(
+                lambda name, moment=moment: self.change() if name == moment else None
+            )
             self.goes_on()
 
     def test_a_table_that_is_not_published(self) -> None:
@@ -112,10 +125,15 @@ class Added(Case):
         self.assertTrue(run.until(lambda: run.progress.state == "following"))
         self.assertIsNone(run.ask(add=[T], remove=[OTHER]))
         self.world.commit(insert(T, (500, "x")))
-        self.assertTrue(run.until(lambda: not run.remembered.wanted and self.is_stored(run)), (self.said, run.raised))
+        self.assertTrue(
+            run.until(lambda: not run.remembered.wanted and self.is_stored(run)),
+            (self.said, run.raised),
+        )
         run.end()
         remembered, rows = Remembered(self.store), self.world.rows_of(T)
-        self.assertEqual((remembered.found, remembered.unwanted, OTHER in remembered.sent), ({}, set(), False))
+        self.assertEqual(
+            (remembered.found, remembered.unwanted, OTHER in remembered.sent), ({}, set(), False)
+        )
         with contextlib.closing(Store(self.store).base):
             self.assertEqual(Store(self.store).rows(), rows)
 
@@ -123,13 +141,24 @@ class Added(Case):
         self.followed()
         run = Run(self, max_buffered=10)
         self.assertTrue(run.until(lambda: run.progress.state == "following"))
-        for asked, text in (("x", "malformed"), (["1"], "malformed"), ([5], "table 5 isn't published"), ([T], "--max-buffered")):
+        for asked, text in (
+            ("x", "malformed"),
+            (["1"], "malformed"),
+            ([5], "table 5 isn't published"),
+            ([T], "--max-buffered"),
+        ):
             self.assertIn(text, run.ask(add=asked) or "")
         for oid in (T, 5):
-            self.assertIn(f"table {oid} is published, or isn't known", run.ask(add=[], remove=[oid]) or "")
+            self.assertIn(
+                f"table {oid} is published, or isn't known", run.ask(add=[], remove=[oid]) or ""
+            )
         self.patch(Checkpoint, "has_room_for", lambda *_: False)
         self.assertIn("no room", run.ask(add=[THIRD]) or "")
-        for error, text in ((ServerError("denied", "42501"), "denied"), (Passing("not yet"), "not yet"), (Stopped(), "about to end")):
+        for error, text in (
+            (ServerError("denied", "42501"), "denied"),
+            (Passing("not yet"), "not yet"),
+            (Stopped(), "about to end"),
+        ):
             WorldSource.hook = staticmethod(mock.Mock(side_effect=error))
             self.assertIn(text, run.ask(add=[THIRD]) or "")
         self.assertEqual((run.remembered.wanted, WorldSource.open), ({}, 0))
@@ -145,8 +174,10 @@ class Added(Case):
 
 
 class Altered(Case):
-    """A table that is altered between a session's last change of it and P, and altered back behind P, which the server doesn't tell in the
-    same session: as a partitioned table whose rows are sent under its own name, and that is altered without its partitions."""
+    """A table that is altered between a session's last change of it and P, and altered back behind
+    P, which the server doesn't tell in the same session: as a partitioned table whose rows are sent
+    under its own name, and that is altered without its partitions.
+    """
 
     def setUp(self) -> None:
         super().setUp()
@@ -162,10 +193,13 @@ class Altered(Case):
         self.patch(Adder, "finish", finish)
 
     def alter(self, is_full: bool) -> None:
-        """Alters the table for who reads it. A session has described it as it was before, and doesn't tell."""
+        """Alters the table for who reads it. A session has described it as it was before, and
+        doesn't tell."""
         it = self.world.known[T]
         columns = [dataclasses.replace(column, key=True) for column in it.columns]
-        self.world.tables[T] = dataclasses.replace(it, identity="f", columns=columns) if is_full else it
+        self.world.tables[T] = (
+            dataclasses.replace(it, identity="f", columns=columns) if is_full else it
+        )
 
     def described(self, **options: object) -> Run:
         """Begins to add tables, and lets their changes come, which are left out."""
@@ -192,9 +226,13 @@ class Altered(Case):
         return run
 
     def ends(self, run: Run) -> list[tuple[int, str]]:
-        """Ends once all is added and stored. Returns the sessions that began since tables are left out."""
+        """Ends once all is added and stored. Returns the sessions that began since tables are left
+        out."""
         self.change()
-        self.assertTrue(run.until(lambda: not run.remembered.wanted and self.is_stored(run)), (self.said, run.raised))
+        self.assertTrue(
+            run.until(lambda: not run.remembered.wanted and self.is_stored(run)),
+            (self.said, run.raised),
+        )
         run.end()
         self.assertIsNone(run.raised)
         self.compare()
@@ -207,7 +245,10 @@ class Altered(Case):
         self.waits = False
         self.assertTrue(run.until(lambda: len(self.points) == 2), (self.said, run.raised))
         sessions = self.ends(run)
-        self.assertEqual((len(sessions), sessions[1][0], [oid for oid, _ in self.points]), (2, self.points[0][1], [T, OTHER]))
+        self.assertEqual(
+            (len(sessions), sessions[1][0], [oid for oid, _ in self.points]),
+            (2, self.points[0][1], [T, OTHER]),
+        )
 
     def test_a_session_goes_on_with_the_same_definition(self) -> None:
         run = self.described(proto=1)
@@ -249,7 +290,10 @@ class Altered(Case):
         self.patch(Adder, "wants_session", wants_session)
         self.waits = False
         run.thread.join(20)
-        self.assertEqual((run.raised, run.snapshots.hold.is_held, [oid for oid, _ in self.points]), (None, False, [T]))
+        self.assertEqual(
+            (run.raised, run.snapshots.hold.is_held, [oid for oid, _ in self.points]),
+            (None, False, [T]),
+        )
         self.goes_on()
 
 

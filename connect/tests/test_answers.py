@@ -6,9 +6,9 @@ from __future__ import annotations
 import unittest
 from collections.abc import Callable
 
+from pgsub_connect.errors import ServerError, WrongAnswer, understood
 from pgsub_connect.server import catalog, preflight, session
 from pgsub_connect.server.catalog import Partition, check_tree, ways_to
-from pgsub_connect.errors import ServerError, WrongAnswer, understood
 from pgsub_connect.server.connection import Connection
 
 from .fake_server import FakeServer, Quiet, Row, connection_to

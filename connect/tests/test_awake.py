@@ -12,18 +12,21 @@ from pathlib import Path
 from unittest import mock
 
 from pgsub_connect.follow import awake
-from pgsub_connect.follow.awake import Awake, RARELY, processors
+from pgsub_connect.follow.awake import RARELY, Awake, processors
 
 from .fake_server import Quiet
 
 
 class Select:
-    """Stands for `select.select`: tells what is ready at its nth call, and notes the times for which it is waited."""
+    """Stands for `select.select`: tells what is ready at its nth call, and notes the times for
+    which it is waited."""
 
     def __init__(self, *ready: bool) -> None:
         self.ready, self.times = list(ready), list[float]()
 
-    def __call__(self, reads: list[int], writes: list[int], other: tuple[()], timeout: float) -> tuple[list[int], list[int], list[int]]:
+    def __call__(
+        self, reads: list[int], writes: list[int], other: tuple[()], timeout: float
+    ) -> tuple[list[int], list[int], list[int]]:
         self.times.append(timeout)
         return (reads if not self.ready or self.ready.pop(0) else []), [], []
 
@@ -112,7 +115,9 @@ class Processors(Quiet):
             place = folder / name.replace("__", "/").strip("_")
             place.mkdir(parents=True, exist_ok=True)
             (place / "cpu.max").write_text(f"{quota}\n", encoding="utf-8")
-        with mock.patch.multiple(awake, GROUPS=folder, GROUP=folder / "group"), mock.patch.object(os, "sched_getaffinity", return_value=set(range(8))):
+        with mock.patch.multiple(awake, GROUPS=folder, GROUP=folder / "group"), mock.patch.object(
+            os, "sched_getaffinity", return_value=set(range(8))
+        ):
             return processors()
 
     def test_without_a_limit(self) -> None:

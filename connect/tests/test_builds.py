@@ -9,9 +9,9 @@ import unittest
 from unittest import mock
 
 from pgsub_connect import version as version_module
+from pgsub_connect.commands.words import version
 from pgsub_connect.errors import Passing
 from pgsub_connect.follow.filter import Filter
-from pgsub_connect.commands.words import version
 
 FAKE = os.path.join(os.path.dirname(os.path.abspath(__file__)), "fake_filter.py")
 TEXT = "version 0.1.0+1\ncommit abc\nkit a-kit logic 1\nprogram 0123456789abcdef\n"
@@ -54,9 +54,18 @@ class Case(unittest.TestCase):
 
     def test_another(self) -> None:
         self.own()
-        for text in (TEXT.replace("+1", "+2"), TEXT.replace("abc", "abd"), TEXT.replace("cdef", "cdee"), TEXT + "more 1\n", "", "\xff"):
+        for text in (
+            TEXT.replace("+1", "+2"),
+            TEXT.replace("abc", "abd"),
+            TEXT.replace("cdef", "cdee"),
+            TEXT + "more 1\n",
+            "",
+            "\xff",
+        ):
             self.write(text)
-            with self.subTest(text=text), self.assertRaisesRegex(Passing, "is of .* build.*, and this connector of the build 0.1.0.1"):
+            with self.subTest(text=text), self.assertRaisesRegex(
+                Passing, "is of .* build.*, and this connector of the build 0.1.0.1"
+            ):
                 self.child.start()
             self.assertFalse(self.child.is_running())
 

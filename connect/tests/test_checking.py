@@ -10,19 +10,34 @@ import unittest
 from unittest import mock
 
 from pgsub_connect.commands import check
-from pgsub_connect.server import preflight
-from pgsub_connect.commands.check import ERROR, OK, Purpose, Result, WARNING, results
-from pgsub_connect.errors import ServerError, UsageError
-from pgsub_connect.server.preflight import Facts, Publication, Role, Slot, TableFacts, server_facts, slot_facts, source_wanted
-from pgsub_connect.server.publication_setup import Wanted
+from pgsub_connect.commands.check import ERROR, OK, WARNING, Purpose, Result, results
 from pgsub_connect.commands.options import Options
-from pgsub_connect.server.transport import Protection
 from pgsub_connect.commands.words import arguments
+from pgsub_connect.errors import ServerError, UsageError
+from pgsub_connect.server import preflight
+from pgsub_connect.server.preflight import (
+    Facts,
+    Publication,
+    Role,
+    Slot,
+    TableFacts,
+    server_facts,
+    slot_facts,
+    source_wanted,
+)
+from pgsub_connect.server.publication_setup import Wanted
+from pgsub_connect.server.transport import Protection
 from tests.fake_server import FakeServer, connection_to
 
 SETTINGS = {
-    "wal_level": "logical", "max_replication_slots": "10", "max_wal_senders": "10", "max_slot_wal_keep_size": "1000",
-    "wal_sender_timeout": "60000", "max_locks_per_transaction": "64", "max_connections": "100", "max_prepared_transactions": "0",
+    "wal_level": "logical",
+    "max_replication_slots": "10",
+    "max_wal_senders": "10",
+    "max_slot_wal_keep_size": "1000",
+    "wal_sender_timeout": "60000",
+    "max_locks_per_transaction": "64",
+    "max_connections": "100",
+    "max_prepared_transactions": "0",
     "server_encoding": "UTF8",
 }
 
@@ -30,8 +45,13 @@ SETTINGS = {
 def well() -> Facts:
     """A server that lacks nothing."""
     return Facts(
-        version=150018, settings=dict(SETTINGS), database="shop", role=Role("f", False, True, True),
-        publications=[Publication("pgsub")], tables=[TableFacts("public.stock")], relations=2,
+        version=150018,
+        settings=dict(SETTINGS),
+        database="shop",
+        role=Role("f", False, True, True),
+        publications=[Publication("pgsub")],
+        tables=[TableFacts("public.stock")],
+        relations=2,
     )
 
 
@@ -49,7 +69,9 @@ class Judging(unittest.TestCase):
 
     def expect(self, level: str, name: str, part: str, facts_: Facts, **purpose: object) -> None:
         found = self.found(facts_, Purpose(**purpose), name)  # type: ignore[arg-type]
-        self.assertTrue(any(it.level == level and part in it.text for it in found), (level, name, part, found))
+        self.assertTrue(
+            any(it.level == level and part in it.text for it in found), (level, name, part, found)
+        )
 
     def test_nothing_missing(self) -> None:
         self.assertEqual([it for it in results(well(), Purpose()) if it.level != OK], [])
@@ -64,75 +86,213 @@ class Judging(unittest.TestCase):
     def test_failover(self) -> None:
         self.expect(ERROR, "failover", "need 17", well(), failover=True)
         self.expect(OK, "failover", "", changed(version=170000), failover=True)
-        self.expect(WARNING, "failover", "isn't handed on", changed(version=170000, slot=Slot()), failover=True, has_store=True)
+        self.expect(
+            WARNING,
+            "failover",
+            "isn't handed on",
+            changed(version=170000, slot=Slot()),
+            failover=True,
+            has_store=True,
+        )
 
     def test_server(self) -> None:
-        self.expect(ERROR, "wal_level", "replica: it has to be logical", with_setting(wal_level="replica"))
-        self.expect(ERROR, "replication_slots", "1 of max_replication_slots = 10 free, 2 needed", changed(slots=9))
+        self.expect(
+            ERROR, "wal_level", "replica: it has to be logical", with_setting(wal_level="replica")
+        )
+        self.expect(
+            ERROR,
+            "replication_slots",
+            "1 of max_replication_slots = 10 free, 2 needed",
+            changed(slots=9),
+        )
         self.expect(OK, "replication_slots", "1 of", changed(slots=9), copies=False)
         self.expect(OK, "replication_slots", "0 of", changed(slots=10, slot=Slot()), has_store=True)
         self.expect(ERROR, "wal_senders", "0 of max_wal_senders = 10 free", changed(senders=10))
-        self.expect(OK, "wal_senders", "0 of", changed(senders=10, slot=Slot(is_active=True)), has_store=True)
-        self.expect(ERROR, "replication_connection", "no pg_hba.conf entry", changed(replication_error="no pg_hba.conf entry"))
-        self.expect(WARNING, "max_slot_wal_keep_size", "no limit", with_setting(max_slot_wal_keep_size="-1"))
-        self.expect(WARNING, "idle_replication_slot_timeout", "off for 3600 s", with_setting(idle_replication_slot_timeout="3600"))
-        self.expect(OK, "idle_replication_slot_timeout", "no limit", with_setting(idle_replication_slot_timeout="0"))
-        self.expect(WARNING, "wal_sender_timeout", "1000 ms", with_setting(wal_sender_timeout="1000"))
+        self.expect(
+            OK,
+            "wal_senders",
+            "0 of",
+            changed(senders=10, slot=Slot(is_active=True)),
+            has_store=True,
+        )
+        self.expect(
+            ERROR,
+            "replication_connection",
+            "no pg_hba.conf entry",
+            changed(replication_error="no pg_hba.conf entry"),
+        )
+        self.expect(
+            WARNING, "max_slot_wal_keep_size", "no limit", with_setting(max_slot_wal_keep_size="-1")
+        )
+        self.expect(
+            WARNING,
+            "idle_replication_slot_timeout",
+            "off for 3600 s",
+            with_setting(idle_replication_slot_timeout="3600"),
+        )
+        self.expect(
+            OK,
+            "idle_replication_slot_timeout",
+            "no limit",
+            with_setting(idle_replication_slot_timeout="0"),
+        )
+        self.expect(
+            WARNING, "wal_sender_timeout", "1000 ms", with_setting(wal_sender_timeout="1000")
+        )
         self.expect(WARNING, "wal_sender_timeout", "no limit", with_setting(wal_sender_timeout="0"))
         self.expect(WARNING, "encoding", "SQL_ASCII", with_setting(server_encoding="SQL_ASCII"))
         self.expect(ERROR, "standby", "needs 16", changed(is_standby=True))
         self.expect(WARNING, "standby", "a copy waits", changed(is_standby=True, version=170000))
-        self.expect(WARNING, "prepared_transactions", "the prepared transaction x", changed(prepared=["the prepared transaction x"]))
+        self.expect(
+            WARNING,
+            "prepared_transactions",
+            "the prepared transaction x",
+            changed(prepared=["the prepared transaction x"]),
+        )
         self.expect(OK, "prepared_transactions", "", changed(prepared=["x"]), has_store=True)
 
     def test_locks(self) -> None:
         for relations, level in ((3200, OK), (3300, WARNING), (6400, WARNING), (6500, ERROR)):
-            self.expect(level, "locks", f"{relations} locks, the server has room for about 6400", changed(relations=relations))
+            self.expect(
+                level,
+                "locks",
+                f"{relations} locks, the server has room for about 6400",
+                changed(relations=relations),
+            )
         self.expect(OK, "locks", "", changed(relations=6500), has_store=True)
 
     def test_tls(self) -> None:
         self.expect(OK, "tls", "this machine", well())
         for protection, level, text in (
-            (Protection("plain", (), False), WARNING, "can be read on the way; sslmode=verify-full"),
+            (
+                Protection("plain", (), False),
+                WARNING,
+                "can be read on the way; sslmode=verify-full",
+            ),
             (Protection("plain"), OK, "not in use, to a server on this machine"),
-            (Protection("tls", (), False), WARNING, "verified: nothing, so anybody may be the server; sslmode"),
-            (Protection("tls", ("authority",), False), WARNING, "in use, verified: authority; sslmode=verify-full checks"),
-            (Protection("tls", ("authority", "name"), False), OK, "in use, verified: authority, name"),
-            (Protection("tls", ("channel binding",), False), OK, "in use, verified: channel binding"),
+            (
+                Protection("tls", (), False),
+                WARNING,
+                "verified: nothing, so anybody may be the server; sslmode",
+            ),
+            (
+                Protection("tls", ("authority",), False),
+                WARNING,
+                "in use, verified: authority; sslmode=verify-full checks",
+            ),
+            (
+                Protection("tls", ("authority", "name"), False),
+                OK,
+                "in use, verified: authority, name",
+            ),
+            (
+                Protection("tls", ("channel binding",), False),
+                OK,
+                "in use, verified: channel binding",
+            ),
         ):
             self.expect(level, "tls", text, changed(protection=protection))
 
     def test_role(self) -> None:
         self.expect(ERROR, "role", "ALTER ROLE f REPLICATION", changed(role=Role("f")))
-        self.expect(ERROR, "role", "or GRANT rds_replication TO f", changed(role=Role("f"), replicators="rds_replication"))
-        self.expect(OK, "role", "since the server has let it", changed(role=Role("f"), has_replicated=True))
+        self.expect(
+            ERROR,
+            "role",
+            "or GRANT rds_replication TO f",
+            changed(role=Role("f"), replicators="rds_replication"),
+        )
+        self.expect(
+            OK, "role", "since the server has let it", changed(role=Role("f"), has_replicated=True)
+        )
 
     def test_making(self) -> None:
         missing = [Publication("pgsub", is_there=False)]
-        self.expect(OK, "publication", "can be made with 1 table: pgsub", changed(publications=missing))
-        self.expect(ERROR, "publication", "the store follows it", changed(publications=missing), has_store=True)
-        self.expect(ERROR, "publication", "at a standby", changed(publications=missing, is_standby=True))
-        self.expect(ERROR, "publication", "made by a superuser", changed(publications=missing), all_tables=True)
-        self.expect(ERROR, "publication", "CREATE on the database shop", changed(publications=missing, role=Role("f", False, True)))
+        self.expect(
+            OK, "publication", "can be made with 1 table: pgsub", changed(publications=missing)
+        )
+        self.expect(
+            ERROR,
+            "publication",
+            "the store follows it",
+            changed(publications=missing),
+            has_store=True,
+        )
+        self.expect(
+            ERROR, "publication", "at a standby", changed(publications=missing, is_standby=True)
+        )
+        self.expect(
+            ERROR,
+            "publication",
+            "made by a superuser",
+            changed(publications=missing),
+            all_tables=True,
+        )
+        self.expect(
+            ERROR,
+            "publication",
+            "CREATE on the database shop",
+            changed(publications=missing, role=Role("f", False, True)),
+        )
         foreign = [TableFacts("public.stock", owns=False)]
-        self.expect(ERROR, "publication", "doesn't own all tables that are to be in it: public.stock",
-            changed(publications=missing, tables=foreign))
-        self.expect(OK, "publication", "", changed(publications=missing, tables=foreign, role=Role("p", True, True, True)))
-        self.expect(ERROR, "publication", "--no-copy without --create makes none", changed(publications=missing), makes=False, copies=False)
+        self.expect(
+            ERROR,
+            "publication",
+            "doesn't own all tables that are to be in it: public.stock",
+            changed(publications=missing, tables=foreign),
+        )
+        self.expect(
+            OK,
+            "publication",
+            "",
+            changed(publications=missing, tables=foreign, role=Role("p", True, True, True)),
+        )
+        self.expect(
+            ERROR,
+            "publication",
+            "--no-copy without --create makes none",
+            changed(publications=missing),
+            makes=False,
+            copies=False,
+        )
 
     def test_publications(self) -> None:
-        self.expect(ERROR, "publication", "no table, or none that f can see: nosuch", changed(unknown=["nosuch"]))
-        self.expect(WARNING, "publication", "pgsub leaves out: update", changed(publications=[Publication("pgsub", leaves_out=["update"])]))
-        self.expect(OK, "publication", "", changed(publications=[Publication("pgsub_inserts", leaves_out=["update"])]))
+        self.expect(
+            ERROR,
+            "publication",
+            "no table, or none that f can see: nosuch",
+            changed(unknown=["nosuch"]),
+        )
+        self.expect(
+            WARNING,
+            "publication",
+            "pgsub leaves out: update",
+            changed(publications=[Publication("pgsub", leaves_out=["update"])]),
+        )
+        self.expect(
+            OK,
+            "publication",
+            "",
+            changed(publications=[Publication("pgsub_inserts", leaves_out=["update"])]),
+        )
         self.expect(WARNING, "publication", "no table", changed(tables=[]))
 
     def test_identities(self) -> None:
         self.expect(OK, "identity", "1 table", well())
-        self.expect(ERROR, "identity", "public.audit", changed(publications=[Publication("p", keyless=["public.audit"])]))
+        self.expect(
+            ERROR,
+            "identity",
+            "public.audit",
+            changed(publications=[Publication("p", keyless=["public.audit"])]),
+        )
         to_come = changed(publications=[Publication("p", is_there=False, keyless=["public.audit"])])
         self.expect(ERROR, "identity", "--keyless leave-out", to_come)
         self.expect(WARNING, "identity", "not published or for Inserts", to_come, keyless="inserts")
-        self.expect(WARNING, "identity", "public.p", changed(publications=[Publication("p", mixed=["public.p"])]))
+        self.expect(
+            WARNING,
+            "identity",
+            "public.p",
+            changed(publications=[Publication("p", mixed=["public.p"])]),
+        )
 
     def test_reading(self) -> None:
         for table, part in (
@@ -141,8 +301,12 @@ class Judging(unittest.TestCase):
             (TableFacts("t", reaches_schema=False), "lacks USAGE on the schemas of: t"),
         ):
             self.expect(ERROR, "select", part, changed(tables=[table]))
-            self.assertEqual(self.found(changed(tables=[table]), Purpose(has_store=True), "select"), [])
-        self.expect(ERROR, "row_security", "BYPASSRLS", changed(tables=[TableFacts("t", hides_rows=True)]))
+            self.assertEqual(
+                self.found(changed(tables=[table]), Purpose(has_store=True), "select"), []
+            )
+        self.expect(
+            ERROR, "row_security", "BYPASSRLS", changed(tables=[TableFacts("t", hides_rows=True)])
+        )
 
     def test_slot(self) -> None:
         def slot(**fields: object) -> Facts:
@@ -153,14 +317,31 @@ class Judging(unittest.TestCase):
         self.expect(ERROR, "slot", "is there already, and no store", slot())
         self.expect(OK, "slot", "pgsub", slot(), copies=False)
         self.expect(OK, "slot", "pgsub", slot(), makes=False, copies=False)
-        self.expect(ERROR, "slot", "--no-copy without --create makes none", well(), makes=False, copies=False)
-        self.expect(ERROR, "slot", "is not one of pgoutput", slot(plugin="test_decoding"), has_store=True)
+        self.expect(
+            ERROR,
+            "slot",
+            "--no-copy without --create makes none",
+            well(),
+            makes=False,
+            copies=False,
+        )
+        self.expect(
+            ERROR, "slot", "is not one of pgoutput", slot(plugin="test_decoding"), has_store=True
+        )
         self.expect(ERROR, "slot", "is not one of pgoutput", slot(is_here=False), has_store=True)
         self.expect(ERROR, "slot", "two-phase", slot(is_two_phase=True), has_store=True)
         self.expect(ERROR, "slot", "lost", slot(wal_status="lost"), has_store=True)
         self.expect(ERROR, "slot", "idle_timeout", slot(why_invalid="idle_timeout"), has_store=True)
-        self.expect(WARNING, "slot", "about to be lost", slot(wal_status="unreserved"), has_store=True)
-        self.expect(OK, "slot", "7 bytes of log before it is lost", slot(wal_status="extended", safe_wal_size="7"), has_store=True)
+        self.expect(
+            WARNING, "slot", "about to be lost", slot(wal_status="unreserved"), has_store=True
+        )
+        self.expect(
+            OK,
+            "slot",
+            "7 bytes of log before it is lost",
+            slot(wal_status="extended", safe_wal_size="7"),
+            has_store=True,
+        )
 
 
 class Asking(unittest.TestCase):
@@ -175,25 +356,42 @@ class Asking(unittest.TestCase):
 
     def test_server(self) -> None:
         found = server_facts(connection_to(self.server(150018)), "pgsub")
-        self.assertEqual((found.slots, found.senders, found.database, found.is_standby, found.slot), (3, 2, "shop", False, None))
-        self.assertEqual((found.role, found.settings), (Role("f", False, True, False), {"wal_level": "replica"}))
+        self.assertEqual(
+            (found.slots, found.senders, found.database, found.is_standby, found.slot),
+            (3, 2, "shop", False, None),
+        )
+        self.assertEqual(
+            (found.role, found.settings), (Role("f", False, True, False), {"wal_level": "replica"})
+        )
 
     def test_columns_of_slots(self) -> None:
         for version, columns in (
             (120000, "s.active, NULL, NULL, NULL, NULL, NULL"),
             (130000, "s.active, NULL, s.wal_status, s.safe_wal_size, NULL, NULL"),
             (150000, "s.active, s.two_phase, s.wal_status, s.safe_wal_size, NULL, NULL"),
-            (180000, "s.active, s.two_phase, s.wal_status, s.safe_wal_size, s.failover, s.invalidation_reason"),
+            (
+                180000,
+                "s.active, s.two_phase, s.wal_status, s.safe_wal_size, s.failover, s.invalidation_reason",
+            ),
         ):
             server = FakeServer(version)
-            server.answer("pg_replication_slots", [["pgoutput", "t", "t", "f", "reserved", "9", "t", None]])
-            self.assertEqual(slot_facts(connection_to(server), "s"), Slot("pgoutput", True, True, False, "reserved", "9", True, ""))
+            server.answer(
+                "pg_replication_slots", [["pgoutput", "t", "t", "f", "reserved", "9", "t", None]]
+            )
+            self.assertEqual(
+                slot_facts(connection_to(server), "s"),
+                Slot("pgoutput", True, True, False, "reserved", "9", True, ""),
+            )
             self.assertIn(columns, server.commands[0])
 
     def test_names_in_what_create_publication_takes(self) -> None:
         server = FakeServer()
-        server.answer("to_regclass", lambda command: [["5"]] if "nosuch" not in command else [[None]])
-        wanted = Wanted(["p"], ["stock", 'ONLY "Odd s"."T""x" (a, b) WHERE (a > 1)', "nosuch", "(", "s.t *"])
+        server.answer(
+            "to_regclass", lambda command: [["5"]] if "nosuch" not in command else [[None]]
+        )
+        wanted = Wanted(
+            ["p"], ["stock", 'ONLY "Odd s"."T""x" (a, b) WHERE (a > 1)', "nosuch", "(", "s.t *"]
+        )
         source, unknown = source_wanted(connection_to(server), wanted)
         self.assertEqual(unknown, ["nosuch", "("])
         self.assertIn('to_regclass(\'"Odd s"."T""x"\')', server.commands[1])
@@ -204,14 +402,18 @@ class Asking(unittest.TestCase):
         with self.assertRaisesRegex(ServerError, "wal_level: replica") as raised:
             check.require(connection_to(self.server(150018)), Options(), copies=True)
         self.assertTrue(raised.exception.is_lasting())
-        with self.assertRaisesRegex(UsageError, "--failover needs PostgreSQL 17, and this is 15.18"):
+        with self.assertRaisesRegex(
+            UsageError, "--failover needs PostgreSQL 17, and this is 15.18"
+        ):
             check.require(connection_to(self.server(150018)), Options(failover=True), copies=True)
 
 
 class Printing(unittest.TestCase):
     def printed(self, found: Facts, **options: object) -> tuple[int, str]:
         out = io.StringIO()
-        with mock.patch.object(check, "all_facts", lambda *_: found), contextlib.redirect_stdout(out):
+        with mock.patch.object(check, "all_facts", lambda *_: found), contextlib.redirect_stdout(
+            out
+        ):
             status = check.run(Options(publication=["pgsub"], **options))  # type: ignore[arg-type]
         return status, out.getvalue()
 
@@ -224,12 +426,22 @@ class Printing(unittest.TestCase):
 
     def test_json(self) -> None:
         status, text = self.printed(well(), json=True)
-        self.assertEqual((status, json.loads(text)[1]), (0, {"level": "ok", "name": "wal_level", "text": "logical"}))
+        self.assertEqual(
+            (status, json.loads(text)[1]),
+            (0, {"level": "ok", "name": "wal_level", "text": "logical"}),
+        )
 
     def test_what_a_start_makes(self) -> None:
-        for words, makes in (("--create --table t", True), ("--table t", True), ("--create --no-copy", True), ("--no-copy", False)):
+        for words, makes in (
+            ("--create --table t", True),
+            ("--table t", True),
+            ("--create --no-copy", True),
+            ("--no-copy", False),
+        ):
             purpose = check.purpose_of(arguments(["check", *words.split()]))
-            self.assertEqual((purpose.makes, purpose.copies), (makes, "--no-copy" not in words), words)
+            self.assertEqual(
+                (purpose.makes, purpose.copies), (makes, "--no-copy" not in words), words
+            )
 
     def test_warnings_are_no_error(self) -> None:
         self.assertEqual(self.printed(with_setting(max_slot_wal_keep_size="-1"))[0], 0)
@@ -240,7 +452,10 @@ class Members(unittest.TestCase):
 
     def setUp(self) -> None:
         self.server = Asking().server(150018)
-        self.server.answer("pg_settings", [["wal_level", "logical"], ["max_replication_slots", "10"], ["max_wal_senders", "10"]])
+        self.server.answer(
+            "pg_settings",
+            [["wal_level", "logical"], ["max_replication_slots", "10"], ["max_wal_senders", "10"]],
+        )
         self.server.answer("pg_roles", [["f", "f", "f", "f"]])
         self.server.answer("'rds_replication'", [["rds_replication"]])
 

@@ -1,4 +1,5 @@
-"""The checkpoint: whether store and slot fit together, what is durable when, a torn file, and the lock."""
+"""The checkpoint: whether store and slot fit together, what is durable when, a torn file, and the
+lock."""
 
 from __future__ import annotations
 
@@ -10,13 +11,13 @@ import unittest
 from typing import Any
 from unittest import mock
 
-from pgsub_connect.store import checkpoint as known_of
-from pgsub_connect.store.checkpoint import Checkpoint, Counted, Known, MISSING, SIZE, check_gap
-from pgsub_connect.store.checkpoint_lines import line_of
 from pgsub_connect.commands.drop import locked, read_known
-from pgsub_connect.errors import FileError, Passing, Stopped, Unfit
-from pgsub_connect.store.at_rest import locked_checkpoint
 from pgsub_connect.commands.words import KINDS
+from pgsub_connect.errors import FileError, Passing, Stopped, Unfit
+from pgsub_connect.store import checkpoint as known_of
+from pgsub_connect.store.at_rest import locked_checkpoint
+from pgsub_connect.store.checkpoint import MISSING, SIZE, Checkpoint, Counted, Known, check_gap
+from pgsub_connect.store.checkpoint_lines import line_of
 
 from .fake_server import Quiet
 
@@ -52,7 +53,10 @@ class Gaps(unittest.TestCase):
 
     def test_texts(self) -> None:
         known = Known("following", position=100, confirmed=150)
-        for position, slot_at, text in ((99, 150, "so this is an older one"), (100, 151, "somebody else moved the slot")):
+        for position, slot_at, text in (
+            (99, 150, "so this is an older one"),
+            (100, 151, "somebody else moved the slot"),
+        ):
             with self.assertRaisesRegex(Unfit, text):
                 check_gap(known, position, slot_at)
 
@@ -81,7 +85,9 @@ class File(FileCase):
     def test_what_is_written_is_read(self) -> None:
         before = os.umask(0o022)
         self.addCleanup(os.umask, before)
-        fields = Known(known_of.FOLLOWING, "77", "sh\u00f6p", "pgsub", 2, 3, 4, 5, {"values": "0/7"}, "0/8")
+        fields = Known(
+            known_of.FOLLOWING, "77", "sh\u00f6p", "pgsub", 2, 3, 4, 5, {"values": "0/7"}, "0/8"
+        )
         checkpoint = self.open()
         checkpoint.write(True, **dataclasses.asdict(fields))
         self.assertEqual(checkpoint.read(), fields)
@@ -93,7 +99,16 @@ class File(FileCase):
         self.assertEqual(self.open().known, Known())
 
     def test_torn_or_foreign(self) -> None:
-        for content in (b"x", b"[]", b"{", b'{"phase":"following"', b'{"other":1}', b'{"phase":"new"}' + b"\xff", b"5", b"null"):
+        for content in (
+            b"x",
+            b"[]",
+            b"{",
+            b'{"phase":"following"',
+            b'{"other":1}',
+            b'{"phase":"new"}' + b"\xff",
+            b"5",
+            b"null",
+        ):
             with open(self.store + ".connector", "wb") as file:
                 file.write(content)
             with self.assertRaises(FileError, msg=repr(content)):
@@ -102,10 +117,30 @@ class File(FileCase):
     def test_fields_of_another_kind(self) -> None:
         """They have the right checksum, or are of the version that had none."""
         for fields in (
-            '{"phase":"old"}', '{"phase":1}', '{"system":7}', '{"slot":null}', '{"timeline":true}', '{"confirmed":-1}', '{"position":1.0}',
-            '{"position":1e999}', '{"position":NaN}', '{"position":18446744073709551616}', '{"found":[]}', '{"found":{"values":5}}',
-            '{"found":{"values":"x"}}', '{"skipped":"5"}', '{"adding":{"x":5}}', '{"adding":{"5":"x"}}', '{"adding":{"99999999999":1}}',
-            '{"other":1}', '{"encrypted":1}', "5", "[]", "null", "[" * 5000 + "]" * 5000, '{"position":' + "9" * 5000 + "}",
+            '{"phase":"old"}',
+            '{"phase":1}',
+            '{"system":7}',
+            '{"slot":null}',
+            '{"timeline":true}',
+            '{"confirmed":-1}',
+            '{"position":1.0}',
+            '{"position":1e999}',
+            '{"position":NaN}',
+            '{"position":18446744073709551616}',
+            '{"found":[]}',
+            '{"found":{"values":5}}',
+            '{"found":{"values":"x"}}',
+            '{"skipped":"5"}',
+            '{"adding":{"x":5}}',
+            '{"adding":{"5":"x"}}',
+            '{"adding":{"99999999999":1}}',
+            '{"other":1}',
+            '{"encrypted":1}',
+            "5",
+            "[]",
+            "null",
+            "[" * 5000 + "]" * 5000,
+            '{"position":' + "9" * 5000 + "}",
         ):
             for content in (line_of(1, fields, None), fields.encode()):
                 with open(self.store + ".connector", "wb") as file:
@@ -127,12 +162,17 @@ class File(FileCase):
         self.assertEqual(self.content(), b"")
 
     def test_room_for_every_name_and_finding(self) -> None:
-        """The longest names that a server has, all findings, and many tables that are being added."""
+        """The longest names that a server has, all findings, and many tables that are being
+        added."""
         most = (1 << 64) - 1
         self.assertLessEqual({*KINDS} - {"all", "plaintext"}, {*known_of.KINDS})
         for database in ("\u0431" * 31, "\x01" * 63, '"' * 63):
             checkpoint = self.open_again()
-            checkpoint.put(True, Known(known_of.FOLLOWING, str(most), database, "s" * 63, (1 << 32) - 1, most), None)
+            checkpoint.put(
+                True,
+                Known(known_of.FOLLOWING, str(most), database, "s" * 63, (1 << 32) - 1, most),
+                None,
+            )
             for kind in known_of.KINDS:
                 checkpoint.note_found(kind, most)
             count = 0
@@ -140,13 +180,20 @@ class File(FileCase):
                 checkpoint.write_adding({**checkpoint.adding(), count + 4000000000: most})
                 count += 1
             self.assertGreater(count, 50)
-            checkpoint.put(True, dataclasses.replace(checkpoint.known, confirmed=most, position=most, skipped="FFFFFFFF/FFFFFFFF"),
-                           Counted(most, most, most, most, (1 << 32) - 1, (most, most)))
+            checkpoint.put(
+                True,
+                dataclasses.replace(
+                    checkpoint.known, confirmed=most, position=most, skipped="FFFFFFFF/FFFFFFFF"
+                ),
+                Counted(most, most, most, most, (1 << 32) - 1, (most, most)),
+            )
             self.assertEqual(self.open_again().known, checkpoint.known)
 
     def test_a_full_disk_passes(self) -> None:
         checkpoint = self.open()
-        with mock.patch("os.pwrite", side_effect=OSError(28, "No space left on device")), self.assertRaisesRegex(Passing, "No space"):
+        with mock.patch(
+            "os.pwrite", side_effect=OSError(28, "No space left on device")
+        ), self.assertRaisesRegex(Passing, "No space"):
             checkpoint.write(True, position=5)
 
     def test_notes_between_other_changes(self) -> None:
@@ -154,18 +201,28 @@ class File(FileCase):
         checkpoint, text = self.open(), 'a","confirmed":5,"position":5,"'
         checkpoint.write(True, database=text, slot=text, confirmed=5, position=5)
         changes: tuple[tuple[int, int, dict[str, Any]], ...] = (
-            (7, 6, {}), (8, 8, {"found": {text: "0/5"}}), (9, 8, {}), (9, 9, {"adding": {"7": 5}}), (90, 80, {}),
+            (7, 6, {}),
+            (8, 8, {"found": {text: "0/5"}}),
+            (9, 8, {}),
+            (9, 9, {"adding": {"7": 5}}),
+            (90, 80, {}),
         )
         for confirmed, position, fields in changes:
             checkpoint.write(False, **fields)
             checkpoint.note(confirmed, position)
-            self.assertEqual((checkpoint.known.confirmed, checkpoint.known.position), (confirmed, position))
-            line = line_of(checkpoint.number, known_of.spelled(checkpoint.known), checkpoint.counted)
+            self.assertEqual(
+                (checkpoint.known.confirmed, checkpoint.known.position), (confirmed, position)
+            )
+            line = line_of(
+                checkpoint.number, known_of.spelled(checkpoint.known), checkpoint.counted
+            )
             self.assertEqual((checkpoint.read(), line in self.content()), (checkpoint.known, True))
 
     def test_a_note_that_cant_be_written(self) -> None:
         checkpoint = self.open()
-        with mock.patch("os.pwrite", side_effect=OSError(28, "No space left on device")), self.assertRaisesRegex(Passing, "No space"):
+        with mock.patch(
+            "os.pwrite", side_effect=OSError(28, "No space left on device")
+        ), self.assertRaisesRegex(Passing, "No space"):
             checkpoint.note(5, 4)
         self.assertEqual((checkpoint.known, checkpoint.counted), (Known(), None))
 
@@ -173,7 +230,13 @@ class File(FileCase):
         """Nothing else tells the next start of it. What the store shows itself isn't synced."""
         checkpoint = self.open()
         for confirmed, position, synced in (
-            (100, 100, False), (100, 100, False), (150, 100, True), (150, 100, False), (150, 120, False), (200, 200, False), (201, 200, True),
+            (100, 100, False),
+            (100, 100, False),
+            (150, 100, True),
+            (150, 100, False),
+            (150, 120, False),
+            (200, 200, False),
+            (201, 200, True),
             (50, 40, False),
         ):
             with mock.patch("os.fdatasync") as sync:
@@ -199,22 +262,26 @@ class File(FileCase):
         checkpoint.begin_counting(5, False)
         known, counted = checkpoint.known, checkpoint.counted
         for call in ("os.pwrite", "os.fdatasync"):
-            with mock.patch(call, side_effect=OSError(28, "No space left on device")), self.assertRaises(Passing):
+            with mock.patch(
+                call, side_effect=OSError(28, "No space left on device")
+            ), self.assertRaises(Passing):
                 checkpoint.note_missing(1, 6, 7, 8)
             self.assertEqual((checkpoint.known, checkpoint.counted), (known, counted))
 
     def test_the_lock(self) -> None:
         self.open()
-        with mock.patch.object(known_of, "PATIENCE", 0.0), self.assertRaisesRegex(Passing, "another process"):
+        with mock.patch.object(known_of, "PATIENCE", 0.0), self.assertRaisesRegex(
+            Passing, "another process"
+        ):
             self.open()
         check = mock.Mock(side_effect=[None, Stopped])
         with mock.patch("time.sleep"), self.assertRaises(Stopped):
             Checkpoint(self.store, check=check)
         self.assertEqual(len(self.said), 1)
 
-
     def test_a_file_that_was_removed_meanwhile(self) -> None:
-        """As by `drop`, for which a start waits, and where another one has begun since: the lock is of the file that is there."""
+        """As by `drop`, for which a start waits, and where another one has begun since: the lock is
+        of the file that is there."""
         path, files = self.store + ".connector", list[int]()
 
         def begin() -> None:
@@ -229,7 +296,11 @@ class File(FileCase):
             drop()
             begin()
 
-        for checks in ([drop], [drop_and_begin, lambda: None, drop], [drop_and_begin, lambda: os.close(files.pop())]):
+        for checks in (
+            [drop],
+            [drop_and_begin, lambda: None, drop],
+            [drop_and_begin, lambda: os.close(files.pop())],
+        ):
             begin()
             before, calls = len(os.listdir("/proc/self/fd")), iter(checks)
             with mock.patch("time.sleep"):
@@ -261,7 +332,9 @@ class File(FileCase):
             file = locked_checkpoint(self.store)
         assert file is not None
         os.close(file)
-        with removed_before(False), self.assertRaisesRegex(Passing, "was removed meanwhile"), locked(path):
+        with removed_before(False), self.assertRaisesRegex(
+            Passing, "was removed meanwhile"
+        ), locked(path):
             pass
         with removed_before(True):
             self.assertIsNone(locked_checkpoint(self.store))
@@ -277,7 +350,10 @@ class Counts(FileCase):
     def test_what_is_written_is_read(self) -> None:
         most = (1 << 64) - 1
         checkpoint = self.open()
-        for counted in (Counted(1, 2), Counted(most, most, most, most, (1 << 32) - 1, (most, most))):
+        for counted in (
+            Counted(1, 2),
+            Counted(most, most, most, most, (1 << 32) - 1, (most, most)),
+        ):
             checkpoint.put(True, Known(known_of.FOLLOWING), counted)
             self.assertEqual(self.reopened(), counted)
 
@@ -292,8 +368,18 @@ class Counts(FileCase):
             self.assertEqual(self.reopened(), Counted(0x600, 0x600))
 
     def test_torn_or_foreign(self) -> None:
-        for content in (b"x", b"[]", b"5", b"null", b"{}", b'{"since":1}', b'{"since":1,"upto":"2"}', b'{"since":1,"upto":2,"gap":[1]}',
-                        b'{"since":1,"upto":2,"gap":5}', b'{"since":1,"upto":2,"other":3}'):
+        for content in (
+            b"x",
+            b"[]",
+            b"5",
+            b"null",
+            b"{}",
+            b'{"since":1}',
+            b'{"since":1,"upto":"2"}',
+            b'{"since":1,"upto":2,"gap":[1]}',
+            b'{"since":1,"upto":2,"gap":5}',
+            b'{"since":1,"upto":2,"other":3}',
+        ):
             with open(self.store + ".connector", "wb") as file:
                 file.write(b"{}".ljust(511) + b"\n" + content)
             with self.assertRaises(FileError, msg=repr(content)):
@@ -313,7 +399,8 @@ class Counts(FileCase):
         checkpoint = self.open()
         checkpoint.begin_counting(100, False)
         for more, first, relation, position, counted in (
-            (3, 110, 7, 120, Counted(100, 120, 3, 110, 7)), (2, 130, 8, 140, Counted(100, 140, 5, 110, 7)),
+            (3, 110, 7, 120, Counted(100, 120, 3, 110, 7)),
+            (2, 130, 8, 140, Counted(100, 140, 5, 110, 7)),
         ):
             with mock.patch("os.fdatasync") as sync:
                 checkpoint.note_missing(more, first, relation, position)
@@ -324,8 +411,11 @@ class Counts(FileCase):
     def test_a_store_further_than_it_was_counted(self) -> None:
         checkpoint = self.open()
         for position, found, counted in (
-            (100, False, Counted(100, 100)), (100, False, Counted(100, 100)), (120, True, Counted(100, 120, gap=(100, 120))),
-            (120, False, Counted(100, 120, gap=(100, 120))), (150, True, Counted(100, 150, gap=(100, 150))),
+            (100, False, Counted(100, 100)),
+            (100, False, Counted(100, 100)),
+            (120, True, Counted(100, 120, gap=(100, 120))),
+            (120, False, Counted(100, 120, gap=(100, 120))),
+            (150, True, Counted(100, 150, gap=(100, 150))),
         ):
             self.assertEqual(checkpoint.begin_counting(position, False), found)
             self.assertEqual(self.reopened(), counted)
@@ -344,7 +434,11 @@ class Counts(FileCase):
         self.assertTrue(checkpoint.begin_counting(95, False))
 
     def test_accepted(self) -> None:
-        for kinds, left in ((["values"], Counted(100, 120, 3, 110, 7, (100, 110))), (["missing"], Counted(100, 120)), (["all"], Counted(100, 120))):
+        for kinds, left in (
+            (["values"], Counted(100, 120, 3, 110, 7, (100, 110))),
+            (["missing"], Counted(100, 120)),
+            (["all"], Counted(100, 120)),
+        ):
             checkpoint = self.open_again()
             checkpoint.put(True, Known(), Counted(100, 120, 3, 110, 7, (100, 110)))
             checkpoint.accept(kinds)

@@ -13,14 +13,14 @@ from pathlib import Path
 from unittest import mock
 
 import pgsub_connect
-from pgsub_connect.store.checkpoint import Checkpoint
 from pgsub_connect.cli import follow
-from pgsub_connect.errors import FileError, UsageError
-from pgsub_feed.command import arguments as feed_arguments
 from pgsub_connect.commands.options import Options
-from pgsub_connect.store.placing import check_meant
-from pgsub_connect.drift.remembered import replace_file
 from pgsub_connect.commands.words import arguments, settle_options
+from pgsub_connect.drift.remembered import replace_file
+from pgsub_connect.errors import FileError, UsageError
+from pgsub_connect.store.checkpoint import Checkpoint
+from pgsub_connect.store.placing import check_meant
+from pgsub_feed.command import arguments as feed_arguments
 
 from .fake_server import Quiet
 
@@ -58,18 +58,31 @@ class Signalled(Quiet):
 
 
 class Abbreviated(unittest.TestCase):
-    """An option has its whole name: `--stor copy.db` would be a recording's, and mean another option once there is one that begins alike."""
+    """An option has its whole name: `--stor copy.db` would be a recording's, and mean another
+    option once there is one that begins alike."""
 
     def rejected(self, read: Callable[[list[str]], object], *words: str) -> str:
-        with mock.patch("sys.stderr", io.StringIO()) as said, self.assertRaises(SystemExit) as ended:
+        with mock.patch("sys.stderr", io.StringIO()) as said, self.assertRaises(
+            SystemExit
+        ) as ended:
             read([*words])
         self.assertEqual(ended.exception.code, 2)
         return said.getvalue()
 
     def test_a_part_of_a_name_is_none(self) -> None:
-        for words in (("--stor", "copy.db"), ("follow", "--store", "copy.db", "--tab", "rows.db"), ("verify", "--tables", "a", "--wit", "b")):
-            self.assertRegex(self.rejected(arguments, *words), f"unrecognized arguments: {words[-2]} {words[-1]}\n")
-        self.assertRegex(self.rejected(feed_arguments, "--feed", "feed", "--fro", "0/0"), "unrecognized arguments: --fro 0/0\n")
+        for words in (
+            ("--stor", "copy.db"),
+            ("follow", "--store", "copy.db", "--tab", "rows.db"),
+            ("verify", "--tables", "a", "--wit", "b"),
+        ):
+            self.assertRegex(
+                self.rejected(arguments, *words),
+                f"unrecognized arguments: {words[-2]} {words[-1]}\n",
+            )
+        self.assertRegex(
+            self.rejected(feed_arguments, "--feed", "feed", "--fro", "0/0"),
+            "unrecognized arguments: --fro 0/0\n",
+        )
 
 
 class Apart(Quiet):
@@ -96,26 +109,72 @@ class Apart(Quiet):
         os.link(self.store, self.folder + "/hard")
         os.symlink(self.folder + "/copy.db.connector", self.folder + "/soft")
         for name in (
-            "copy.db", "copy.db-wal", "copy.db-shm", "copy.db.connector", "copy.db.tables", "copy.db.request", "copy.db.copying", "copy.db.copying-wal",
-            "copy.db.pgsub-new", "sub/../copy.db", "link/copy.db-wal", "hard", "soft",
+            "copy.db",
+            "copy.db-wal",
+            "copy.db-shm",
+            "copy.db.connector",
+            "copy.db.tables",
+            "copy.db.request",
+            "copy.db.copying",
+            "copy.db.copying-wal",
+            "copy.db.pgsub-new",
+            "sub/../copy.db",
+            "link/copy.db-wal",
+            "hard",
+            "soft",
         ):
-            for option in ("--snapshot", "--status-file", "--metrics-file", "--record", "--tables", "--feed"):
-                self.refused(f"{option} .*{name}: that is a file of the store itself", "follow", "--store", "DIR/copy.db", option, f"DIR/{name}")
+            for option in (
+                "--snapshot",
+                "--status-file",
+                "--metrics-file",
+                "--record",
+                "--tables",
+                "--feed",
+            ):
+                self.refused(
+                    f"{option} .*{name}: that is a file of the store itself",
+                    "follow",
+                    "--store",
+                    "DIR/copy.db",
+                    option,
+                    f"DIR/{name}",
+                )
             for words in (("export",), ("snapshot",), ("tables", "--feed", "DIR/feed")):
-                self.refused("--into .*: that is a file of the store itself", *words, "--store", "DIR/copy.db", "--into", f"DIR/{name}")
+                self.refused(
+                    "--into .*: that is a file of the store itself",
+                    *words,
+                    "--store",
+                    "DIR/copy.db",
+                    "--into",
+                    f"DIR/{name}",
+                )
 
     def test_a_store_by_a_link(self) -> None:
-        """The program has its log beside the file that is meant, and the connector its own ones beside the link."""
+        """The program has its log beside the file that is meant, and the connector its own ones
+        beside the link."""
         os.symlink(self.store, self.folder + "/shop.db")
         for name in ("copy.db", "shop.db", "copy.db-wal", "shop.db.connector"):
-            self.refused("of the store itself", "follow", "--store", "DIR/shop.db", "--snapshot", f"DIR/{name}")
+            self.refused(
+                "of the store itself",
+                "follow",
+                "--store",
+                "DIR/shop.db",
+                "--snapshot",
+                f"DIR/{name}",
+            )
 
     def test_a_link_that_leads_nowhere(self) -> None:
-        """That is told before anything is made. A file that isn't there yet is made where it leads."""
+        """That is told before anything is made. A file that isn't there yet is made where it
+        leads."""
         link, before = self.folder + "/shop.db", sorted([*os.listdir(self.folder), "shop.db"])
-        for path, text in (("shop.db", "the link leads to itself"), ("far/shop.db", f"there is no folder {os.path.realpath(self.folder)}/far")):
+        for path, text in (
+            ("shop.db", "the link leads to itself"),
+            ("far/shop.db", f"there is no folder {os.path.realpath(self.folder)}/far"),
+        ):
             os.symlink(path, link)
-            with self.assertRaisesRegex(FileError, f"--store {link}.*: {text}"), mock.patch("pgsub_connect.cli.stop_by_signals"):
+            with self.assertRaisesRegex(FileError, f"--store {link}.*: {text}"), mock.patch(
+                "pgsub_connect.cli.stop_by_signals"
+            ):
                 follow(Options(store=link, create="permanent"))
             self.assertEqual(sorted(os.listdir(self.folder)), before)
             os.unlink(link)
@@ -124,22 +183,61 @@ class Apart(Quiet):
 
     def test_the_same_file_twice(self) -> None:
         os.link(self.folder + "/other", self.folder + "/again")
-        names = (("--snapshot", "s"), ("--status-file", "status"), ("--metrics-file", "metrics"), ("--record", "r"), ("--tables", "t"), ("--feed", "f"))
+        names = (
+            ("--snapshot", "s"),
+            ("--status-file", "status"),
+            ("--metrics-file", "metrics"),
+            ("--record", "r"),
+            ("--tables", "t"),
+            ("--feed", "f"),
+        )
         words = [it for name, value in names for it in (name, "DIR/" + value)]
-        self.settle("follow", "--store", "DIR/copy.db", "--dsn-file", "DIR/dsn", "--init", "DIR/init", *words)
+        self.settle(
+            "follow",
+            "--store",
+            "DIR/copy.db",
+            "--dsn-file",
+            "DIR/dsn",
+            "--init",
+            "DIR/init",
+            *words,
+        )
         for one, other, more in (
-            ("--snapshot x", "--tables x", ""), ("--status-file x", "--metrics-file sub/../x", ""), ("--status-file other", "--metrics-file again", ""),
-            ("--record dsn", "--dsn-file dsn", ""), ("--status-file x", "--init x", "--tables t"), ("--snapshot x", "--record x-wal", ""),
+            ("--snapshot x", "--tables x", ""),
+            ("--status-file x", "--metrics-file sub/../x", ""),
+            ("--status-file other", "--metrics-file again", ""),
+            ("--record dsn", "--dsn-file dsn", ""),
+            ("--status-file x", "--init x", "--tables t"),
+            ("--snapshot x", "--record x-wal", ""),
             ("--snapshot x", "--feed x", ""),
         ):
-            chosen = [f"{word} DIR/{path}" for word, path in (it.split(" ") for it in (one, other))] + more.split()
+            chosen = [
+                f"{word} DIR/{path}" for word, path in (it.split(" ") for it in (one, other))
+            ] + more.split()
             text = f"{one.split()[0]} .* and {other.split()[0]} .*: each needs a file of its own"
             with self.subTest(one=one, other=other):
                 self.refused(text, "follow", "--store", "DIR/copy.db", *" ".join(chosen).split())
-        self.refused("--record .* and --dsn-file .*: each needs a file of its own", "record", "--record", "DIR/dsn", "--dsn-file", "DIR/dsn")
+        self.refused(
+            "--record .* and --dsn-file .*: each needs a file of its own",
+            "record",
+            "--record",
+            "DIR/dsn",
+            "--dsn-file",
+            "DIR/dsn",
+        )
 
     def test_what_is_only_read(self) -> None:
-        self.settle("verify", "--store", "DIR/copy.db", "--dsn-file", "DIR/dsn", "--tables", "DIR/other", "--with", "DIR/other")
+        self.settle(
+            "verify",
+            "--store",
+            "DIR/copy.db",
+            "--dsn-file",
+            "DIR/dsn",
+            "--tables",
+            "DIR/other",
+            "--with",
+            "DIR/other",
+        )
         self.settle("sink", "redis://h", "--feed", "DIR/feed", "--base", "DIR/copy.db")
         self.settle("status", "--status-file", "DIR/copy.db.connector")
 
@@ -156,10 +254,20 @@ class Words(Quiet):
         word, folder = os.fsdecode(b"a\xff"), self.make_folder()
         for option in ("--slot", "--publication", "--feed", "--pgsub", "--table"):
             more = ("--create",) if option == "--table" else ()
-            self.refused(f"^{option} .*a\udcff: that isn't UTF-8$", "follow", "--store", folder + "/copy.db", option, word, *more)
+            self.refused(
+                f"^{option} .*a\udcff: that isn't UTF-8$",
+                "follow",
+                "--store",
+                folder + "/copy.db",
+                option,
+                word,
+                *more,
+            )
         self.refused("^--store .*: that isn't UTF-8$", "follow", "--store", word)
         os.symlink(word, folder + "/link")
-        self.refused("^--store .*/a\udcff.copying: that isn't UTF-8$", "follow", "--store", folder + "/link")
+        self.refused(
+            "^--store .*/a\udcff.copying: that isn't UTF-8$", "follow", "--store", folder + "/link"
+        )
         dsn = Path(folder, "dsn")
         dsn.write_bytes(b"password=a\xff\n")
         for words in (("--dsn", f"password={word}"), ("--dsn-file", str(dsn))):
@@ -167,25 +275,67 @@ class Words(Quiet):
         self.addCleanup(os.chdir, os.getcwd())
         os.mkdir(os.path.join(folder, word))
         os.chdir(os.path.join(folder, word))
-        self.refused("^--feed .*a\udcff/feed: that isn't UTF-8$", "follow", "--store", "copy.db", "--feed", "feed")
+        self.refused(
+            "^--feed .*a\udcff/feed: that isn't UTF-8$",
+            "follow",
+            "--store",
+            "copy.db",
+            "--feed",
+            "feed",
+        )
         self.assertEqual(os.listdir(), [])
 
     def test_names_that_the_server_would_cut(self) -> None:
         """Each is told before any server is asked: it would say that another one isn't there."""
         self.addCleanup(os.umask, os.umask(0o022))
         store = self.make_folder() + "/copy.db"
-        for option, name in (("--publication", "p" * 70), ("--publication", "\u0416" * 32), ("--slot", "s" * 64)):
+        for option, name in (
+            ("--publication", "p" * 70),
+            ("--publication", "\u0416" * 32),
+            ("--slot", "s" * 64),
+        ):
             length = len(name.encode())
-            for command in (("follow", "--store", store), ("record", "--record", store), ("check",)):
-                self.refused(f"^{option} {name}: it has {length} bytes, and a name has at most 63", *command, option, name)
-        for name, keyless in (("p" * 63, "refuse"), ("\u0416" * 31, "refuse"), ("p" * 55, "inserts")):
+            for command in (
+                ("follow", "--store", store),
+                ("record", "--record", store),
+                ("check",),
+            ):
+                self.refused(
+                    f"^{option} {name}: it has {length} bytes, and a name has at most 63",
+                    *command,
+                    option,
+                    name,
+                )
+        for name, keyless in (
+            ("p" * 63, "refuse"),
+            ("\u0416" * 31, "refuse"),
+            ("p" * 55, "inserts"),
+        ):
             settle_options(arguments(["check", "--publication", name, "--keyless", keyless]))
-        self.refused("_inserts: it has 64 bytes", "check", "--publication", "p" * 56, "--keyless", "inserts")
+        self.refused(
+            "_inserts: it has 64 bytes", "check", "--publication", "p" * 56, "--keyless", "inserts"
+        )
 
     def test_files_that_are_opened_here(self) -> None:
         self.addCleanup(os.umask, os.umask(0o022))
         word = os.path.join(self.make_folder(), os.fsdecode(b"a\xff"))
-        settle_options(arguments(["follow", "--store", "copy.db", "--tables", word, "--feed", "feed", "--snapshot", word + "s", "--status-file", word + "t"]))
+        settle_options(
+            arguments(
+                [
+                    "follow",
+                    "--store",
+                    "copy.db",
+                    "--tables",
+                    word,
+                    "--feed",
+                    "feed",
+                    "--snapshot",
+                    word + "s",
+                    "--status-file",
+                    word + "t",
+                ]
+            )
+        )
         settle_options(arguments(["export", "--store", word, "--into", word + "x"]))
         settle_options(arguments(["tables", "--feed", word, "--into", word + "x"]))
 
@@ -194,5 +344,11 @@ class Modules(unittest.TestCase):
     def test_each_is_listed_once(self) -> None:
         listed = re.findall(r"`(\w+)`", (pgsub_connect.__doc__ or "").partition("|---|")[2])
         folder = Path(pgsub_connect.__file__).parent
-        there = {it.stem for it in folder.glob("*.py")} - {"__init__", "__main__"} | {it.parent.name for it in folder.glob("*/__init__.py")}
+        there = {it.stem for it in folder.glob("*.py")} - {
+            "__init__",
+            "__main__",
+            "cli",
+            "errors",
+            "version",
+        } | {it.parent.name for it in folder.glob("*/__init__.py")}
         self.assertEqual(sorted(listed), sorted(there))

@@ -1,4 +1,5 @@
-"""The initial copy: what the filter gets and the server is told, what ends it, and when it begins anew."""
+"""The initial copy: what the filter gets and the server is told, what ends it, and when it begins
+anew."""
 
 from __future__ import annotations
 
@@ -12,27 +13,38 @@ from collections.abc import Callable, Sequence
 from typing import cast
 from unittest import mock
 
-from pgsub_connect.store import checkpoint as known_of
-from pgsub_connect.copy import copier as copier_module, table_reader
-from pgsub_connect.server import publication_setup, waits as waits_module
-from pgsub_connect.server.catalog import Catalog, Partition
-from pgsub_connect.server.catalog import Table as CatalogTable
-from pgsub_connect.store.checkpoint import Checkpoint
+from pgsub_connect.commands.options import Options
+from pgsub_connect.copy import copier as copier_module
+from pgsub_connect.copy import table_reader
 from pgsub_connect.copy.copier import CHANGED, Copier, Tries, altered_tables, create_slot
+from pgsub_connect.copy.messages import InsertHeads, begin, commit, frame, inserts, relation
+from pgsub_connect.drift.remembered import Remembered
 from pgsub_connect.errors import Passing, ServerError, Stopped, Unfit, UsageError
 from pgsub_connect.follow.filter import Filter, FilterEnded
-from pgsub_connect.copy.messages import InsertHeads, begin, commit, frame, inserts, relation
-from pgsub_connect.commands.options import Options
-from pgsub_connect.status.progress import Progress
+from pgsub_connect.server import publication_setup
+from pgsub_connect.server import waits as waits_module
+from pgsub_connect.server.catalog import Catalog, Partition
+from pgsub_connect.server.catalog import Table as CatalogTable
 from pgsub_connect.server.publications import Column, Table
-from pgsub_connect.drift.remembered import Remembered
+from pgsub_connect.status.progress import Progress
+from pgsub_connect.store import checkpoint as known_of
+from pgsub_connect.store.checkpoint import Checkpoint
 from pgsub_connect.store.snapshot import part_of
 from tests.fake_server import FakeServer, Quiet, Row
 from tests.row_filter import Store, Subscriber
 from tests.vectors import PGSUB, a_catalog, a_table
 
 POINT = 0x1000028
-STOCK = Table(16385, "public", "stock", "r", "d", None, None, [Column("id", 23, -1, True, 1), Column("n", 23, -1, False, 2)])
+STOCK = Table(
+    16385,
+    "public",
+    "stock",
+    "r",
+    "d",
+    None,
+    None,
+    [Column("id", 23, -1, True, 1), Column("n", 23, -1, False, 2)],
+)
 
 
 class FakeFilter:
@@ -64,7 +76,9 @@ class FakeFilter:
     def finish(self) -> None:
         self.ended = True
 
-    def serve(self, timeout: float, reads: Sequence[int] = ()) -> tuple[list[int], list[int], list[bytes]]:
+    def serve(
+        self, timeout: float, reads: Sequence[int] = ()
+    ) -> tuple[list[int], list[int], list[bytes]]:
         if self.ended:
             raise FilterEnded(0, "")
         return self.readable, [], []
@@ -83,18 +97,34 @@ class Copying(Quiet):
         self.server = server = FakeServer()
         self.slots: list[Row] = []
         for part, rows in (
-            ("IDENTIFY_SYSTEM", [["77", "1", "0/1000000", "shop"]]), ("pg_is_in_recovery", [["f"]]),
-            ("pg_settings", [["wal_level", "logical"], ["max_replication_slots", "10"]]), ("pg_roles", [["f", "f", "t", "t"]]),
-            ("SELECT p.pubname FROM", [["pgsub"]]), ("CREATE_REPLICATION_SLOT", [["s", "0/1000028", "snap'1", "pgoutput"]]),
-            ("pg_relation_filenode", [["16385", "1"]]), ("sum(l.reltuples)", [["3"]]),
+            ("IDENTIFY_SYSTEM", [["77", "1", "0/1000000", "shop"]]),
+            ("pg_is_in_recovery", [["f"]]),
+            ("pg_settings", [["wal_level", "logical"], ["max_replication_slots", "10"]]),
+            ("pg_roles", [["f", "f", "t", "t"]]),
+            ("SELECT p.pubname FROM", [["pgsub"]]),
+            ("CREATE_REPLICATION_SLOT", [["s", "0/1000028", "snap'1", "pgoutput"]]),
+            ("pg_relation_filenode", [["16385", "1"]]),
+            ("sum(l.reltuples)", [["3"]]),
         ):
             server.answer(part, cast(list[Row], rows))
         made = 'CREATE PUBLICATION "pgsub"'
-        server.answer("SELECT p.oid FROM pg_catalog.pg_publication p", lambda _: [["777"]] if server.told(made) else [])
-        server.answer("SELECT pg_catalog.pg_is_in_recovery(), pg_catalog.current_database()", [["f", "shop", "0", "0"]])
+        server.answer(
+            "SELECT p.oid FROM pg_catalog.pg_publication p",
+            lambda _: [["777"]] if server.told(made) else [],
+        )
+        server.answer(
+            "SELECT pg_catalog.pg_is_in_recovery(), pg_catalog.current_database()",
+            [["f", "shop", "0", "0"]],
+        )
         self.names: list[Row] = [["16385", "public", "stock"]]
-        self.columns: list[Row] = [["16385", "1", "id", "23", "-1"], ["16385", "2", "n", "23", "-1"], ["16385", "3", "x", "25", "-1"]]
-        server.answer("SELECT c.oid, n.nspname, c.relname FROM pg_catalog.pg_class c JOIN", self.names)
+        self.columns: list[Row] = [
+            ["16385", "1", "id", "23", "-1"],
+            ["16385", "2", "n", "23", "-1"],
+            ["16385", "3", "x", "25", "-1"],
+        ]
+        server.answer(
+            "SELECT c.oid, n.nspname, c.relname FROM pg_catalog.pg_class c JOIN", self.names
+        )
         server.answer("FROM pg_catalog.pg_attribute a WHERE a.attrelid IN", self.columns)
         server.answer("s.confirmed_flush_lsn - '0/0'", lambda _: self.slots)
         server.answer("SELECT s.confirmed_flush_lsn", lambda _: [[it[3]] for it in self.slots])
@@ -110,7 +140,11 @@ class Copying(Quiet):
         self.patch(publication_setup, "publishable_tables", lambda _: ['"public"."stock"'])
         self.patch(Copier, "sleep", lambda copier, seconds: self.slept.append(seconds))
         self.slept: list[float] = []
-        self.patch(copier_module, "read_catalog", lambda _, names: Catalog(tuple(names), 0, 0, {}, {}, {}, {}))
+        self.patch(
+            copier_module,
+            "read_catalog",
+            lambda _, names: Catalog(tuple(names), 0, 0, {}, {}, {}, {}),
+        )
 
     def made(self) -> dict[str, int]:
         """The publications that are remembered as made, in the file."""
@@ -132,7 +166,10 @@ class Copying(Quiet):
     def later(self) -> dict[int, str]:
         """The tables that are to be added by themselves; each was found to be missing."""
         remembered = Remembered(self.store)
-        self.assertEqual(len(remembered.found["publication"].texts if remembered.wanted else []), len(remembered.wanted))
+        self.assertEqual(
+            len(remembered.found["publication"].texts if remembered.wanted else []),
+            len(remembered.wanted),
+        )
         return remembered.wanted
 
     def copier(self, **options: object) -> Copier:
@@ -142,11 +179,14 @@ class Copying(Quiet):
         self.progress = Progress()
         chosen = Options(store=self.store, publication=["pgsub"], create="permanent", **options)  # type: ignore[arg-type]
         self.remembered = Remembered(self.store)
-        return Copier(chosen, self.checkpoint, cast(Filter, self.filter), self.progress, self.remembered)
+        return Copier(
+            chosen, self.checkpoint, cast(Filter, self.filter), self.progress, self.remembered
+        )
 
 
 class Locks(Copying):
-    """From 16 on a server locks the tables to say what is published of them, and any does to publish them."""
+    """From 16 on a server locks the tables to say what is published of them, and any does to
+    publish them."""
 
     def check_at(self, part: str) -> list[str]:
         """Lets a command take long, and returns what is told of it."""
@@ -163,7 +203,10 @@ class Locks(Copying):
         return [it for it in self.said if "waits for" in it]
 
     def test_of_a_publication(self) -> None:
-        self.assertEqual(self.check_at("CREATE PUBLICATION"), ["the publication waits for the locks of process 8 (app, database shop) for 12 s"])
+        self.assertEqual(
+            self.check_at("CREATE PUBLICATION"),
+            ["the publication waits for the locks of process 8 (app, database shop) for 12 s"],
+        )
 
     def test_of_rows(self) -> None:
         """A table that is locked by others is tried again; the server isn't let wait."""
@@ -177,8 +220,17 @@ class Locks(Copying):
 
         self.server.answer("LOCK TABLE", lock)
         self.copier().run()
-        self.assertEqual((self.said.count("public.stock is locked by others: it is read later"), self.progress.copied_rows), (1, 2))
-        self.assertEqual((len(self.server.told("LOCK TABLE")), len(self.server.told("ROLLBACK")), self.later()), (4, 3, {}))
+        self.assertEqual(
+            (
+                self.said.count("public.stock is locked by others: it is read later"),
+                self.progress.copied_rows,
+            ),
+            (1, 2),
+        )
+        self.assertEqual(
+            (len(self.server.told("LOCK TABLE")), len(self.server.told("ROLLBACK")), self.later()),
+            (4, 3, {}),
+        )
 
 
 class Sent(Copying):
@@ -187,11 +239,21 @@ class Sent(Copying):
         rows = inserts(self.server.lines, InsertHeads(STOCK, 0))
         self.assertEqual(
             self.filter.sent.hex(" "),
-            b"".join((
-                frame(1, begin(1)), frame(0, relation(STOCK)), rows, frame(1, commit(1, 2)), frame(2, begin(2)), frame(2, commit(2, POINT)),
-            )).hex(" "),
+            b"".join(
+                (
+                    frame(1, begin(1)),
+                    frame(0, relation(STOCK)),
+                    rows,
+                    frame(1, commit(1, 2)),
+                    frame(2, begin(2)),
+                    frame(2, commit(2, POINT)),
+                )
+            ).hex(" "),
         )
-        self.assertEqual((self.progress.copied_rows, self.progress.copy_total_rows, self.progress.copying), (2, 3, None))
+        self.assertEqual(
+            (self.progress.copied_rows, self.progress.copy_total_rows, self.progress.copying),
+            (2, 3, None),
+        )
         self.assertEqual(self.checkpoint.known.phase, known_of.COPIED)
         self.assertEqual(self.checkpoint.known.position, POINT)
         self.assertTrue(os.path.exists(self.store))
@@ -213,7 +275,11 @@ class Sent(Copying):
     def test_an_empty_table(self) -> None:
         self.server.lines = []
         self.copier().run()
-        self.assertTrue(self.filter.sent.startswith(frame(1, begin(1)) + frame(0, relation(STOCK)) + frame(1, commit(1, 2))))
+        self.assertTrue(
+            self.filter.sent.startswith(
+                frame(1, begin(1)) + frame(0, relation(STOCK)) + frame(1, commit(1, 2))
+            )
+        )
 
     def test_no_table(self) -> None:
         self.tables = []
@@ -246,19 +312,29 @@ class Linked(Copying):
     def test_the_file_is_where_it_leads(self) -> None:
         """So is the program's log; the connector has its own ones beside the link."""
         self.copier().run()
-        self.assertEqual((os.readlink(self.store), sorted(os.listdir(self.far))), ("far/shop.db", ["shop.db", "shop.db-wal"]))
-        self.assertEqual(sorted(os.listdir(self.folder)), ["copy.db", "copy.db.connector", "copy.db.tables", "far"])
+        self.assertEqual(
+            (os.readlink(self.store), sorted(os.listdir(self.far))),
+            ("far/shop.db", ["shop.db", "shop.db-wal"]),
+        )
+        self.assertEqual(
+            sorted(os.listdir(self.folder)),
+            ["copy.db", "copy.db.connector", "copy.db.tables", "far"],
+        )
 
     def test_what_was_complete_gets_its_name_there(self) -> None:
         """Cut off between the two renames."""
         copier = self.copier()
         self.slots = [["pgoutput", "t", "f", str(POINT)]]
-        self.checkpoint.write(True, phase=known_of.COPIED, system="77", slot="pgsub", confirmed=POINT, position=POINT)
+        self.checkpoint.write(
+            True, phase=known_of.COPIED, system="77", slot="pgsub", confirmed=POINT, position=POINT
+        )
         for suffix in (".copying", "-wal"):
             with open(f"{self.far}/shop.db{suffix}", "wb"):
                 pass
         copier.run()
-        self.assertEqual((self.filter.sent, sorted(os.listdir(self.far))), (b"", ["shop.db", "shop.db-wal"]))
+        self.assertEqual(
+            (self.filter.sent, sorted(os.listdir(self.far))), (b"", ["shop.db", "shop.db-wal"])
+        )
 
     def test_the_log_of_a_store_that_is_gone(self) -> None:
         with open(self.far + "/shop.db-wal", "wb"):
@@ -270,7 +346,9 @@ class Linked(Copying):
         """As where the file's own name is a store, too, or another link's."""
         with contextlib.closing(sqlite3.connect(part_of(self.store))) as base:
             base.execute("BEGIN EXCLUSIVE")
-            with self.assertRaisesRegex(Passing, "far/shop.db.copying: another program has it open"):
+            with self.assertRaisesRegex(
+                Passing, "far/shop.db.copying: another program has it open"
+            ):
                 self.copier().run()
         self.assertEqual((os.path.exists(part_of(self.store)), self.server.commands), (True, []))
 
@@ -279,17 +357,37 @@ class Order(Copying):
     def test_checks_publication_slots_locks_rows(self) -> None:
         self.copier().run()
         parts = [
-            "pg_settings", "CREATE PUBLICATION", "COMMIT", "CREATE_REPLICATION_SLOT", "BEGIN ISOLATION LEVEL REPEATABLE READ READ ONLY",
-            "SET TRANSACTION SNAPSHOT 'snap''1'", "pg_export_snapshot", "pg_copy_logical_replication_slot", "DROP_REPLICATION_SLOT",
-            "LOCK TABLE", "COPY (SELECT",
+            "pg_settings",
+            "CREATE PUBLICATION",
+            "COMMIT",
+            "CREATE_REPLICATION_SLOT",
+            "BEGIN ISOLATION LEVEL REPEATABLE READ READ ONLY",
+            "SET TRANSACTION SNAPSHOT 'snap''1'",
+            "pg_export_snapshot",
+            "pg_copy_logical_replication_slot",
+            "DROP_REPLICATION_SLOT",
+            "LOCK TABLE",
+            "COPY (SELECT",
         ]
         order = [self.server.index(part) for part in parts]
         self.assertEqual(order, sorted(order))
         self.assertEqual(self.made(), {"pgsub": 777})
-        self.assertEqual(self.server.told("DROP"), ['DROP_REPLICATION_SLOT "' + self.server.told("CREATE_REPL")[0].split('"')[1] + '"'])
+        self.assertEqual(
+            self.server.told("DROP"),
+            ['DROP_REPLICATION_SLOT "' + self.server.told("CREATE_REPL")[0].split('"')[1] + '"'],
+        )
 
     def test_a_table_that_is_altered_beside_the_slot_is_added_by_itself(self) -> None:
-        other = Table(16385, "public", "stock", "r", "d", None, None, [*STOCK.columns, Column("more", 23, -1, False, 3)])
+        other = Table(
+            16385,
+            "public",
+            "stock",
+            "r",
+            "d",
+            None,
+            None,
+            [*STOCK.columns, Column("more", 23, -1, False, 3)],
+        )
         for after in ([other], [STOCK, Table(16390, "public", "new", "r", "d", None, None, [])]):
             left = [[STOCK], after, after]
             self.setUp()
@@ -303,8 +401,13 @@ class Order(Copying):
         leaf = Partition(3, 2, "two_1", True)
         before = a_catalog(one, two, partitions=[Partition(2, 0, "two", False), leaf])
         cases: list[tuple[Sequence[CatalogTable], list[Partition], list[int]]] = [
-            ((one, two), [leaf], []), ((a_table(1, "other"), two), [leaf], [1]), ((one,), [leaf], []), ((one, two, a_table(9, "new")), [leaf], []),
-            ((one, two), [], [2]), ((one, two), [leaf, Partition(4, 2, "two_2", True)], [2]), ((one, two), [Partition(3, 2, "two_1", True, node=5)], [2]),
+            ((one, two), [leaf], []),
+            ((a_table(1, "other"), two), [leaf], [1]),
+            ((one,), [leaf], []),
+            ((one, two, a_table(9, "new")), [leaf], []),
+            ((one, two), [], [2]),
+            ((one, two), [leaf, Partition(4, 2, "two_2", True)], [2]),
+            ((one, two), [Partition(3, 2, "two_1", True, node=5)], [2]),
         ]
         for tables, partitions, wanted in cases:
             after = a_catalog(*tables, partitions=[Partition(2, 0, "two", False), *partitions])
@@ -317,7 +420,9 @@ class Order(Copying):
                 self.server.answer("LOCK TABLE", ServerError("gone", sqlstate))
                 self.copier().run()
                 self.assertEqual(self.later(), {16385: ""})
-                self.assertEqual((self.server.told("COPY ("), self.checkpoint.known.phase), ([], known_of.COPIED))
+                self.assertEqual(
+                    (self.server.told("COPY ("), self.checkpoint.known.phase), ([], known_of.COPIED)
+                )
 
     def test_what_is_gone_in_the_midst_of_rows_is_lasting(self) -> None:
         self.server.answer("COPY (", ServerError("gone", "42P01"))
@@ -325,11 +430,15 @@ class Order(Copying):
             self.copier().run()
 
     def test_names_are_compared_under_the_lock(self) -> None:
-        """As where tables changed their names between the snapshot and the lock. It takes no lock to see that."""
+        """As where tables changed their names between the snapshot and the lock. It takes no lock
+        to see that."""
         self.names[0] = ["16385", "public", "stock_old"]
         self.copier().run()
         self.assertEqual((self.later(), self.server.told("COPY (")), ({16385: ""}, []))
-        self.assertLess(self.server.index("LOCK TABLE"), self.server.index("SELECT c.oid, n.nspname, c.relname FROM"))
+        self.assertLess(
+            self.server.index("LOCK TABLE"),
+            self.server.index("SELECT c.oid, n.nspname, c.relname FROM"),
+        )
 
     def test_columns_are_compared_under_the_lock(self) -> None:
         """As where two columns changed their names."""
@@ -355,7 +464,15 @@ class Order(Copying):
         self.server.answer("LOCK TABLE", lock)
         self.copier().run()
         remembered = Remembered(self.store)
-        self.assertEqual((self.later(), remembered.found, remembered.sent, remembered.catalog and remembered.catalog.tables), ({}, {}, {}, {}))
+        self.assertEqual(
+            (
+                self.later(),
+                remembered.found,
+                remembered.sent,
+                remembered.catalog and remembered.catalog.tables,
+            ),
+            ({}, {}, {}, {}),
+        )
         self.assertEqual(remembered.look(a_catalog()), [])
         self.assertEqual(remembered.found, {})
 
@@ -367,7 +484,9 @@ class Order(Copying):
         self.patch(copier_module, "published_tables", lambda *_: next(looks))
         self.copier().run()
         remembered = Remembered(self.store)
-        text = "table public.more (16395) isn't copied yet: it was published while the slot was made"
+        text = (
+            "table public.more (16395) isn't copied yet: it was published while the slot was made"
+        )
         self.assertEqual((self.later(), remembered.found_of(16395)), ({16395: ""}, [text]))
 
     def test_a_table_that_others_keep_locked_is_added_by_itself(self) -> None:
@@ -379,8 +498,13 @@ class Order(Copying):
     def test_failover(self) -> None:
         self.server.server_version = 170000
         self.copier(failover=True).run()
-        self.assertEqual(self.server.told("ALTER_REPLICATION_SLOT"), ['ALTER_REPLICATION_SLOT "pgsub" (FAILOVER true)'])
-        self.assertLess(self.server.index("pg_copy_logical"), self.server.index("ALTER_REPLICATION_SLOT"))
+        self.assertEqual(
+            self.server.told("ALTER_REPLICATION_SLOT"),
+            ['ALTER_REPLICATION_SLOT "pgsub" (FAILOVER true)'],
+        )
+        self.assertLess(
+            self.server.index("pg_copy_logical"), self.server.index("ALTER_REPLICATION_SLOT")
+        )
 
     def test_failover_that_is_set_already(self) -> None:
         self.server.server_version = 170000
@@ -391,31 +515,43 @@ class Order(Copying):
     def test_failover_before_17_makes_nothing(self) -> None:
         with self.assertRaises(UsageError):
             self.copier(failover=True).run()
-        self.assertEqual(self.server.told("CREATE PUBLICATION") + self.server.told("CREATE_REPLICATION_SLOT"), [])
+        self.assertEqual(
+            self.server.told("CREATE PUBLICATION") + self.server.told("CREATE_REPLICATION_SLOT"), []
+        )
 
     def test_nothing_is_made_without_the_right_to_read(self) -> None:
         self.server.answer("has_any_column_privilege", [["public.stock", "f", "t", "t", "f", "t"]])
         with self.assertRaisesRegex(ServerError, "needs SELECT on all of it: public.stock"):
             self.copier().run()
-        self.assertEqual(self.server.told("COMMIT") + self.server.told("CREATE_REPLICATION_SLOT"), [])
+        self.assertEqual(
+            self.server.told("COMMIT") + self.server.told("CREATE_REPLICATION_SLOT"), []
+        )
 
     def test_nothing_is_made_without_wal_level(self) -> None:
-        self.server.answer("pg_settings", [["wal_level", "replica"], ["max_replication_slots", "10"]])
+        self.server.answer(
+            "pg_settings", [["wal_level", "replica"], ["max_replication_slots", "10"]]
+        )
         with self.assertRaisesRegex(ServerError, "wal_level"):
             self.copier().run()
-        self.assertEqual(self.server.told("CREATE PUBLICATION") + self.server.told("CREATE_REPLICATION_SLOT"), [])
+        self.assertEqual(
+            self.server.told("CREATE PUBLICATION") + self.server.told("CREATE_REPLICATION_SLOT"), []
+        )
 
 
 class Ends(Copying):
     """What ends the copy, and what becomes of the publication that was made for it."""
 
-    def failing(self, error: Exception, kind: type[Exception], part: str = "COPY (", attempts: int = 1) -> Exception:
+    def failing(
+        self, error: Exception, kind: type[Exception], part: str = "COPY (", attempts: int = 1
+    ) -> Exception:
         def fail(_: str) -> list[Row]:
             raise error
 
         return self.failing_by(fail, kind, part, attempts)
 
-    def failing_by(self, fail: Callable[[str], list[Row]], kind: type[Exception], part: str, attempts: int = 1) -> Exception:
+    def failing_by(
+        self, fail: Callable[[str], list[Row]], kind: type[Exception], part: str, attempts: int = 1
+    ) -> Exception:
         self.server.answer(part, fail)
         with self.assertRaises(kind) as raised:
             self.copier().run()
@@ -433,7 +569,12 @@ class Ends(Copying):
         self.assertEqual(self.slept, [1.0, 2.0, 4.0, 8.0])
 
     def test_locks(self) -> None:
-        self.assertIn("max_locks_per_transaction", str(self.failing(ServerError("out of shared memory", "53200"), ServerError, attempts=5)))
+        self.assertIn(
+            "max_locks_per_transaction",
+            str(
+                self.failing(ServerError("out of shared memory", "53200"), ServerError, attempts=5)
+            ),
+        )
 
     def test_ten_attempts_of_a_passing_cause(self) -> None:
         for sqlstate in ("", "57P01", "53300"):
@@ -443,11 +584,17 @@ class Ends(Copying):
 
     def test_publications_that_change_at_each_attempt(self) -> None:
         numbers = iter(range(1000))
-        self.patch(copier_module, "read_catalog", lambda *_: a_catalog(publication=dataclasses.replace(PGSUB, oid=next(numbers))))
+        self.patch(
+            copier_module,
+            "read_catalog",
+            lambda *_: a_catalog(publication=dataclasses.replace(PGSUB, oid=next(numbers))),
+        )
         with self.assertRaisesRegex(Passing, f"{CHANGED}; 20 attempts to copy"):
             self.copier().run()
         self.assertEqual((len(self.slept), set(self.slept)), (19, {1.0}))
-        self.assertEqual((self.server.told("COPY ("), len(self.server.told('DROP PUBLICATION "pgsub"'))), ([], 1))
+        self.assertEqual(
+            (self.server.told("COPY ("), len(self.server.told('DROP PUBLICATION "pgsub"'))), ([], 1)
+        )
 
     def test_signal(self) -> None:
         self.failing(Stopped(), Stopped)
@@ -469,6 +616,7 @@ class Ends(Copying):
     def test_a_slot_that_may_be_there(self) -> None:
         """It is looked for, and dropped; but not one that was moved since."""
         for at, dropped in ((POINT, 1), (POINT + 8, 0), (0, 0)):
+
             def fail(_: str, at: int = at) -> list[Row]:
                 self.slots = [["pgoutput", "t", "f", str(at)]] if at else []
                 raise Stopped
@@ -480,10 +628,20 @@ class Ends(Copying):
 
     def test_a_slot_that_is_rejected(self) -> None:
         """The slot isn't there, so the publication isn't needed."""
-        self.failing(ServerError("all replication slots are in use", "53400"), ServerError, "pg_copy_logical_replication_slot", attempts=5)
+        self.failing(
+            ServerError("all replication slots are in use", "53400"),
+            ServerError,
+            "pg_copy_logical_replication_slot",
+            attempts=5,
+        )
 
     def test_a_snapshot_that_is_gone(self) -> None:
-        self.failing(ServerError("invalid snapshot identifier", "22023"), Passing, "SET TRANSACTION SNAPSHOT", attempts=10)
+        self.failing(
+            ServerError("invalid snapshot identifier", "22023"),
+            Passing,
+            "SET TRANSACTION SNAPSHOT",
+            attempts=10,
+        )
 
     def test_a_filter_that_rejects(self) -> None:
         copier = self.copier()
@@ -515,13 +673,21 @@ class Ends(Copying):
     def test_a_slot_that_is_lost_while_rows_come(self) -> None:
         """Nothing can follow on the copy, so it ends at once, and the next start copies anew."""
         self.patch(copier_module, "LOOK", 0.0)
-        self.server.answer("SELECT s.wal_status", lambda _: [["lost" if self.server.told("COPY (") else "reserved"]])
+        self.server.answer(
+            "SELECT s.wal_status",
+            lambda _: [["lost" if self.server.told("COPY (") else "reserved"]],
+        )
         self.server.answer("COPY (", [])
-        with self.assertRaisesRegex(ServerError, "the slot pgsub is lost: .*max_slot_wal_keep_size") as raised:
+        with self.assertRaisesRegex(
+            ServerError, "the slot pgsub is lost: .*max_slot_wal_keep_size"
+        ) as raised:
             self.copier().run()
         self.assertTrue(raised.exception.is_lasting())
         self.assertEqual((self.slots, self.checkpoint.known.phase), ([], known_of.COPYING))
-        self.assertEqual((len(self.server.told('DROP PUBLICATION "pgsub"')), self.server.opened), (1, self.server.closed))
+        self.assertEqual(
+            (len(self.server.told('DROP PUBLICATION "pgsub"')), self.server.opened),
+            (1, self.server.closed),
+        )
 
     def test_a_slot_is_kept_from_being_idle(self) -> None:
         """From 18 on a server may end it because of that."""
@@ -531,9 +697,14 @@ class Ends(Copying):
                 self.server.server_version = version
                 self.patch(copier_module, "LOOK", 0.0)
                 self.server.answer("SELECT s.wal_status", [["reserved"]])
-                self.server.answer("ALTER_REPLICATION_SLOT", ServerError("it is active for PID 7", "55006"))
+                self.server.answer(
+                    "ALTER_REPLICATION_SLOT", ServerError("it is active for PID 7", "55006")
+                )
                 self.copier().run()
-                self.assertEqual(set(self.server.told("ALTER_REPL")), {'ALTER_REPLICATION_SLOT "pgsub" (FAILOVER false)'} if told else set())
+                self.assertEqual(
+                    set(self.server.told("ALTER_REPL")),
+                    {'ALTER_REPLICATION_SLOT "pgsub" (FAILOVER false)'} if told else set(),
+                )
 
     def test_a_slot_is_looked_at_while_a_filter_opens_its_store(self) -> None:
         self.server.server_version = 180000
@@ -552,7 +723,13 @@ class Ends(Copying):
         self.assertEqual(set(looks), {1})
 
     def test_how_often_depends_on_when_it_is_ended(self) -> None:
-        for said, often, warned in ((None, copier_module.LOOK, False), ("0", copier_module.LOOK, False), ("86400", copier_module.LOOK, False), ("30", 10.0, False), ("3", 1.0, True)):
+        for said, often, warned in (
+            (None, copier_module.LOOK, False),
+            ("0", copier_module.LOOK, False),
+            ("86400", copier_module.LOOK, False),
+            ("30", 10.0, False),
+            ("3", 1.0, True),
+        ):
             with self.subTest(said):
                 self.setUp()
                 self.server.server_version = 170000 if said is None else 180000
@@ -560,7 +737,9 @@ class Ends(Copying):
                 copier = self.copier()
                 copier.run()
                 self.assertEqual(copier.look, often)
-                self.assertEqual(any("any pause may lose the slot" in it for it in self.said), warned)
+                self.assertEqual(
+                    any("any pause may lose the slot" in it for it in self.said), warned
+                )
 
     def test_a_slot_is_looked_at_now_and_then(self) -> None:
         self.server.answer("SELECT s.wal_status", [["reserved"]])
@@ -570,14 +749,19 @@ class Ends(Copying):
         self.patch(copier_module, "LOOK", 0.0)
         self.server.answer("SELECT s.wal_status", [["extended"]])
         self.copier().run()
-        self.assertLess(self.server.index("pg_copy_logical_replication_slot"), self.server.index("SELECT s.wal_status"))
+        self.assertLess(
+            self.server.index("pg_copy_logical_replication_slot"),
+            self.server.index("SELECT s.wal_status"),
+        )
         self.assertEqual(self.checkpoint.known.phase, known_of.COPIED)
 
     def test_a_slot_that_is_there(self) -> None:
         self.slots = [["pgoutput", "t", "f", "5"]]
         with self.assertRaisesRegex(Unfit, "the slot pgsub is there already"):
             self.copier().run()
-        self.assertEqual(self.server.told("CREATE PUBLICATION") + self.server.told("CREATE_REPLICATION_SLOT"), [])
+        self.assertEqual(
+            self.server.told("CREATE PUBLICATION") + self.server.told("CREATE_REPLICATION_SLOT"), []
+        )
 
     def test_the_log_of_a_store_that_is_gone(self) -> None:
         with open(self.store + "-wal", "wb"):
@@ -589,7 +773,9 @@ class Ends(Copying):
         """Cut off between the slot and the renaming."""
         copier = self.copier(failover=True)
         self.slots = [["pgoutput", "t", "f", str(POINT)]]
-        self.checkpoint.write(True, phase=known_of.COPIED, system="77", slot="pgsub", confirmed=POINT, position=POINT)
+        self.checkpoint.write(
+            True, phase=known_of.COPIED, system="77", slot="pgsub", confirmed=POINT, position=POINT
+        )
         self.patch(FakeFilter, "start", lambda *_: POINT)
         with open(self.store + ".copying", "wb"):
             pass
@@ -600,7 +786,16 @@ class Ends(Copying):
         self.assertEqual(copier.options.publication, ["pgsub", "pgsub_inserts"])
 
 
-OTHER = Table(16390, "public", "other", "r", "d", None, None, [Column("id", 23, -1, True, 1), Column("n", 23, -1, False, 2)])
+OTHER = Table(
+    16390,
+    "public",
+    "other",
+    "r",
+    "d",
+    None,
+    None,
+    [Column("id", 23, -1, True, 1), Column("n", 23, -1, False, 2)],
+)
 
 
 class Kept(Copying):
@@ -622,7 +817,8 @@ class Kept(Copying):
         self.patch(FakeFilter, "start", start)
 
     def breaks(self, error: BaseException) -> None:
-        """Makes the COPY of a table fail, once the parts before it were taken, for the first time."""
+        """Makes the COPY of a table fail, once the parts before it were taken, for the first
+        time."""
         left: list[BaseException] = [error]
 
         def copied(_: str) -> list[Row]:
@@ -640,7 +836,10 @@ class Kept(Copying):
         self.breaks(Stopped())
         with self.assertRaises(Stopped):
             self.copier(jobs=1).run()
-        self.assertEqual((self.checkpoint.known.phase, Remembered(self.store).copied), (known_of.SLOT, {16385: 2}))
+        self.assertEqual(
+            (self.checkpoint.known.phase, Remembered(self.store).copied),
+            (known_of.SLOT, {16385: 2}),
+        )
         self.assertEqual((self.server.told("DROP PUB"), len(self.slots)), ([], 1))
         os.close(self.checkpoint.file)
         self.patch(os, "close", lambda number: None)
@@ -651,21 +850,33 @@ class Kept(Copying):
         self.position = 2
         self.copier().run()
         self.assertEqual(self.filter.sent, frame(2, begin(2)) + frame(2, commit(2, POINT)))
-        self.assertEqual((self.later(), self.checkpoint.known.phase), ({16390: ""}, known_of.COPIED))
-        self.assertEqual((self.server.told("COPY ("), self.server.told("CREATE"), self.made()), ([], [], {"pgsub": 777}))
+        self.assertEqual(
+            (self.later(), self.checkpoint.known.phase), ({16390: ""}, known_of.COPIED)
+        )
+        self.assertEqual(
+            (self.server.told("COPY ("), self.server.told("CREATE"), self.made()),
+            ([], [], {"pgsub": 777}),
+        )
         self.assertTrue(os.path.exists(self.store))
         self.assertEqual(Remembered(self.store).copied, {})
 
     def test_a_table_that_was_published_meanwhile(self) -> None:
         """What is told of it says its name, and goes once the table is added."""
-        self.patch(copier_module, "read_catalog", lambda *_: a_catalog(a_table(16385, "stock"), a_table(16390, "other")))
+        self.patch(
+            copier_module,
+            "read_catalog",
+            lambda *_: a_catalog(a_table(16385, "stock"), a_table(16390, "other")),
+        )
         self.cut()
         self.position = 2
         self.tables.append(dataclasses.replace(OTHER, oid=16395, name="more"))
         self.copier().run()
         remembered = Remembered(self.store)
         self.assertEqual(remembered.wanted, {16390: "", 16395: ""})
-        self.assertEqual(remembered.found_of(16395), ["table public.more (16395) isn't copied yet: its copy was interrupted"])
+        self.assertEqual(
+            remembered.found_of(16395),
+            ["table public.more (16395) isn't copied yet: its copy was interrupted"],
+        )
         for oid in (16390, 16395):
             self.assertEqual(len(remembered.found_of(oid)), 1)
             remembered.added(oid, remembered.found_of(oid))
@@ -673,14 +884,24 @@ class Kept(Copying):
 
     def test_a_table_that_leaves_while_the_slot_is_made(self) -> None:
         """It isn't copied, and not remembered."""
-        self.patch(copier_module, "read_catalog", lambda *_: a_catalog(a_table(16385, "stock"), a_table(16390, "other")))
+        self.patch(
+            copier_module,
+            "read_catalog",
+            lambda *_: a_catalog(a_table(16385, "stock"), a_table(16390, "other")),
+        )
         looks = iter([[STOCK, OTHER], [STOCK]])
         self.patch(copier_module, "published_tables", lambda *_: next(looks, [STOCK]))
         self.copier().run()
         remembered = Remembered(self.store)
         self.assertEqual(remembered.catalog and list(remembered.catalog.tables), [16385])
-        self.assertEqual((list(remembered.sent), self.progress.copied_tables, len(self.server.told("COPY ("))), ([16385], 1, 1))
-        self.assertIn("public.other was dropped, or left the publication, while the slot was made", " ".join(self.said))
+        self.assertEqual(
+            (list(remembered.sent), self.progress.copied_tables, len(self.server.told("COPY ("))),
+            ([16385], 1, 1),
+        )
+        self.assertIn(
+            "public.other was dropped, or left the publication, while the slot was made",
+            " ".join(self.said),
+        )
 
     def test_so_it_is_within_one_run(self) -> None:
         self.breaks(ServerError("lost", "57P01"))
@@ -706,11 +927,14 @@ class Kept(Copying):
 
         self.server.answer('DROP_REPLICATION_SLOT "pgsub"', dropped)
         self.copier(jobs=1).run()
-        self.assertEqual((self.progress.copied_rows, self.progress.copied_tables, self.later()), (4, 2, {}))
+        self.assertEqual(
+            (self.progress.copied_rows, self.progress.copied_tables, self.later()), (4, 2, {})
+        )
         self.assertEqual(len(self.server.told("pg_copy_logical_replication_slot")), 1)
 
     def is_begun_anew(self, size: str) -> bool:
-        """Whether the copy begins anew where the other table has so many bytes, and 1000 may be buffered."""
+        """Whether the copy begins anew where the other table has so many bytes, and 1000 may be
+        buffered."""
         self.cut()
         self.position = 2
         self.server.answer("pg_table_size", [["16390", size]])
@@ -734,7 +958,9 @@ class Kept(Copying):
     def test_it_begins_anew_where_the_slot_is_lost(self) -> None:
         self.cut()
         self.position = 2
-        self.server.answer("SELECT s.wal_status", lambda _: [["lost" if self.slots else "reserved"]])
+        self.server.answer(
+            "SELECT s.wal_status", lambda _: [["lost" if self.slots else "reserved"]]
+        )
         with mock.patch.object(Copier, "copy_anew") as fresh:
             self.copier().run()
         self.assertEqual((fresh.called, self.slots), (True, []))
@@ -764,8 +990,14 @@ class Kept(Copying):
             size = int.from_bytes(sent[at + 1 : at + 5], "big") + 1
             subscriber.take(sent[at + 5 : at + size])
             at += size
-        self.assertEqual({oid: len(rows) for oid, rows in subscriber.store.rows().items()}, {16385: 200, 16390: 200})
-        self.assertEqual((subscriber.store.position, self.progress.copied_tables, self.server.opened), (POINT, 2, self.server.closed))
+        self.assertEqual(
+            {oid: len(rows) for oid, rows in subscriber.store.rows().items()},
+            {16385: 200, 16390: 200},
+        )
+        self.assertEqual(
+            (subscriber.store.position, self.progress.copied_tables, self.server.opened),
+            (POINT, 2, self.server.closed),
+        )
 
 
 class Left(Copying):
@@ -806,7 +1038,10 @@ class Left(Copying):
         self.killed()
         self.assertEqual(self.made(), {"pgsub": 777})
         self.copier().run()
-        self.assertLess(self.server.index('DROP PUBLICATION "pgsub"'), self.server.index('CREATE PUBLICATION "pgsub"'))
+        self.assertLess(
+            self.server.index('DROP PUBLICATION "pgsub"'),
+            self.server.index('CREATE PUBLICATION "pgsub"'),
+        )
         self.assertEqual(self.made(), {"pgsub": 778})
 
     def test_it_goes_where_no_copy_comes_of_it(self) -> None:
@@ -821,13 +1056,17 @@ class Left(Copying):
         self.killed()
         self.server.answer("SELECT p.oid FROM pg_catalog.pg_publication p", [["999"]])
         self.copier().run()
-        self.assertEqual(self.server.told("DROP PUBLICATION") + self.server.told("CREATE PUBLICATION"), [])
+        self.assertEqual(
+            self.server.told("DROP PUBLICATION") + self.server.told("CREATE PUBLICATION"), []
+        )
 
     def test_what_somebody_else_may_use_stays(self) -> None:
         self.killed()
         self.server.answer("SELECT s.slot_name FROM", [["other"]])
         self.copier().run()
-        self.assertEqual(self.server.told("DROP PUBLICATION") + self.server.told("CREATE PUBLICATION"), [])
+        self.assertEqual(
+            self.server.told("DROP PUBLICATION") + self.server.told("CREATE PUBLICATION"), []
+        )
 
 
 class Counting(unittest.TestCase):
@@ -865,11 +1104,18 @@ class Slots(Copying):
 
     def test_made(self) -> None:
         create_slot(self.options(), lambda: None)
-        self.assertLess(self.server.index("CREATE PUBLICATION"), self.server.index("CREATE_REPLICATION_SLOT"))
-        self.assertIn('CREATE_REPLICATION_SLOT "pgsub" LOGICAL pgoutput NOEXPORT_SNAPSHOT', self.server.commands)
+        self.assertLess(
+            self.server.index("CREATE PUBLICATION"), self.server.index("CREATE_REPLICATION_SLOT")
+        )
+        self.assertIn(
+            'CREATE_REPLICATION_SLOT "pgsub" LOGICAL pgoutput NOEXPORT_SNAPSHOT',
+            self.server.commands,
+        )
 
     def test_rejected(self) -> None:
-        self.server.answer("CREATE_REPLICATION_SLOT", ServerError("all replication slots are in use", "53400"))
+        self.server.answer(
+            "CREATE_REPLICATION_SLOT", ServerError("all replication slots are in use", "53400")
+        )
         with self.assertRaises(ServerError):
             create_slot(self.options(), lambda: None)
         self.assertEqual(len(self.server.told('DROP PUBLICATION "pgsub"')), 1)
@@ -878,14 +1124,18 @@ class Slots(Copying):
         self.slots = [["pgoutput", "t", "f", "5"]]
         with self.assertRaisesRegex(Unfit, "older than the publication pgsub"):
             create_slot(self.options(), lambda: None)
-        self.assertEqual(self.server.told("CREATE PUBLICATION") + self.server.told("CREATE_REPLICATION_SLOT"), [])
+        self.assertEqual(
+            self.server.told("CREATE PUBLICATION") + self.server.told("CREATE_REPLICATION_SLOT"), []
+        )
 
     def test_both_are_there(self) -> None:
         self.slots = [["pgoutput", "t", "f", "5"]]
         self.server.answer("SELECT FROM pg_catalog.pg_publication", [[]])
         self.server.answer("SELECT p.oid FROM pg_catalog.pg_publication p", [["777"]])
         create_slot(self.options(), lambda: None)
-        self.assertEqual(self.server.told("CREATE PUBLICATION") + self.server.told("CREATE_REPLICATION_SLOT"), [])
+        self.assertEqual(
+            self.server.told("CREATE PUBLICATION") + self.server.told("CREATE_REPLICATION_SLOT"), []
+        )
 
 
 class Waiting(Quiet):
@@ -918,13 +1168,19 @@ class Waiting(Quiet):
     def test_locks(self) -> None:
         self.server.answer("pg_blocking_pids(4711)", [["8", "app", "shop", "12"]])
         with mock.patch.object(waits_module, "FIRST", 0):
-            waits_module.Waiting("", "pgsub", lambda: None, waits_module.lock_text("the copy", 4711)).check()
-        self.assertEqual(self.said, ["the copy waits for the locks of process 8 (app, database shop) for 12 s"])
+            waits_module.Waiting(
+                "", "pgsub", lambda: None, waits_module.lock_text("the copy", 4711)
+            ).check()
+        self.assertEqual(
+            self.said, ["the copy waits for the locks of process 8 (app, database shop) for 12 s"]
+        )
 
     def test_what_takes_long_without_a_lock(self) -> None:
         self.server.answer("pg_blocking_pids(4711)", [])
         with mock.patch.object(waits_module, "FIRST", 0):
-            waits_module.Waiting("", "pgsub", lambda: None, waits_module.lock_text("the copy", 4711)).check()
+            waits_module.Waiting(
+                "", "pgsub", lambda: None, waits_module.lock_text("the copy", 4711)
+            ).check()
         self.assertEqual((self.said, self.server.opened, self.server.closed), ([], 1, 1))
 
     def test_a_standby(self) -> None:

@@ -1,4 +1,5 @@
-"""A follower that ends at once while it adds a table: what is noted, and how the next one goes on."""
+"""A follower that ends at once while it adds a table: what is noted, and how the next one goes on.
+"""
 
 from __future__ import annotations
 
@@ -8,11 +9,11 @@ from collections.abc import Callable
 from unittest import mock
 
 from pgsub_connect.add.adder import Adder
-from pgsub_connect.store.checkpoint import Checkpoint
-from pgsub_connect.commands.drop import read_known
-from pgsub_connect.follow.follower import Follower
-from pgsub_connect.drift.remembered import Remembered
 from pgsub_connect.add.replacement import Leaving
+from pgsub_connect.commands.drop import read_known
+from pgsub_connect.drift.remembered import Remembered
+from pgsub_connect.follow.follower import Follower
+from pgsub_connect.store.checkpoint import Checkpoint
 
 from .adding_case import Case, Run, T
 from .small_world import WorldSource
@@ -56,9 +57,17 @@ class Cuts(Case):
 
     def test_all(self) -> None:
         for name, after, times, noted in (
-            ("fill", False, 0, {}), ("fill", True, 0, {str(T): 0}), ("prepare", True, 0, {str(T): 0}), ("meet", False, 0, {str(T): 0}),
-            ("meet", True, 0, {str(T): 1}), ("send", False, 0, {str(T): 1}), ("push", True, 2, {str(T): 1}), ("push", True, 4, {str(T): 1}),
-            ("send", True, 0, {str(T): 1}), ("finish", False, 0, {str(T): 1}), ("forget", True, 0, {}),
+            ("fill", False, 0, {}),
+            ("fill", True, 0, {str(T): 0}),
+            ("prepare", True, 0, {str(T): 0}),
+            ("meet", False, 0, {str(T): 0}),
+            ("meet", True, 0, {str(T): 1}),
+            ("send", False, 0, {str(T): 1}),
+            ("push", True, 2, {str(T): 1}),
+            ("push", True, 4, {str(T): 1}),
+            ("send", True, 0, {str(T): 1}),
+            ("finish", False, 0, {str(T): 1}),
+            ("forget", True, 0, {}),
         ):
             with self.subTest(name=name, after=after):
                 found = self.cut([(Adder, name)], after, times)
@@ -70,8 +79,12 @@ class Cuts(Case):
         """As where the server has described the table otherwise before."""
         self.patch(Leaving, "has_described_otherwise", lambda *_: True)
         for where, name, after, noted in (
-            (Adder, "send", False, [str(T)]), (Adder, "send", True, [str(T)]), (Adder, "finish", False, [str(T)]), (Adder, "finish", True, []),
-            (Follower, "renew", False, []), (Follower, "renew", True, []),
+            (Adder, "send", False, [str(T)]),
+            (Adder, "send", True, [str(T)]),
+            (Adder, "finish", False, [str(T)]),
+            (Adder, "finish", True, []),
+            (Follower, "renew", False, []),
+            (Follower, "renew", True, []),
         ):
             with self.subTest(name=name, after=after):
                 self.assertEqual(list(self.cut([(where, name)], after)), noted)

@@ -4,14 +4,28 @@ from __future__ import annotations
 
 import unittest
 
-from pgsub_connect.verify.digests import Field, MOST_CHUNKS, NotText, Plan, Queries, Summing, Sums, chunks_for, fields_in, fields_of, text_of
 from pgsub_connect.server.publications import Column, Table
+from pgsub_connect.verify.digests import (
+    MOST_CHUNKS,
+    Field,
+    NotText,
+    Plan,
+    Queries,
+    Summing,
+    Sums,
+    chunks_for,
+    fields_in,
+    fields_of,
+    text_of,
+)
 from pgsub_feed.tables.values import Malformed
 
 from .stores import Cell, spelled
 
 
-def a_table(*names: str, keys: int = 1, identity: str = "d", kind: str = "r", row_filter: str | None = None) -> Table:
+def a_table(
+    *names: str, keys: int = 1, identity: str = "d", kind: str = "r", row_filter: str | None = None
+) -> Table:
     """A table whose first columns are its key."""
     columns = [Column(name, 25, -1, at < keys, at + 1) for at, name in enumerate(names)]
     return Table(1, "public", "t", kind, identity, row_filter, None, columns)
@@ -26,22 +40,55 @@ def summed(plan: Plan, *rows: tuple[list[Cell], int]) -> Sums:
 
 class Texts(unittest.TestCase):
     def test_there_and_back(self) -> None:
-        rows: list[list[Field]] = [[], [None], [b""], [None, b"", None], [b"1:a", b"n", b"12"], [b"\xff\0\n", b"x" * 1000, None]]
+        rows: list[list[Field]] = [
+            [],
+            [None],
+            [b""],
+            [None, b"", None],
+            [b"1:a", b"n", b"12"],
+            [b"\xff\0\n", b"x" * 1000, None],
+        ]
         for fields in rows:
             self.assertEqual(fields_in(text_of(fields)), fields)
 
     def test_no_two_rows_have_one_text(self) -> None:
-        values: list[Field] = [None, b"", b"n", b"nn", b":", b"0:", b"1:n", b"n0:", b"3:0:n", b" ", b"a", b"a "]
-        rows: list[list[Field]] = [[], *[[it] for it in values], *[[one, two] for one in values for two in values]]
+        values: list[Field] = [
+            None,
+            b"",
+            b"n",
+            b"nn",
+            b":",
+            b"0:",
+            b"1:n",
+            b"n0:",
+            b"3:0:n",
+            b" ",
+            b"a",
+            b"a ",
+        ]
+        rows: list[list[Field]] = [
+            [],
+            *[[it] for it in values],
+            *[[one, two] for one in values for two in values],
+        ]
         self.assertEqual(len({text_of(it) for it in rows}), len(rows))
 
     def test_stored_rows(self) -> None:
-        self.assertEqual(fields_of(spelled(["1", None, "ä", ""]), 4), [b"1", None, "ä".encode(), b""])
+        self.assertEqual(
+            fields_of(spelled(["1", None, "ä", ""]), 4), [b"1", None, "ä".encode(), b""]
+        )
         self.assertEqual(fields_of(spelled([]), 0), [])
 
     def test_malformed_rows(self) -> None:
         body = spelled(["1", None, "abc"])
-        for wrong in (b"", body[:-1], body + b"n", body[:2] + b"x" + body[3:], body[:2] + b"t\xff\xff\xff\xff" + body[7:], body[:5]):
+        for wrong in (
+            b"",
+            body[:-1],
+            body + b"n",
+            body[:2] + b"x" + body[3:],
+            body[:2] + b"t\xff\xff\xff\xff" + body[7:],
+            body[:5],
+        ):
             with self.assertRaises(Malformed, msg=wrong):
                 fields_of(wrong, 3)
         for width in (2, 4):
@@ -55,7 +102,9 @@ class Texts(unittest.TestCase):
 
 class Sum(unittest.TestCase):
     def test_how_many_chunks(self) -> None:
-        self.assertEqual([chunks_for(it) for it in (0, 1, 255, 256, 1000, 10_000)], [1, 1, 1, 2, 4, 64])
+        self.assertEqual(
+            [chunks_for(it) for it in (0, 1, 255, 256, 1000, 10_000)], [1, 1, 1, 2, 4, 64]
+        )
         self.assertEqual(chunks_for(1 << 40), MOST_CHUNKS)
 
     def test_the_order_of_rows_doesnt_matter(self) -> None:
@@ -77,7 +126,9 @@ class Sum(unittest.TestCase):
 
     def test_a_changed_row_stays_in_its_chunk(self) -> None:
         plan = Plan(a_table("id", "name"), 1 << 10)
-        self.assertEqual(len(summed(plan, (["7", "a"], 1)).differing(summed(plan, (["7", "b"], 1)))), 1)
+        self.assertEqual(
+            len(summed(plan, (["7", "a"], 1)).differing(summed(plan, (["7", "b"], 1)))), 1
+        )
 
     def test_equal_rows_are_counted(self) -> None:
         plan = Plan(a_table("a", "b", keys=2, identity="f"), 8)
@@ -92,12 +143,17 @@ class Asked(unittest.TestCase):
     def test_which_rows(self) -> None:
         query = Queries(Plan(a_table("id", row_filter="(id > 3)"), 4), "UTF8").sums()
         self.assertIn('FROM ONLY "public"."t" WHERE (id > 3) OFFSET 0', query)
-        self.assertIn('FROM "public"."t" OFFSET 0', Queries(Plan(a_table("id", kind="p"), 4), "UTF8").sums())
+        self.assertIn(
+            'FROM "public"."t" OFFSET 0', Queries(Plan(a_table("id", kind="p"), 4), "UTF8").sums()
+        )
 
     def test_values_as_they_are_printed(self) -> None:
         """A cast to text prints other texts, and IS NULL is true of a row of nulls."""
         query = Queries(Plan(a_table("id", 'a "b"'), 4), "UTF8").sums()
-        self.assertIn('CASE WHEN "a ""b""" IS DISTINCT FROM NULL THEN pg_catalog.concat("a ""b""") END AS t1', query)
+        self.assertIn(
+            'CASE WHEN "a ""b""" IS DISTINCT FROM NULL THEN pg_catalog.concat("a ""b""") END AS t1',
+            query,
+        )
         self.assertNotIn("::text", query)
 
     def test_lengths_are_those_in_utf_8(self) -> None:
@@ -119,7 +175,10 @@ class Asked(unittest.TestCase):
 
     def test_rows_of_chunks(self) -> None:
         keyed = Queries(Plan(a_table("id", "name"), 8), "UTF8").texts([2, 5])
-        self.assertIn("& 7) IN (2, 5) ORDER BY pg_catalog.convert_to(k, 'UTF8'), pg_catalog.convert_to(r, 'UTF8')) TO STDOUT", keyed)
+        self.assertIn(
+            "& 7) IN (2, 5) ORDER BY pg_catalog.convert_to(k, 'UTF8'), pg_catalog.convert_to(r, 'UTF8')) TO STDOUT",
+            keyed,
+        )
         keyless = Queries(Plan(a_table("id", identity="n"), 8), "UTF8").texts([2])
         self.assertIn("IN (2) ORDER BY pg_catalog.convert_to(r, 'UTF8')) TO STDOUT", keyless)
 

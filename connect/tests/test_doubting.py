@@ -8,10 +8,10 @@ import unittest
 from unittest import mock
 
 from pgsub_connect.drift import doubts
-from pgsub_connect.server.catalog import Catalog, Partition
 from pgsub_connect.drift.differences import differences
 from pgsub_connect.drift.doubts import resolved
 from pgsub_connect.errors import ServerError
+from pgsub_connect.server.catalog import Catalog, Partition
 
 from .fake_server import FakeServer, Row, connection_to
 from .vectors import a_catalog, a_table

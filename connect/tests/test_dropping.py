@@ -8,10 +8,10 @@ import os
 from unittest import mock
 
 from pgsub_connect.commands import drop
-from pgsub_connect.store.checkpoint import Checkpoint
 from pgsub_connect.commands.drop import Dropper, ask_terminal, files_of
-from pgsub_connect.errors import FileError, Passing, ServerError, Unfit
 from pgsub_connect.commands.options import Options
+from pgsub_connect.errors import FileError, Passing, ServerError, Unfit
+from pgsub_connect.store.checkpoint import Checkpoint
 from tests.fake_server import FakeServer, Quiet, Row
 
 FILES = ("", "-wal", "-shm", ".connector", ".tables", ".copying", ".copying-wal")
@@ -25,7 +25,9 @@ class Dropping(Quiet):
         for suffix in FILES:
             with open(self.store + suffix, "w", encoding="utf-8"):
                 pass
-        with open(os.path.join(self.folder, "copy.db2"), "wb"), open(os.path.join(self.folder, "rows.db"), "wb"):
+        with open(os.path.join(self.folder, "copy.db2"), "wb"), open(
+            os.path.join(self.folder, "rows.db"), "wb"
+        ):
             pass
         checkpoint = Checkpoint(self.store)
         checkpoint.write(True, phase="following", system="77", database="shop", slot="s1")
@@ -34,10 +36,15 @@ class Dropping(Quiet):
         self.slots: list[Row] = [["f", "t"]]
         self.publications = {"pgsub": "777"}
         server.answer("pg_control_system", [["77", "shop"]])
-        server.answer("s.plugin = 'pgoutput' AND s.database = pg_catalog.current_database() FROM", lambda _: self.slots)
+        server.answer(
+            "s.plugin = 'pgoutput' AND s.database = pg_catalog.current_database() FROM",
+            lambda _: self.slots,
+        )
         server.answer(
             "SELECT p.oid FROM pg_catalog.pg_publication p",
-            lambda command: [[oid] for name, oid in self.publications.items() if command.endswith(f"'{name}'")],
+            lambda command: [
+                [oid] for name, oid in self.publications.items() if command.endswith(f"'{name}'")
+            ],
         )
         patch = mock.patch.object(drop, "Connection", server.connect)
         patch.start()
@@ -72,18 +79,26 @@ class Dropping(Quiet):
     def test_slot_publications_files(self) -> None:
         self.remember(made={"pgsub": 777})
         self.run_it()
-        self.assertEqual([it.split(" ")[1] for it in self.asked], ["the", "the", self.store + ".copying,"])
+        self.assertEqual(
+            [it.split(" ")[1] for it in self.asked], ["the", "the", self.store + ".copying,"]
+        )
         self.assertIn("the slot s1", self.asked[0])
         self.assertEqual(self.asked[1], "drop the publication pgsub?")
-        self.assertLess(self.server.index("pg_drop_replication_slot('s1')"), self.server.index('DROP PUBLICATION "pgsub"'))
+        self.assertLess(
+            self.server.index("pg_drop_replication_slot('s1')"),
+            self.server.index('DROP PUBLICATION "pgsub"'),
+        )
         self.assertEqual(self.left(), ["copy.db2", "rows.db"])
 
     def test_the_checkpoint_goes_last(self) -> None:
-        self.assertEqual(files_of(self.store)[-2:], [self.store + ".tables", self.store + ".connector"])
+        self.assertEqual(
+            files_of(self.store)[-2:], [self.store + ".tables", self.store + ".connector"]
+        )
         self.assertEqual(len(files_of(self.store)), len(FILES))
 
     def test_a_store_by_a_link(self) -> None:
-        """The rows go, and with them the log that the program has beside them, and an initial copy; what is of another follower there stays."""
+        """The rows go, and with them the log that the program has beside them, and an initial copy;
+        what is of another follower there stays."""
         os.mkdir(self.folder + "/far")
         for suffix in ("", "-wal", ".copying", ".copying-wal", ".connector"):
             with open(f"{self.folder}/far/shop.db{suffix}", "wb"):
@@ -91,17 +106,36 @@ class Dropping(Quiet):
         os.unlink(self.store)
         os.symlink("far/shop.db", self.store)
         self.run_it(yes=True)
-        self.assertEqual((self.left(), os.listdir(self.folder + "/far")), (["copy.db2", "far", "rows.db"], ["shop.db.connector"]))
+        self.assertEqual(
+            (self.left(), os.listdir(self.folder + "/far")),
+            (["copy.db2", "far", "rows.db"], ["shop.db.connector"]),
+        )
 
     def test_files_of_others_stay(self) -> None:
         """Whatever they have in their names behind the store's."""
         kept = [
-            "copy.db.export.sqlite", "copy.db.export.20261101", "copy.db.tables.db", "copy.db.connector.bak", "copy.db.copying.old", "copy.db.request.1",
-            "copy.db.filter.txt", "copy.db.export.pgsub-7.sqlite", "copy.db.base.db", "copy.db2.export.pgsub-7",
+            "copy.db.export.sqlite",
+            "copy.db.export.20261101",
+            "copy.db.tables.db",
+            "copy.db.connector.bak",
+            "copy.db.copying.old",
+            "copy.db.request.1",
+            "copy.db.filter.txt",
+            "copy.db.export.pgsub-7.sqlite",
+            "copy.db.base.db",
+            "copy.db2.export.pgsub-7",
         ]
         own = [
-            "copy.db.export.pgsub-7", "copy.db.export.pgsub-7.pgsub-new", "copy.db.export.pgsub-7.request", "copy.db.base.pgsub-7", "copy.db-journal",
-            "copy.db.base.pgsub-7.copied.pgsub-7-wal", "copy.db.tables.new", "copy.db.copying.pgsub-new", "copy.db.pgsub-new", "copy.db.request",
+            "copy.db.export.pgsub-7",
+            "copy.db.export.pgsub-7.pgsub-new",
+            "copy.db.export.pgsub-7.request",
+            "copy.db.base.pgsub-7",
+            "copy.db-journal",
+            "copy.db.base.pgsub-7.copied.pgsub-7-wal",
+            "copy.db.tables.new",
+            "copy.db.copying.pgsub-new",
+            "copy.db.pgsub-new",
+            "copy.db.request",
         ]
         for name in (*kept, *own):
             with open(os.path.join(self.folder, name), "wb"):
@@ -134,7 +168,9 @@ class Dropping(Quiet):
 
     def test_another_server(self) -> None:
         self.server.answer("pg_control_system", [["78", "shop"]])
-        self.refused(Unfit, "the store follows the database shop of the server 77, and this is shop of 78")
+        self.refused(
+            Unfit, "the store follows the database shop of the server 77, and this is shop of 78"
+        )
 
     def test_another_slot_than_the_store_s(self) -> None:
         self.refused(Unfit, "follows the slot s1, and not other", slot="other")
@@ -158,7 +194,9 @@ class Dropping(Quiet):
 
     def test_a_publication_of_somebody_else(self) -> None:
         self.run_it()
-        self.assertEqual(self.asked[1], "drop the publication pgsub, which somebody else may have made?")
+        self.assertEqual(
+            self.asked[1], "drop the publication pgsub, which somebody else may have made?"
+        )
 
     def test_a_publication_that_was_made_anew_by_somebody_else(self) -> None:
         self.remember(made={"pgsub": 5})

@@ -1,11 +1,12 @@
-"""The decoder and the subscriber as a library, without one: room for what a call writes, a recording's sessions, and a subscriber's calls."""
+"""The decoder and the subscriber as a library, without one: room for what a call writes, a
+recording's sessions, and a subscriber's calls."""
 
 from __future__ import annotations
 
 import unittest
 from collections.abc import Callable
 
-from pgsub_connect.embedded import Fault, Library, ROOM, Room, Subscriber, with_room
+from pgsub_connect.embedded import ROOM, Fault, Library, Room, Subscriber, with_room
 
 
 class Rooms(unittest.TestCase):
@@ -55,7 +56,10 @@ class Sessions(unittest.TestCase):
         with self.assertRaises(Fault) as raised:
             for line in Recorded().show([b"\1", b"!", b"\2"]):
                 lines.append(line)
-        self.assertEqual((lines, raised.exception.number, str(raised.exception)), (["1", "--", "33"], 3, "order 1"))
+        self.assertEqual(
+            (lines, raised.exception.number, str(raised.exception)),
+            (["1", "--", "33"], 3, "order 1"),
+        )
 
     def test_fault_without_text_is_named(self) -> None:
         self.assertEqual(str(Fault(9, "")), "memory")
@@ -102,7 +106,10 @@ class Subscribers(unittest.TestCase):
             copy.status(8, True)
             copy.disconnect()
             self.assertEqual(copy.position(), (0, 0))
-        self.assertEqual([it[0] for it in library.noted], ["open", "feed", "status", "disconnect", "position", "close"])
+        self.assertEqual(
+            [it[0] for it in library.noted],
+            ["open", "feed", "status", "disconnect", "position", "close"],
+        )
         self.assertEqual(library.noted[1:3], [("feed", b"ab", 2, 7, 256), ("status", 8, True)])
 
     def test_lines_and_replies_are_what_is_written(self) -> None:
@@ -113,7 +120,10 @@ class Subscribers(unittest.TestCase):
         self.assertEqual(Subscriber(Answers(written=long)).replies(), long)
 
     def test_numbers_are_faults(self) -> None:
-        self.assertEqual(self.fault_of(lambda: Subscriber(Answers({"open": 11}), 3)), (11, "no such protocol version"))
+        self.assertEqual(
+            self.fault_of(lambda: Subscriber(Answers({"open": 11}), 3)),
+            (11, "no such protocol version"),
+        )
         copy = Subscriber(Answers({"feed": 3, "rows": 12, "status": 9}, b"order 1"))
         self.assertEqual(self.fault_of(lambda: copy.feed(b"")), (3, "order 1"))
         self.assertEqual(self.fault_of(copy.rows), (12, "the subscriber is closed"))

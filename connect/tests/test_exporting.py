@@ -1,4 +1,5 @@
-"""Ordinary tables from a store: names, types, keys, what is told, and what is left where it fails."""
+"""Ordinary tables from a store: names, types, keys, what is told, and what is left where it fails.
+"""
 
 from __future__ import annotations
 
@@ -13,19 +14,27 @@ from collections.abc import Sequence
 from typing import Any
 from unittest import mock
 
-from pgsub_connect.store import export as export_module
 from pgsub_connect.cli import FILE, UNFIT, USAGE, main
-from pgsub_connect.errors import FileError, Passing, Stopped, Unfit, UsageError
-from pgsub_connect.store.export import run
 from pgsub_connect.commands.options import Options
-from pgsub_connect.server.connection import never
 from pgsub_connect.drift.remembered import Relation, Remembered
+from pgsub_connect.errors import FileError, Passing, Stopped, Unfit, UsageError
+from pgsub_connect.server.connection import never
+from pgsub_connect.store import export as export_module
+from pgsub_connect.store.export import run
 
 from .stores import StoreCase, spelled
 from .vectors import ID, NAME, a_catalog, a_shape, a_table, logged
 
 TYPES = {
-    "int2": 21, "int4": 23, "int8": 20, "bool": 16, "bytea": 17, "float4": 700, "float8": 701, "numeric": 1700, "date": 1082,
+    "int2": 21,
+    "int4": 23,
+    "int8": 20,
+    "bool": 16,
+    "bytea": 17,
+    "float4": 700,
+    "float8": 701,
+    "numeric": 1700,
+    "date": 1082,
     "odd": 99999,
 }
 OTHERS = ((0, "a", 23, -1), (1, "b", 25, -1), (0, "c", 23, -1))
@@ -44,14 +53,19 @@ class Case(StoreCase):
 
     def left(self) -> list[str]:
         """Files that nobody wanted."""
-        return sorted(set(os.listdir(self.folder)) - {"copy.db", "copy.db-wal", "rows.db", "copy.db.tables", "copy.db.connector"})
+        return sorted(
+            set(os.listdir(self.folder))
+            - {"copy.db", "copy.db-wal", "rows.db", "copy.db.tables", "copy.db.connector"}
+        )
 
     def rows(self, query: str) -> list[Any]:
         with contextlib.closing(sqlite3.connect(self.into)) as base:
             return base.execute(query).fetchall()
 
     def tables(self) -> list[str]:
-        names = self.rows("SELECT name FROM sqlite_schema WHERE type = 'table' AND name NOT LIKE 'pgsub%' ORDER BY 1")
+        names = self.rows(
+            "SELECT name FROM sqlite_schema WHERE type = 'table' AND name NOT LIKE 'pgsub%' ORDER BY 1"
+        )
         return [name for (name,) in names]
 
 
@@ -60,9 +74,15 @@ class Chosen(Case):
         for oid, schema in ((1, "public"), (2, "other"), (3, "")):
             self.store.table(oid, "t", [(1, "id", 23, -1)], schema=schema)
             self.store.row(oid, str(oid))
-        for names, tables in ((["t", "pg_catalog.t"], ["pg_catalog.t", "t"]), (["other.t"], ["other.t"]), (["public.t"], ["t"])):
+        for names, tables in (
+            (["t", "pg_catalog.t"], ["pg_catalog.t", "t"]),
+            (["other.t"], ["other.t"]),
+            (["public.t"], ["t"]),
+        ):
             self.export(table=names)
-            self.assertEqual((self.tables(), len(self.rows(f'SELECT * FROM "{tables[0]}"'))), (tables, 1))
+            self.assertEqual(
+                (self.tables(), len(self.rows(f'SELECT * FROM "{tables[0]}"'))), (tables, 1)
+            )
         with logged(), self.assertRaisesRegex(FileError, "the store has no table x"):
             run(self.options(table=["t", "x"]), never)
         self.assertEqual(self.left(), [])
@@ -70,32 +90,72 @@ class Chosen(Case):
     def test_command(self) -> None:
         self.store.table(1, "t", [(1, "id", 23, -1)])
         with logged():
-            self.assertEqual(main(["export", "--store", self.path, "--into", self.into, "--table", "t"]), 0)
+            self.assertEqual(
+                main(["export", "--store", self.path, "--into", self.into, "--table", "t"]), 0
+            )
 
 
 class Types(Case):
     def of(self, columns: Sequence[str], *rows: Sequence[str | bytes | None]) -> None:
-        self.store.table(1, "t", [(0, f"c{at}", TYPES[it], -1) for at, it in enumerate(columns)], letter="f")
+        self.store.table(
+            1, "t", [(0, f"c{at}", TYPES[it], -1) for at, it in enumerate(columns)], letter="f"
+        )
         for row in rows:
             self.store.row(1, *row, key=None)
 
     def test_each(self) -> None:
         self.of(
             list(TYPES),
-            ["-32768", "2147483647", "-9223372036854775808", "t", "\\x00ff", "1.5", "-1e+20", "1.0", "2026-11-25", "{1,NULL}"],
+            [
+                "-32768",
+                "2147483647",
+                "-9223372036854775808",
+                "t",
+                "\\x00ff",
+                "1.5",
+                "-1e+20",
+                "1.0",
+                "2026-11-25",
+                "{1,NULL}",
+            ],
             [None] * 10,
         )
         self.export()
         self.assertEqual(
             self.rows("SELECT * FROM t"),
-            [(-32768, 2147483647, -(1 << 63), 1, b"\0\xff", 1.5, -1e20, "1.0", "2026-11-25", "{1,NULL}"), (None,) * 10],
+            [
+                (
+                    -32768,
+                    2147483647,
+                    -(1 << 63),
+                    1,
+                    b"\0\xff",
+                    1.5,
+                    -1e20,
+                    "1.0",
+                    "2026-11-25",
+                    "{1,NULL}",
+                ),
+                (None,) * 10,
+            ],
         )
         kinds = [row[2] for row in self.rows("PRAGMA table_info(t)")]
         self.assertEqual(kinds, ["INTEGER"] * 4 + ["BLOB", "ANY", "ANY", "TEXT", "TEXT", "TEXT"])
-        self.assertEqual(self.rows("SELECT strict, wr FROM pragma_table_list WHERE name = 't'"), [(1, 0)])
+        self.assertEqual(
+            self.rows("SELECT strict, wr FROM pragma_table_list WHERE name = 't'"), [(1, 0)]
+        )
 
     def test_floats(self) -> None:
-        texts = ["NaN", "Infinity", "-Infinity", "5", "-0", "0.1", "1.7976931348623157e+308", "5e-324"]
+        texts = [
+            "NaN",
+            "Infinity",
+            "-Infinity",
+            "5",
+            "-0",
+            "0.1",
+            "1.7976931348623157e+308",
+            "5e-324",
+        ]
         self.of(["float8"], *([it] for it in texts))
         self.export()
         found = self.rows("SELECT c0, typeof(c0) FROM t")
@@ -105,29 +165,55 @@ class Types(Case):
     def test_bytea(self) -> None:
         self.of(["bytea"], ["\\x"], ["\\x5c"], ["a\\\\b\\000\\377"], [""])
         self.export()
-        self.assertEqual([it for (it,) in self.rows("SELECT c0 FROM t")], [b"", b"\\", b"a\\b\0\xff", b""])
+        self.assertEqual(
+            [it for (it,) in self.rows("SELECT c0 FROM t")], [b"", b"\\", b"a\\b\0\xff", b""]
+        )
 
     def test_texts_stay_what_they_are(self) -> None:
         self.of(["odd"], ["1"], ["1.0"], ["ä\n'\"€𝄞"], [""], ["x" * 100000])
         self.export()
-        self.assertEqual([it for (it,) in self.rows("SELECT c0 FROM t")], ["1", "1.0", "ä\n'\"€𝄞", "", "x" * 100000])
+        self.assertEqual(
+            [it for (it,) in self.rows("SELECT c0 FROM t")],
+            ["1", "1.0", "ä\n'\"€𝄞", "", "x" * 100000],
+        )
 
     def test_binary_values(self) -> None:
-        self.store.table(1, "t", [(1, "a", 23, -1), (0, "b", 701, -1), (0, "c", 25, -1), (0, "d", 17, -1), (0, "e", 16, -1)])
+        self.store.table(
+            1,
+            "t",
+            [
+                (1, "a", 23, -1),
+                (0, "b", 701, -1),
+                (0, "c", 25, -1),
+                (0, "d", 17, -1),
+                (0, "e", 16, -1),
+            ],
+        )
         self.store.row(1, b"\0\0\1\0", b"\x7f\xf0" + bytes(6), b"x", b"\0", b"\1")
         self.export()
         self.assertEqual(self.rows("SELECT * FROM t"), [(256, "Infinity", "x", b"\0", 1)])
 
     def test_values_of_another_type(self) -> None:
         values: list[tuple[str, str | bytes]] = [
-            ("int4", "1.5"), ("int4", "1_0"), ("int4", ""), ("int8", "9223372036854775808"), ("bool", "true"), ("bytea", "\\x0"),
-            ("bytea", "a\\b"), ("float8", "nan"), ("float8", "1_0"), ("float4", " 1"), ("date", b"\0"),
+            ("int4", "1.5"),
+            ("int4", "1_0"),
+            ("int4", ""),
+            ("int8", "9223372036854775808"),
+            ("bool", "true"),
+            ("bytea", "\\x0"),
+            ("bytea", "a\\b"),
+            ("float8", "nan"),
+            ("float8", "1_0"),
+            ("float4", " 1"),
+            ("date", b"\0"),
         ]
         for kind, text in values:
             with self.subTest(kind=kind, text=text):
                 self.store.base.executescript("DELETE FROM rel; DELETE FROM held")
                 self.of([kind], [text])
-                with self.assertRaisesRegex(Unfit, r"public.t \(1\): the column c0 has a value that isn't one of its type"):
+                with self.assertRaisesRegex(
+                    Unfit, r"public.t \(1\): the column c0 has a value that isn't one of its type"
+                ):
                     run(self.options(), never)
                 self.assertFalse(os.path.exists(self.into))
                 self.assertEqual(self.left(), [])
@@ -142,7 +228,11 @@ class Keys(Case):
         return [(row[1], row[5]) for row in self.rows(f"PRAGMA table_info({table})")]
 
     def test_of_definitions(self) -> None:
-        two: Sequence[tuple[int, str, int, int]] = [(0, "x", 25, -1), (1, "b", 25, -1), (1, "a", 23, -1)]
+        two: Sequence[tuple[int, str, int, int]] = [
+            (0, "x", 25, -1),
+            (1, "b", 25, -1),
+            (1, "a", 23, -1),
+        ]
         for oid, (name, letter) in enumerate([("d", "d"), ("i", "i"), ("f", "f"), ("n", "n")], 1):
             self.store.table(oid, name, two, letter=letter)
         self.export()
@@ -240,14 +330,28 @@ class Names(Case):
         self.assertEqual(self.rows('SELECT name FROM "shop.t"'), [("x",)])
         self.assertEqual(
             self.rows("SELECT * FROM pgsub_tables ORDER BY oid"),
-            [("t", "public", "t", 1), ("shop.t", "shop", "t", 2), ("pg_catalog.t", "pg_catalog", "t", 3)],
+            [
+                ("t", "public", "t", 1),
+                ("shop.t", "shop", "t", 2),
+                ("pg_catalog.t", "pg_catalog", "t", 3),
+            ],
         )
 
     def test_that_sqlite_cant_tell_apart(self) -> None:
-        for oid, (schema, name) in enumerate([
-            ("public", "T"), ("public", "t"), ("public", "a.b"), ("a", "b"), ("public", "sqlite_stat1"),
-            ("public", "pgsub_position"), ("public", "PGSUB_TABLES"), ("public", "pgsub_old"), ("public", "t 2"),
-        ], 1):
+        for oid, (schema, name) in enumerate(
+            [
+                ("public", "T"),
+                ("public", "t"),
+                ("public", "a.b"),
+                ("a", "b"),
+                ("public", "sqlite_stat1"),
+                ("public", "pgsub_position"),
+                ("public", "PGSUB_TABLES"),
+                ("public", "pgsub_old"),
+                ("public", "t 2"),
+            ],
+            1,
+        ):
             self.store.table(oid, name, schema=schema)
             self.store.row(oid, str(oid), name)
         self.assertEqual(self.export(), [])
@@ -255,8 +359,15 @@ class Names(Case):
         self.assertEqual(
             names,
             {
-                1: "T", 2: "t 2", 3: "a.b", 4: "a.b 4", 5: "_sqlite_stat1", 6: "_pgsub_position", 7: "_PGSUB_TABLES",
-                8: "_pgsub_old", 9: "t 2 9",
+                1: "T",
+                2: "t 2",
+                3: "a.b",
+                4: "a.b 4",
+                5: "_sqlite_stat1",
+                6: "_pgsub_position",
+                7: "_PGSUB_TABLES",
+                8: "_pgsub_old",
+                9: "t 2 9",
             },
         )
         for oid, name in names.items():
@@ -265,12 +376,21 @@ class Names(Case):
 
     def test_that_need_quotes(self) -> None:
         name = 'se"lect; --\n' + "ö"
-        columns = [(1, 'a"b', 23, -1), (0, "select", 25, -1), (0, "A", 25, -1), (0, "a", 25, -1), (0, "rowid", 25, -1)]
+        columns = [
+            (1, 'a"b', 23, -1),
+            (0, "select", 25, -1),
+            (0, "A", 25, -1),
+            (0, "a", 25, -1),
+            (0, "rowid", 25, -1),
+        ]
         self.store.table(1, name, columns)
         self.store.row(1, "1", "x", "y", "z", "w")
         self.export()
         quoted = name.replace('"', '""')
-        self.assertEqual(self.rows(f'SELECT "a""b", "select", "A", "a 4", "rowid" FROM "{quoted}"'), [(1, "x", "y", "z", "w")])
+        self.assertEqual(
+            self.rows(f'SELECT "a""b", "select", "A", "a 4", "rowid" FROM "{quoted}"'),
+            [(1, "x", "y", "z", "w")],
+        )
 
     def test_without_columns(self) -> None:
         self.store.table(1, "t", [], letter="f")
@@ -319,7 +439,10 @@ class SeveralOfOneName(Case):
 class WhatIsRemembered(Case):
     def test_published_tables_without_rows(self) -> None:
         remembered = Remembered(self.path)
-        remembered.begin_copy(a_catalog(a_table(1, "t"), a_table(2, "u", a_shape([ID, NAME], "f"), schema="shop")), 100)
+        remembered.begin_copy(
+            a_catalog(a_table(1, "t"), a_table(2, "u", a_shape([ID, NAME], "f"), schema="shop")),
+            100,
+        )
         remembered.save()
         self.export()
         self.assertEqual(self.tables(), ["shop.u", "t"])
@@ -328,7 +451,9 @@ class WhatIsRemembered(Case):
     def test_the_shape_of_the_store(self) -> None:
         """What the server has altered since comes with the next change."""
         remembered = Remembered(self.path)
-        remembered.begin_copy(a_catalog(a_table(1, "t", a_shape([ID, NAME, (0, "more", 25, -1)]))), 100)
+        remembered.begin_copy(
+            a_catalog(a_table(1, "t", a_shape([ID, NAME, (0, "more", 25, -1)]))), 100
+        )
         remembered.save()
         self.store.table(1, "t")
         self.store.row(1, "1", "x")
@@ -417,7 +542,9 @@ class Files(Case):
             with self.assertRaisesRegex(UsageError, "file of the store itself"):
                 run(options, never)
         os.symlink(self.path, self.folder + "/link")
-        self.assertEqual(main(["export", "--store", self.path, "--into", self.folder + "/link"]), USAGE)
+        self.assertEqual(
+            main(["export", "--store", self.path, "--into", self.folder + "/link"]), USAGE
+        )
 
     def test_no_folder(self) -> None:
         options = self.options()
@@ -427,13 +554,19 @@ class Files(Case):
 
     def test_no_store(self) -> None:
         os.unlink(self.path)
-        for kind, text in ((FileError, "there is no store"), (Passing, "its first rows are being copied")):
+        for kind, text in (
+            (FileError, "there is no store"),
+            (Passing, "its first rows are being copied"),
+        ):
             with self.assertRaisesRegex(kind, text):
                 run(self.options(), never)
             open(self.path + ".copying", "w").close()
         os.mkdir(self.folder + "/far")
         os.symlink("far/shop.db", self.path)
-        for kind, text in ((FileError, "there is no store"), (Passing, "its first rows are being copied")):
+        for kind, text in (
+            (FileError, "there is no store"),
+            (Passing, "its first rows are being copied"),
+        ):
             with self.assertRaisesRegex(kind, text):
                 run(self.options(), never)
             open(self.folder + "/far/shop.db.copying", "w").close()
@@ -458,7 +591,15 @@ class Files(Case):
 
     def test_what_is_spoiled(self) -> None:
         good = spelled(["1", "x"])
-        for body in (b"", good[:-1], good + b"x", b"\0\1" + good[2:], b"\0\3" + good[2:], good[:2] + b"u" + good[3:], b"\0\2t\0\0"):
+        for body in (
+            b"",
+            good[:-1],
+            good + b"x",
+            b"\0\1" + good[2:],
+            b"\0\3" + good[2:],
+            good[:2] + b"u" + good[3:],
+            b"\0\2t\0\0",
+        ):
             self.store.base.execute("UPDATE held SET body = ?", (body,))
             with self.assertRaisesRegex(FileError, "malformed"):
                 run(self.options(), never)
@@ -488,7 +629,11 @@ class Files(Case):
                 run(self.options(), never)
 
     def test_a_disk_that_is_full(self) -> None:
-        with mock.patch.object(export_module.Export, "begin", side_effect=sqlite3.OperationalError("database or disk is full")):
+        with mock.patch.object(
+            export_module.Export,
+            "begin",
+            side_effect=sqlite3.OperationalError("database or disk is full"),
+        ):
             with self.assertRaisesRegex(Passing, "disk is full"):
                 run(self.options(), never)
         self.assertEqual(self.left(), [])

@@ -1,4 +1,5 @@
-"""Tables that a file can't take up: they are set aside, the others go on, and they come again when their rows come anew."""
+"""Tables that a file can't take up: they are set aside, the others go on, and they come again when
+their rows come anew."""
 
 from __future__ import annotations
 
@@ -7,10 +8,11 @@ import os
 import sqlite3
 
 from feed_text import About, Column, Line
-from pgsub_connect.errors import FileError
+
 from pgsub_connect.commands import tables
-from pgsub_feed.tables.file import Rows
+from pgsub_connect.errors import FileError
 from pgsub_connect.server.connection import never
+from pgsub_feed.tables.file import Rows
 
 from .feeds import ID, NAME, delete, insert, table, truncate, update
 from .test_feed_tables import TablesCase
@@ -24,7 +26,9 @@ REPAIR = 2
 class AsideCase(TablesCase):
     def setUp(self) -> None:
         super().setUp()
-        self.take(insert("1", "a"), insert("2", "b"), insert("1", "x", of=OTHER), insert("1", "a", of=BAG))
+        self.take(
+            insert("1", "a"), insert("2", "b"), insert("1", "x", of=OTHER), insert("1", "a", of=BAG)
+        )
         self.run_it()
 
     def plant(self, *statements: str) -> None:
@@ -48,11 +52,16 @@ class Altered(AsideCase):
         told = self.run_it(1)
         [(name, since, why)] = self.asides()
         self.assertEqual((name, since), ("public.stock", "0/200"))
-        self.assertRegex(why, "^the column name has a value that isn't one of its type, 'a': the type was altered")
+        self.assertRegex(
+            why,
+            "^the column name has a value that isn't one of its type, 'a': the type was altered",
+        )
         self.assertEqual(self.tables(), ["bag", "other"])
         self.assertEqual(self.rows("SELECT * FROM other"), [(1, "x"), (2, "y")])
         self.assertEqual(self.rows("SELECT lsn FROM pgsub_position"), [("0/200",)])
-        self.assertEqual(self.rows("SELECT name FROM pgsub_tables ORDER BY 1"), [("bag",), ("other",)])
+        self.assertEqual(
+            self.rows("SELECT name FROM pgsub_tables ORDER BY 1"), [("bag",), ("other",)]
+        )
         said = f"warning: public.stock is set aside in {self.into} since 0/200: {why}. Its rows come anew by:"
         self.assertIn(f"{said} pgsub-connect add --store STORE --table public.stock", told)
 
@@ -61,13 +70,18 @@ class Altered(AsideCase):
         self.take(update(["3", "7"], ["3", "8"], of=NUMBERS), delete("1", "x", of=OTHER))
         told = self.run_it(1)
         self.assertIn("public.stock is set aside", told[0])
-        self.assertEqual((self.asides()[0][1], self.rows("SELECT * FROM other")), ("0/200", [(2, "y")]))
+        self.assertEqual(
+            (self.asides()[0][1], self.rows("SELECT * FROM other")), ("0/200", [(2, "y")])
+        )
 
     def test_the_last_line_names_the_cure(self) -> None:
         (self.folder / "copy.connector").touch()
         with logged() as told:
             self.assertEqual(tables.run(self.options(), never), 1)
-        self.assertRegex(told[-1], f"^error: {self.into} lacks public.stock, .*: pgsub-connect add --store {self.folder}/copy --table public.stock$")
+        self.assertRegex(
+            told[-1],
+            f"^error: {self.into} lacks public.stock, .*: pgsub-connect add --store {self.folder}/copy --table public.stock$",
+        )
 
     def test_its_rows_come_anew(self) -> None:
         self.run_it(1)
@@ -148,24 +162,37 @@ class Others(AsideCase):
 
     def test_rows_that_are_gone(self) -> None:
         for name, of in (("stock", table()), ("bag", BAG)):
-            for line in (delete("1", "a", of=of), update(["1", "a"], ["1", "b"], of=of), update(["1", "a"], ["2", "b"], of=of)):
+            for line in (
+                delete("1", "a", of=of),
+                update(["1", "a"], ["1", "b"], of=of),
+                update(["1", "a"], ["2", "b"], of=of),
+            ):
                 self.plant(f"DELETE FROM {name}")
                 self.take(line)
-                self.check_aside(f"public.{name}", "a row that the feed changes isn't in it: another program has changed the file")
+                self.check_aside(
+                    f"public.{name}",
+                    "a row that the feed changes isn't in it: another program has changed the file",
+                )
                 self.take(truncate(of), insert("1", "a", of=of))
                 self.run_it()
 
     def test_several_changes_of_which_one_fails(self) -> None:
         self.plant("DELETE FROM stock WHERE id = 2")
         self.take(insert("3", "c"), delete("1", "a"), delete("2", "b"), delete("3", "c"))
-        self.check_aside("public.stock", "a row that the feed changes isn't in it: another program has changed the file")
+        self.check_aside(
+            "public.stock",
+            "a row that the feed changes isn't in it: another program has changed the file",
+        )
 
     def test_a_view_in_its_place(self) -> None:
         self.plant("CREATE VIEW new AS SELECT 1")
         self.take(insert("1", "a", of=table(7, "new")))
         self.take(insert("5", "y", of=OTHER))
         self.run_it(1)
-        self.assertRegex(self.asides()[0][2], "^view \"new\" already exists: something of the user's in the file forbids it")
+        self.assertRegex(
+            self.asides()[0][2],
+            '^view "new" already exists: something of the user\'s in the file forbids it',
+        )
 
     def test_a_table_that_was_dropped_there(self) -> None:
         """No table is wrong then, but the file: the error says so."""
@@ -177,7 +204,10 @@ class Others(AsideCase):
     def test_a_view_of_what_is_gone(self) -> None:
         """It fails where it is read, and nothing else does."""
         self.plant("CREATE VIEW v AS SELECT s.id FROM stock s JOIN other o USING (id)")
-        self.take(insert("3", "7", of=NUMBERS), insert("2", "y", "z", of=table(2, "renamed", [ID, NAME, Column("more", 25)])))
+        self.take(
+            insert("3", "7", of=NUMBERS),
+            insert("2", "y", "z", of=table(2, "renamed", [ID, NAME, Column("more", 25)])),
+        )
         self.take(insert("5", "y", of=table(2, "other", [ID, Column("other", 25)])))
         self.run_it(1)
         self.assertEqual(self.rows("SELECT * FROM other"), [(1, None), (2, None), (5, "y")])
@@ -188,17 +218,25 @@ class Others(AsideCase):
         self.assertEqual(self.rows("SELECT * FROM v"), [(5,)])
 
     def test_a_key_that_is_none_here(self) -> None:
-        """A table that has to be made anew for that, and can't be, leaves nothing of the attempt."""
-        keyed = table(7, "odd", [Column("rowid", 23, -1, True), Column("oid", 25), Column("_rowid_", 25)])
+        """A table that has to be made anew for that, and can't be, leaves nothing of the
+        attempt."""
+        keyed = table(
+            7, "odd", [Column("rowid", 23, -1, True), Column("oid", 25), Column("_rowid_", 25)]
+        )
         self.take(insert("1", "a", "b", of=keyed), insert("2", "y", of=OTHER))
         self.run_it()
         self.take(insert(None, "a", "b", of=keyed), insert("3", "y", of=OTHER))
         self.run_it(1)
-        self.assertEqual((self.asides()[0][0], self.tables()), ("public.odd", ["bag", "other", "stock"]))
+        self.assertEqual(
+            (self.asides()[0][0], self.tables()), ("public.odd", ["bag", "other", "stock"])
+        )
         self.assertEqual(len(self.rows("SELECT * FROM other")), 3)
 
     def test_what_was_moved_away_comes_back(self) -> None:
-        self.take(insert("3", "7", of=table(1, "other", [ID, Column("name", 23)])), insert("2", "y", of=OTHER))
+        self.take(
+            insert("3", "7", of=table(1, "other", [ID, Column("name", 23)])),
+            insert("2", "y", of=OTHER),
+        )
         self.run_it()
         self.assertEqual(self.rows("SELECT * FROM other"), [(1, "x"), (2, "y")])
         self.assertEqual((self.tables(), self.asides()[0][0]), (["bag", "other"], "public.other"))
@@ -209,7 +247,11 @@ class Repaired(AsideCase):
 
     def test_a_key(self) -> None:
         self.repaired(
-            update(["1", "planted"], ["1", "a"]), delete("7", "planted"), insert("2", "b"), update(["3", "never"], ["3", "c"]), insert("4", "d"),
+            update(["1", "planted"], ["1", "a"]),
+            delete("7", "planted"),
+            insert("2", "b"),
+            update(["3", "never"], ["3", "c"]),
+            insert("4", "d"),
         )
         self.run_it()
         self.assertEqual(self.rows("SELECT * FROM stock"), [(1, "a"), (2, "b"), (3, "c"), (4, "d")])
@@ -224,7 +266,12 @@ class Repaired(AsideCase):
 
     def test_digests(self) -> None:
         self.run_it(digests=True)
-        self.repaired(update(["1", "planted"], ["1", "z"]), delete("7", "planted"), insert("2", "b"), update(["3", "never"], ["3", "c"]))
+        self.repaired(
+            update(["1", "planted"], ["1", "z"]),
+            delete("7", "planted"),
+            insert("2", "b"),
+            update(["3", "never"], ["3", "c"]),
+        )
         self.run_it(digests=True)
         kept = self.rows("SELECT * FROM pgsub_digests WHERE oid = 1")
         rows = Rows(self.into)
@@ -237,13 +284,31 @@ class Repaired(AsideCase):
         """Whether one of several equal rows here was meant isn't known."""
         self.repaired(delete("1", "a", of=BAG), update(["1", "x"], ["1", "z"], of=OTHER))
         self.run_it(1)
-        self.assertEqual(self.asides(), [("public.bag", "0/200", "rows were repaired, and without a key nobody knows which of those here")])
+        self.assertEqual(
+            self.asides(),
+            [
+                (
+                    "public.bag",
+                    "0/200",
+                    "rows were repaired, and without a key nobody knows which of those here",
+                )
+            ],
+        )
         self.assertEqual(self.rows("SELECT * FROM other"), [(1, "z")])
 
     def test_a_table_that_is_added(self) -> None:
-        self.repaired(truncate(BAG), insert("1", "a", of=BAG), insert("1", "a", of=BAG), truncate(), insert("5", "q"))
+        self.repaired(
+            truncate(BAG),
+            insert("1", "a", of=BAG),
+            insert("1", "a", of=BAG),
+            truncate(),
+            insert("5", "q"),
+        )
         self.run_it()
-        self.assertEqual((self.rows("SELECT * FROM bag"), self.rows("SELECT * FROM stock")), ([(1, "a")] * 2, [(5, "q")]))
+        self.assertEqual(
+            (self.rows("SELECT * FROM bag"), self.rows("SELECT * FROM stock")),
+            ([(1, "a")] * 2, [(5, "q")]),
+        )
 
     def test_any_other_commit_has_to_find_its_rows(self) -> None:
         self.take(update(["1", "planted"], ["1", "a"]), delete("7", "planted"))

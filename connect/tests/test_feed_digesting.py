@@ -8,13 +8,14 @@ import sqlite3
 from typing import Any
 
 from feed_text import Column, Definition, Line
-from pgsub_connect.errors import FileError
+
 from pgsub_connect.commands import tables
+from pgsub_connect.errors import FileError
+from pgsub_connect.server.connection import never
+from pgsub_feed.reader.segments import Reader
 from pgsub_feed.tables.applier import Applier
 from pgsub_feed.tables.digests import Digest, read_digests
-from pgsub_feed.reader.segments import Reader
 from pgsub_feed.tables.file import Rows
-from pgsub_connect.server.connection import never
 
 from .feeds import ID, NAME, delete, insert, table, truncate, update
 from .test_feed_tables import TablesCase
@@ -25,7 +26,9 @@ def digest_of(*rows: list[str | None]) -> Digest:
     """That of rows, by their texts."""
     count = first = second = 0
     for row in rows:
-        text = b"".join(b"n" if it is None else b"%d:%b" % (len(it.encode()), it.encode()) for it in row)
+        text = b"".join(
+            b"n" if it is None else b"%d:%b" % (len(it.encode()), it.encode()) for it in row
+        )
         words = hashlib.sha256(text).digest()
         count += 1
         first += int.from_bytes(words[:4], "big", signed=True)
@@ -63,7 +66,9 @@ class Changes(DigestsCase):
         self.has(["1", "a"])
         self.taken(insert("2", None), insert("3", ""), insert("-4", "é\t"))
         self.has(["1", "a"], ["2", None], ["3", ""], ["-4", "é\t"])
-        self.taken(update(["1", "a"], ["1", "b"]), update(["3", ""], ["5", "7:x"]), delete("2", None))
+        self.taken(
+            update(["1", "a"], ["1", "b"]), update(["3", ""], ["5", "7:x"]), delete("2", None)
+        )
         self.has(["1", "b"], ["5", "7:x"], ["-4", "é\t"])
         self.taken(Line(table(), "x", ["9", None], None, "K"))
         self.has(["1", "b"], ["5", "7:x"], ["-4", "é\t"])
@@ -81,18 +86,32 @@ class Changes(DigestsCase):
     def test_values_of_every_kind(self) -> None:
         types = (16, 17, 21, 20, 700, 701, 701, 1700, 25)
         every = table(3, "every", [Column(f"c{at}", it) for at, it in enumerate(types)], "f")
-        text: list[str | None] = ["t", "\\x00ff", "-5", "9007199254740993", "3.3950328e+07", "9.999999999999999e+22", "NaN", "1.50", "ü"]
+        text: list[str | None] = [
+            "t",
+            "\\x00ff",
+            "-5",
+            "9007199254740993",
+            "3.3950328e+07",
+            "9.999999999999999e+22",
+            "NaN",
+            "1.50",
+            "ü",
+        ]
         self.taken(insert(*text, of=every), insert(*[None] * 9, of=every))
         self.has(text, [None] * 9, oid=3)
         # (and so it is by the rows)
         self.altered(every, [*every.columns, Column("more", 25)], [[*text, None], [None] * 10])
 
     def altered(self, of: Definition, columns: list[Column], rows: list[list[str | None]]) -> None:
-        self.taken(Line(table(of.oid, of.table, columns, of.letter), "x", ["9"] * len(columns), None, "K"))
+        self.taken(
+            Line(table(of.oid, of.table, columns, of.letter), "x", ["9"] * len(columns), None, "K")
+        )
         self.has(*rows, oid=of.oid)
 
     def test_binary_values(self) -> None:
-        every = table(3, "every", [Column("a", 23), Column("b", 17), Column("c", 25), Column("d", 701)], "f")
+        every = table(
+            3, "every", [Column("a", 23), Column("b", 17), Column("c", 25), Column("d", 701)], "f"
+        )
         self.taken(insert(b"\0\0\0\7", b"\0\1", "é".encode(), b"\x3f\xf8" + bytes(6), of=every))
         self.has(["7", "\\x0001", "é", "1.5"], oid=3)
 
@@ -174,7 +193,9 @@ class Files(DigestsCase):
                 Applier(rows, never).apply(commit, reader.parts(commit))
                 self.assertEqual(rows.digests.known, {1: digest_of(["2", "b"])})
                 rows.settle(commit.end) if is_kept else rows.roll_back()
-                self.assertEqual(rows.digests.known, {1: digest_of(["2", "b"] if is_kept else ["1", "a"])})
+                self.assertEqual(
+                    rows.digests.known, {1: digest_of(["2", "b"] if is_kept else ["1", "a"])}
+                )
         rows.close(True)
         self.has(["2", "b"])
 
@@ -191,7 +212,8 @@ class Files(DigestsCase):
             self.run_it()
 
     def test_what_is_not_told_has_none(self) -> None:
-        """A table of an export has a digest once its definition is told, which says how values are printed."""
+        """A table of an export has a digest once its definition is told, which says how values are
+        printed."""
         with contextlib.closing(sqlite3.connect(self.into)) as base:
             base.execute("UPDATE pgsub_relations SET definition = NULL")
             base.execute("DELETE FROM pgsub_digests")

@@ -1,4 +1,5 @@
-"""Tables that follow a feed while it is written: killed at any moment, they go on where they were, and readers see whole commits."""
+"""Tables that follow a feed while it is written: killed at any moment, they go on where they were,
+and readers see whole commits."""
 
 from __future__ import annotations
 
@@ -16,15 +17,17 @@ from typing import Any
 from unittest import mock
 
 from feed_text import About, Column, Line, entry_text
+
 from pgsub_connect.cli import Start, stop_by_signals
+from pgsub_connect.commands import tables as tables_module
+from pgsub_connect.commands import wait
+from pgsub_connect.commands.options import Options
 from pgsub_connect.errors import Passing, Unfit
-from pgsub_connect.commands import tables as tables_module, wait
+from pgsub_connect.server.connection import never
 from pgsub_feed.faults import Damaged
 from pgsub_feed.reader.commits import Commit
 from pgsub_feed.reader.polling import Poll
 from pgsub_feed.tables.file import Rows
-from pgsub_connect.commands.options import Options
-from pgsub_connect.server.connection import never
 
 from .feeds import ID, NAME, FeedCase, delete, insert, table, truncate, update
 from .vectors import logged
@@ -43,7 +46,9 @@ class History:
         self.rows: dict[int, tuple[Counter[Any], Counter[Any]]] = {0: (Counter(), Counter())}
         for end in range(0x100, 0x100 * (count + 1), 0x100):
             self.commits.append((end, [self.change() for _ in range(rng.choice((0, 1, 3, 40)))]))
-            self.rows[end] = Counter((int(key), value) for key, value in self.keyed.items()), Counter((int(a), b) for a, b in self.bag)
+            self.rows[end] = Counter(
+                (int(key), value) for key, value in self.keyed.items()
+            ), Counter((int(a), b) for a, b in self.bag)
 
     def change(self) -> Line:
         rng, value = self.rng, str(self.rng.randrange(1000))
@@ -56,7 +61,11 @@ class History:
             was = self.keyed.pop(key, None)
             if was is None or luck < 0.4:
                 self.keyed[key] = value
-                return insert(key, value, of=KEYED) if was is None else update([key, was], [key, value], of=KEYED)
+                return (
+                    insert(key, value, of=KEYED)
+                    if was is None
+                    else update([key, was], [key, value], of=KEYED)
+                )
             return delete(key, was, of=KEYED)
         if luck < 0.8 or not self.bag:
             self.bag.append((str(rng.randrange(3)), "x"))
@@ -67,16 +76,22 @@ class History:
 
 def read(path: str) -> tuple[int, tuple[Counter[Any], Counter[Any]]]:
     """The LSN of a file, and its rows."""
-    with contextlib.closing(sqlite3.connect(f"file:{path}?mode=ro", uri=True, timeout=10, isolation_level=None)) as base:
+    with contextlib.closing(
+        sqlite3.connect(f"file:{path}?mode=ro", uri=True, timeout=10, isolation_level=None)
+    ) as base:
         base.execute("BEGIN")
         lsn = base.execute("SELECT lsn FROM pgsub_position").fetchone()[0]
         there = {name for (name,) in base.execute("SELECT name FROM pgsub_tables")}
-        keyed, bag = (Counter(base.execute(f"SELECT * FROM {it}")) if it in there else Counter[Any]() for it in ("keyed", "bag"))
+        keyed, bag = (
+            Counter(base.execute(f"SELECT * FROM {it}")) if it in there else Counter[Any]()
+            for it in ("keyed", "bag")
+        )
         return int(lsn[2:], 16), (keyed, bag)
 
 
 def watch(path: str, history: History) -> tuple[set[int], list[object]]:
-    """Reads the file until another one is there beside it. Returns which LSNs it had, and what wasn't the rows of a commit."""
+    """Reads the file until another one is there beside it. Returns which LSNs it had, and what
+    wasn't the rows of a commit."""
     seen, wrong, is_last = set[int](), list[object](), False
     while not is_last:
         is_last = os.path.exists(path + ".done")
@@ -132,7 +147,9 @@ class FollowingCase(FeedCase):
         while not os.path.exists(self.into):
             time.sleep(0.01)
         with logged():
-            self.assertEqual(wait.run(Options(command="wait", tables=self.into, lsn=lsn, within=50), never), 0)
+            self.assertEqual(
+                wait.run(Options(command="wait", tables=self.into, lsn=lsn, within=50), never), 0
+            )
 
     def write(self, end: int, lines: list[Line], rng: random.Random) -> None:
         """Writes a commit in pieces; sometimes it is cut off, and written again."""
@@ -157,7 +174,9 @@ class Following(FollowingCase):
         rng = random.Random(11)
         history = History(rng, 150)
         noted, done = self.folder / "noted", self.folder / "rows.db.done"
-        watching = self.fork(lambda: int(noted.write_bytes(pickle.dumps(watch(self.into, history))) == 0))
+        watching = self.fork(
+            lambda: int(noted.write_bytes(pickle.dumps(watch(self.into, history))) == 0)
+        )
         self.start()
         for number, (end, lines) in enumerate(history.commits):
             self.write(end, lines, rng)
@@ -180,12 +199,20 @@ class Following(FollowingCase):
         for end, lines in history.commits:
             self.feed.commit(end, lines)
         for at in (0, 0x100, 0x150, 0x1000, self.feed.at):
-            self.options = Options(command="tables", feed=str(self.path), into=f"{self.folder}/{at}.db", once=True, at=at)
+            self.options = Options(
+                command="tables",
+                feed=str(self.path),
+                into=f"{self.folder}/{at}.db",
+                once=True,
+                at=at,
+            )
             with logged():
                 self.assertEqual(tables_module.run(self.options, never), 0)
             self.assertEqual(read(self.options.into), (at & ~0xFF, history.rows[at & ~0xFF]))
         self.options.at = self.feed.at + 1
-        with logged(), self.assertRaisesRegex(Passing, "the feed has reached 0/2800, and 0/2801 not yet"):
+        with logged(), self.assertRaisesRegex(
+            Passing, "the feed has reached 0/2800, and 0/2801 not yet"
+        ):
             tables_module.run(self.options, never)
         self.feed.confirm(self.feed.at + 1)
         with logged():
@@ -208,7 +235,9 @@ class Following(FollowingCase):
             settle(tables)
             self.feed.confirm(0x200)
 
-        with logged(), mock.patch.object(tables_module.Tables, "settle", settle_before), self.assertRaisesRegex(Passing, "has reached 0/100, and 0/200 not"):
+        with logged(), mock.patch.object(
+            tables_module.Tables, "settle", settle_before
+        ), self.assertRaisesRegex(Passing, "has reached 0/100, and 0/200 not"):
             tables_module.run(self.options, never)
         self.feed.confirm(0x100)
         with logged(), mock.patch.object(Poll, "next", look_before):
@@ -237,7 +266,9 @@ class Following(FollowingCase):
         self.feed.put(text.replace(b'"n":1', b'"n":2'))
         for once in (True, False):
             self.options.once = once
-            with logged(), self.assertRaisesRegex(Damaged, "reading 6 Counts"), mock.patch("pgsub_feed.reader.polling.PATIENCE", 0.1):
+            with logged(), self.assertRaisesRegex(Damaged, "reading 6 Counts"), mock.patch(
+                "pgsub_feed.reader.polling.PATIENCE", 0.1
+            ):
                 tables_module.run(self.options, never)
             self.assertEqual(read(self.into), (0, (Counter(), Counter())))
 
@@ -255,9 +286,9 @@ class Following(FollowingCase):
         self.assertEqual(self.end(signal.SIGTERM), 0)
         self.assertEqual(read(self.into)[1][0], Counter([(1, "a"), (2, "b"), (3, "c")]))
 
-
     def test_an_added_tables_commit_that_is_cut_off(self) -> None:
-        """The filter was killed before the store had it: the table is added anew, at another LSN."""
+        """The filter was killed before the store had it: the table is added anew, at another
+        LSN."""
         self.feed.commit(0x100, [insert("1", "a", of=KEYED)])
         size = self.feed.size
         self.options.once = True
@@ -270,7 +301,9 @@ class Following(FollowingCase):
         for end in (0x200, 0x300):
             self.feed.at = 0x100
             os.truncate(self.feed.path, size)
-            self.feed.commit(end, [truncate(KEYED), insert("1", "b", of=KEYED)], About(end - 1, 2, 0))
+            self.feed.commit(
+                end, [truncate(KEYED), insert("1", "b", of=KEYED)], About(end - 1, 2, 0)
+            )
             self.feed.confirm(end - 8)
             self.assertEqual(run_it(), (0x100, (Counter([(1, "a")]), Counter())))
         self.feed.commit(0x400, [insert("2", "c", of=KEYED)])
@@ -292,8 +325,14 @@ class Transactions(FollowingCase):
         self.options.once = True
         with logged(), mock.patch.object(Rows, "set_up", traced):
             tables_module.run(self.options, never)
-        words = [it.split()[0] for it in told if it.startswith(("BEGIN", "INSERT INTO \"keyed\"", "UPDATE pgsub_position", "COMMIT"))]
-        self.assertEqual(words, ["BEGIN", "UPDATE", "COMMIT", "BEGIN", "INSERT", "INSERT", "UPDATE", "COMMIT"])
+        words = [
+            it.split()[0]
+            for it in told
+            if it.startswith(("BEGIN", 'INSERT INTO "keyed"', "UPDATE pgsub_position", "COMMIT"))
+        ]
+        self.assertEqual(
+            words, ["BEGIN", "UPDATE", "COMMIT", "BEGIN", "INSERT", "INSERT", "UPDATE", "COMMIT"]
+        )
 
     def test_another_process_has_written(self) -> None:
         self.feed.commit(0x100, [insert("1", "a", of=KEYED)])
@@ -304,7 +343,9 @@ class Transactions(FollowingCase):
         self.feed.commit(0x200, [insert("2", "b", of=KEYED)])
         with logged():
             tables_module.run(self.options, never)
-        with contextlib.closing(rows.db), self.assertRaisesRegex(Exception, "another process has written it meanwhile"):
+        with contextlib.closing(rows.db), self.assertRaisesRegex(
+            Exception, "another process has written it meanwhile"
+        ):
             rows.begin()
 
 
@@ -315,7 +356,18 @@ class Back(FollowingCase):
         """A copy of the file, as of an LSN."""
         into = f"{self.folder}/back-{at}.db"
         with logged():
-            tables_module.run(Options(command="tables", feed=str(self.path), into=into, base=self.into, once=True, at=at, **more), never)
+            tables_module.run(
+                Options(
+                    command="tables",
+                    feed=str(self.path),
+                    into=into,
+                    base=self.into,
+                    once=True,
+                    at=at,
+                    **more,
+                ),
+                never,
+            )
         return into
 
     def run_it(self) -> None:
@@ -328,11 +380,16 @@ class Back(FollowingCase):
         for end, lines in history.commits:
             self.feed.commit(end, lines)
         self.run_it()
-        truncated = max((end for end, lines in history.commits if any(it.op == "t" for it in lines)), default=0)
+        truncated = max(
+            (end for end, lines in history.commits if any(it.op == "t" for it in lines)), default=0
+        )
         self.assertEqual(truncated, 0x1E00)
         for at in range(0, self.feed.at + 1, 0x300):
             if at < truncated:
-                with self.assertRaisesRegex(Unfit, r"truncates public.keyed \(1\).*: make a new file by --into, without --base$"):
+                with self.assertRaisesRegex(
+                    Unfit,
+                    r"truncates public.keyed \(1\).*: make a new file by --into, without --base$",
+                ):
                     self.copied(at)
             else:
                 self.assertEqual(read(self.copied(at)), (at, history.rows[at]), hex(at))
@@ -349,9 +406,18 @@ class Back(FollowingCase):
         self.options.at = None
         self.run_it()
         next(it for it in sorted(self.path.iterdir()) if len(it.name) == 16).unlink()
-        with self.assertRaisesRegex(Unfit, "make a new file by --into, with --base, an export or tables of 0/200 or before$"):
+        with self.assertRaisesRegex(
+            Unfit, "make a new file by --into, with --base, an export or tables of 0/200 or before$"
+        ):
             self.copied(0x200)
-        new = Options(command="tables", feed=str(self.path), base=str(self.folder / "base.db"), into=f"{self.folder}/new.db", once=True, at=0x200)
+        new = Options(
+            command="tables",
+            feed=str(self.path),
+            base=str(self.folder / "base.db"),
+            into=f"{self.folder}/new.db",
+            once=True,
+            at=0x200,
+        )
         with logged():
             self.assertEqual(tables_module.run(new, never), 0)
         self.assertEqual(read(new.into)[1][0], Counter([(1, "a"), (2, "b")]))
@@ -377,7 +443,10 @@ class Back(FollowingCase):
         self.assertEqual(read(self.copied(0x100)), (0x100, (Counter([(1, "a")]), Counter())))
         self.feed.commit(0x300, [insert("2", of=table(1, "keyed", [ID]))])
         self.run_it()
-        with self.assertRaisesRegex(Unfit, r"public.renamed \(1\): the column name was dropped or altered since, and its values are lost"):
+        with self.assertRaisesRegex(
+            Unfit,
+            r"public.renamed \(1\): the column name was dropped or altered since, and its values are lost",
+        ):
             self.copied(0x180)
 
     def test_a_column_that_a_change_without_a_row_dropped(self) -> None:
@@ -394,5 +463,7 @@ class Back(FollowingCase):
         self.run_it()
         (self.path / f"{0:016X}").unlink()
         self.assertEqual(read(self.copied(0x100)), (0x100, (Counter([(256, "a")]), Counter())))
-        with self.assertRaisesRegex(Unfit, "the feed doesn't have the commits after 0/50: begin from an export before it"):
+        with self.assertRaisesRegex(
+            Unfit, "the feed doesn't have the commits after 0/50: begin from an export before it"
+        ):
             self.copied(0x50)

@@ -1,4 +1,5 @@
-"""A reader of a feed: what it takes, what it waits for, what it says of damaged lines, and how it goes on where bytes were cut."""
+"""A reader of a feed: what it takes, what it waits for, what it says of damaged lines, and how it
+goes on where bytes were cut."""
 
 from __future__ import annotations
 
@@ -8,16 +9,16 @@ import re
 from pathlib import Path
 from unittest import mock
 
-import pgsub_connect.feed
 from feed_text import UNSENT, About, Column, Line, closing_line, segment_head
+
 from pgsub_connect.errors import FileError, Unfit
-from pgsub_feed.reader import commits
-from pgsub_feed.reader.lines import oid, parsed
+from pgsub_connect.server.connection import never
 from pgsub_feed.faults import Damaged
+from pgsub_feed.reader import commits
 from pgsub_feed.reader.commits import Change, Missed, Part, TableLine
+from pgsub_feed.reader.lines import oid, parsed
 from pgsub_feed.reader.polling import Poll
 from pgsub_feed.reader.segments import Reader, read_confirmed, segments
-from pgsub_connect.server.connection import never
 
 from .feeds import ID, NAME, STOCK, FeedCase, delete, insert, table, truncate, update
 
@@ -33,7 +34,9 @@ class Case(FeedCase):
 
     def parts(self) -> list[Part]:
         reader = self.reader()
-        return [part for commit in Poll(reader, False, never).commits() for part in reader.parts(commit)]
+        return [
+            part for commit in Poll(reader, False, never).commits() for part in reader.parts(commit)
+        ]
 
     def file(self, at: int = 0) -> Path:
         return self.path / dict(segments(str(self.path)))[at]
@@ -43,7 +46,14 @@ class Lines(Case):
     def test_each(self) -> None:
         sent = Line(STOCK, "x", ["1", None], ["1", UNSENT], "K")
         self.feed.commit(
-            0x100, [insert("1", "é\n\x1f\x7f\"\\𝄞"), update(["1", None], ["1", b"\0\xff"]), delete("1", ""), truncate(), sent],
+            0x100,
+            [
+                insert("1", 'é\n\x1f\x7f"\\𝄞'),
+                update(["1", None], ["1", b"\0\xff"]),
+                delete("1", ""),
+                truncate(),
+                sent,
+            ],
             About(0xF0, 700, -946684800000001),
         )
         reader = self.reader()
@@ -54,13 +64,23 @@ class Lines(Case):
         described, *changes, missed = reader.parts(commit)
         assert isinstance(described, TableLine)
         relation = described.relation
-        self.assertEqual((relation.oid, relation.namespace, relation.name, relation.shape.identity), (1, "public", "stock", "d"))
-        self.assertEqual([(it.name, it.type_oid, it.modifier, it.key) for it in relation.shape.columns],
-                         [("id", 23, -1, True), ("name", 25, -1, False)])
-        self.assertEqual([it[0:1] + it[2:] for it in changes if isinstance(it, Change)], [
-            ("c", 0, None, ["1", "é\n\x1f\x7f\"\\𝄞"]), ("u", 1, ["1", None], ["1", b"\0\xff"]), ("d", 2, ["1", ""], None),
-            ("t", 3, None, None),
-        ])
+        self.assertEqual(
+            (relation.oid, relation.namespace, relation.name, relation.shape.identity),
+            (1, "public", "stock", "d"),
+        )
+        self.assertEqual(
+            [(it.name, it.type_oid, it.modifier, it.key) for it in relation.shape.columns],
+            [("id", 23, -1, True), ("name", 25, -1, False)],
+        )
+        self.assertEqual(
+            [it[0:1] + it[2:] for it in changes if isinstance(it, Change)],
+            [
+                ("c", 0, None, ["1", 'é\n\x1f\x7f"\\𝄞']),
+                ("u", 1, ["1", None], ["1", b"\0\xff"]),
+                ("d", 2, ["1", ""], None),
+                ("t", 3, None, None),
+            ],
+        )
         self.assertEqual(missed, Missed(relation, 4, "u", "K", ["1", None], ["1", commits.UNSENT]))
 
     def test_of_a_commit_without_any(self) -> None:
@@ -70,11 +90,22 @@ class Lines(Case):
 
     def test_definitions(self) -> None:
         keyless, wider = table(letter="f"), table(columns=(ID, NAME, Column("more", 16)))
-        self.feed.commit(0x100, [insert("1", "a"), insert("1", "b", of=keyless), insert("2", "c", None, of=wider), delete("1", "a")])
+        self.feed.commit(
+            0x100,
+            [
+                insert("1", "a"),
+                insert("1", "b", of=keyless),
+                insert("2", "c", None, of=wider),
+                delete("1", "a"),
+            ],
+        )
         self.feed.commit(0x200, [insert("3", "a")])
         found = [it.relation for it in self.parts() if isinstance(it, TableLine)]
         self.assertEqual([len(it.shape.columns) for it in found], [2, 2, 3, 2, 2])
-        self.assertEqual([[column.key for column in it.shape.columns] for it in found[:2]], [[True, False], [False, False]])
+        self.assertEqual(
+            [[column.key for column in it.shape.columns] for it in found[:2]],
+            [[True, False], [False, False]],
+        )
         self.assertIs(found[0], found[-1])
 
     def test_long_ones(self) -> None:
@@ -87,7 +118,13 @@ class Taking(Case):
     def test_what_is_above_the_lsn(self) -> None:
         for end in (0x100, 0x200, 0x300):
             self.feed.commit(end, [insert(str(end), "a")])
-        for at, ends in ((0, [0x100, 0x200, 0x300]), (0x100, [0x200, 0x300]), (0x300, []), (0x400, []), (None, [0x100, 0x200, 0x300])):
+        for at, ends in (
+            (0, [0x100, 0x200, 0x300]),
+            (0x100, [0x200, 0x300]),
+            (0x300, []),
+            (0x400, []),
+            (None, [0x100, 0x200, 0x300]),
+        ):
             self.assertEqual(self.ends(at), ends)
 
     def test_an_lsn_that_no_commit_ends_at(self) -> None:
@@ -160,7 +197,8 @@ class Cutting(Case):
         self.assertEqual((commit.end, list(reader.parts(commit))), (0x300, []))
 
     def test_unseen(self) -> None:
-        """Other bytes lie where the reader was, and it has seen neither the cut nor the end of the file."""
+        """Other bytes lie where the reader was, and it has seen neither the cut nor the end of the
+        file."""
         self.feed.commit(0x100, [insert("1", "a")])
         before = self.file().stat().st_size
         self.feed.commit(0x200, [insert("2", "bbbb")])
@@ -222,11 +260,15 @@ class Own(Case):
         self.own(0x200, insert("2", "b"))
         self.feed.commit(0x300)
         reader = self.reader()
-        self.assertEqual([getattr(reader.next(), "end", None) for _ in range(3)], [0x100, None, None])
+        self.assertEqual(
+            [getattr(reader.next(), "end", None) for _ in range(3)], [0x100, None, None]
+        )
         self.feed.confirm(0x1FF)
         self.assertIsNone(reader.next())
         self.feed.confirm(0x200)
-        self.assertEqual([getattr(reader.next(), "end", None) for _ in range(3)], [0x200, 0x300, None])
+        self.assertEqual(
+            [getattr(reader.next(), "end", None) for _ in range(3)], [0x200, 0x300, None]
+        )
         # (what a reader has, it passes over)
         self.feed.confirm(0x100)
         self.assertEqual(self.ends(0x200), [0x300])
@@ -286,7 +328,10 @@ class Segments(Case):
         self.file().write_bytes(text.replace(old, new))
         commit = self.reader().next()
         assert commit
-        self.assertEqual((commit.end, commit.prev, commit.lsn, commit.xid, commit.ts_us), (0x100, 0, 0xF0, 7, 946684800000000))
+        self.assertEqual(
+            (commit.end, commit.prev, commit.lsn, commit.xid, commit.ts_us),
+            (0x100, 0, 0xF0, 7, 946684800000000),
+        )
 
     def test_old_ones_are_gone(self) -> None:
         for end in (0x100, 0x200):
@@ -297,10 +342,14 @@ class Segments(Case):
         reader.next()
         self.file(0).unlink()
         self.assertEqual(self.ends(0x100), [0x200, 0x300])
-        with self.assertRaisesRegex(Unfit, "the feed begins at 0/100, and the commits after 0/50 aren't in it"):
+        with self.assertRaisesRegex(
+            Unfit, "the feed begins at 0/100, and the commits after 0/50 aren't in it"
+        ):
             self.ends(0x50)
         # (who has it open goes on)
-        self.assertEqual([getattr(reader.next(), "end", None) for _ in range(3)], [0x200, 0x300, None])
+        self.assertEqual(
+            [getattr(reader.next(), "end", None) for _ in range(3)], [0x200, 0x300, None]
+        )
         slow = self.reader(0x100)
         slow.next()
         self.file(0x100).unlink()
@@ -386,7 +435,11 @@ class Damage(Case):
             (b'"key":["id"]', b'"key":["iz"', (5, first)),
             (b'"key":["id"]', b'"key":1', (5, first)),
             (b'"columns":[["id"', b'"columns":[[1', (5, first)),
-            (b'"changes":2', b'"changes":3', (6, len(self.text[: self.text.index(b'{"end":"0/200"')]))),
+            (
+                b'"changes":2',
+                b'"changes":3',
+                (6, len(self.text[: self.text.index(b'{"end":"0/200"')])),
+            ),
             (b'"n":0', b'"n":1', (6, insert_at)),
             (b'"n":1', b'"n":7', (6, delete_at)),
             (b'"oid":1,"n":0', b'"oid":2,"n":0', (7, insert_at)),
@@ -400,7 +453,9 @@ class Damage(Case):
         before, line, after = self.text.rpartition(b'{"end":"0/200"')
         found = re.search(rb'"bytes":(\d+)', line + after)
         assert found
-        shorter = (line + after).replace(found[0], b'"bytes":%d' % (int(found[1]) - len(described)))[:255].rstrip().ljust(255) + b"\n"
+        shorter = (line + after).replace(
+            found[0], b'"bytes":%d' % (int(found[1]) - len(described))
+        )[:255].rstrip().ljust(255) + b"\n"
         self.file().write_bytes(before + shorter + after[256 - len(line) :].replace(described, b""))
         with self.assertRaisesRegex(Damaged, "the relation 1 isn't described in this commit"):
             self.parts()
@@ -443,10 +498,3 @@ class Damage(Case):
                 self.parts()
             except (Damaged, Unfit):
                 pass
-
-
-class Modules(FeedCase):
-    def test_each_is_listed_once(self) -> None:
-        listed = re.findall(r"`(\w+)`[,| ]", (pgsub_connect.feed.__doc__ or "").partition("|---|")[2])
-        there = {it.stem for it in Path(pgsub_connect.feed.__file__ or "").parent.glob("*.py")} - {"__init__"}
-        self.assertEqual(sorted(listed), sorted(there))

@@ -1,4 +1,5 @@
-"""Which segments of a feed go: by size, by age, by what readers have, and never what the store may need."""
+"""Which segments of a feed go: by size, by age, by what readers have, and never what the store may
+need."""
 
 from __future__ import annotations
 
@@ -6,9 +7,9 @@ import os
 from unittest import mock
 
 from pgsub_connect.errors import FileError
+from pgsub_connect.follow.retention import Limits, feed_bytes, read_readers, retire
 from pgsub_feed.reader.positions import Noted
 from pgsub_feed.reader.segments import segments
-from pgsub_connect.follow.retention import Limits, feed_bytes, read_readers, retire
 
 from .feeds import FeedCase, insert
 
@@ -51,7 +52,9 @@ class Retaining(FeedCase):
 
     def test_by_age(self) -> None:
         # (the oldest one was written last, so nothing goes before it is old enough)
-        self.assertEqual(self.left(Limits(oldest=0x100)), ([0, 0x100, 0x200, 0x300, 0x400, 0x500], set()))
+        self.assertEqual(
+            self.left(Limits(oldest=0x100)), ([0, 0x100, 0x200, 0x300, 0x400, 0x500], set())
+        )
         self.assertEqual(self.left(Limits(oldest=0xFF)), ([0x500], set()))
 
     def test_by_age_and_readers(self) -> None:
@@ -66,9 +69,13 @@ class Retaining(FeedCase):
 
     def test_what_the_store_needs(self) -> None:
         self.read(one=0x500)
-        self.assertEqual(self.left(Limits(most_bytes=0, oldest=0), 0x280), ([0x200, 0x300, 0x400, 0x500], set()))
+        self.assertEqual(
+            self.left(Limits(most_bytes=0, oldest=0), 0x280), ([0x200, 0x300, 0x400, 0x500], set())
+        )
         # (the commit at the position is the last one of the segment that begins at 0x200)
-        self.assertEqual(self.left(Limits(most_bytes=0, oldest=0), 0x300), ([0x200, 0x300, 0x400, 0x500], set()))
+        self.assertEqual(
+            self.left(Limits(most_bytes=0, oldest=0), 0x300), ([0x200, 0x300, 0x400, 0x500], set())
+        )
 
     def test_a_reader_without_an_lsn(self) -> None:
         self.read(one=0x500)
@@ -82,6 +89,14 @@ class Retaining(FeedCase):
         (self.folder / "far/rows.db-wal").touch()
         (self.folder / "rows.db").symlink_to("far/rows.db")
         synced = list[str]()
-        with mock.patch("os.fsync", lambda file: synced.append(os.path.relpath(os.readlink(f"/proc/self/fd/{file}"), self.folder))):
+        with mock.patch(
+            "os.fsync",
+            lambda file: synced.append(
+                os.path.relpath(os.readlink(f"/proc/self/fd/{file}"), self.folder)
+            ),
+        ):
             self.read(one=0x500)
-        self.assertEqual((synced[0], synced[-2:]), ("far/rows.db-wal", ["copy.feed/readers/one.new", "copy.feed/readers"]))
+        self.assertEqual(
+            (synced[0], synced[-2:]),
+            ("far/rows.db-wal", ["copy.feed/readers/one.new", "copy.feed/readers"]),
+        )

@@ -6,9 +6,10 @@ import re
 from collections.abc import Sequence
 
 from feed_text import About, Column, Definition, Line, lsn_text
+
+from pgsub_connect.add.replacement import XID
 from pgsub_connect.cli import UNFIT
 from pgsub_feed.undo import restore_sql
-from pgsub_connect.add.replacement import XID
 
 from .feeds import ID, NAME, STOCK, delete, insert, table, truncate, update
 from .test_feed_printing import PrintingCase
@@ -46,11 +47,14 @@ class Restored(Undoing):
         found = self.undone(
             [insert("1", None), update(["2", "o'x"], ["2", "b\\"]), delete("3", "")]
         )
-        self.assertEqual(found, [
-            ("0/200:0, public.stock", "NULL, ARRAY['1', NULL]"),
-            ("0/200:1, public.stock", r"ARRAY['2', 'o''x'], ARRAY['2', E'b\\']"),
-            ("0/200:2, public.stock", "ARRAY['3', ''], NULL"),
-        ])
+        self.assertEqual(
+            found,
+            [
+                ("0/200:0, public.stock", "NULL, ARRAY['1', NULL]"),
+                ("0/200:1, public.stock", r"ARRAY['2', 'o''x'], ARRAY['2', E'b\\']"),
+                ("0/200:2, public.stock", "ARRAY['3', ''], NULL"),
+            ],
+        )
 
     def test_tables(self) -> None:
         two = table(4, 'o"d', [Column("m", 16384, -1, True), ID], schema="s'x")
@@ -69,31 +73,44 @@ class Restored(Undoing):
         third = [update(["3", "b"], ["3", "a"]), delete("4", "a"), insert("4", "a")]
         self.assertEqual(
             self.undone(first, second, third),
-            [("0/300:0, public.stock", "ARRAY['2', 'a'], ARRAY['2', 'c']")]
+            [("0/300:0, public.stock", "ARRAY['2', 'a'], ARRAY['2', 'c']")],
         )
 
     def test_rows_that_change_their_keys(self) -> None:
         swap = [
-            update([a, x], [b, x]) for a, b,
-            x in (("1", "9", "a"), ("2", "1", "b"), ("9", "2", "a"))
+            update([a, x], [b, x])
+            for a, b, x in (("1", "9", "a"), ("2", "1", "b"), ("9", "2", "a"))
         ]
         moved = [update(["5", "a"], ["6", "a"]), update(["6", "a"], ["7", "b"])]
         again = [delete("8", "a"), insert("8", "b")]
-        self.assertEqual([rows for _, rows in self.undone(swap, moved, again)], [
-            "ARRAY['1', 'a'], ARRAY['1', 'b']", "ARRAY['2', 'b'], ARRAY['2', 'a']",
-            "ARRAY['5', 'a'], ARRAY['7', 'b']", "ARRAY['8', 'a'], ARRAY['8', 'b']",
-        ])
+        self.assertEqual(
+            [rows for _, rows in self.undone(swap, moved, again)],
+            [
+                "ARRAY['1', 'a'], ARRAY['1', 'b']",
+                "ARRAY['2', 'b'], ARRAY['2', 'a']",
+                "ARRAY['5', 'a'], ARRAY['7', 'b']",
+                "ARRAY['8', 'a'], ARRAY['8', 'b']",
+            ],
+        )
 
     def test_equal_rows_without_a_key(self) -> None:
         lines = [
-            insert("9", "", of=BAG), insert("1", "a", of=BAG), insert("1", "a", of=BAG),
-            delete("1", "a", of=BAG), update(["2", None], ["1", "a"], of=BAG),
+            insert("9", "", of=BAG),
+            insert("1", "a", of=BAG),
+            insert("1", "a", of=BAG),
+            delete("1", "a", of=BAG),
+            update(["2", None], ["1", "a"], of=BAG),
             delete("9", None, of=BAG),
         ]
-        self.assertEqual([rows for _, rows in self.undone(lines)], [
-            "NULL, ARRAY['9', '']", "NULL, ARRAY['1', 'a']", "ARRAY['2', NULL], ARRAY['1', 'a']",
-            "ARRAY['9', NULL], NULL",
-        ])
+        self.assertEqual(
+            [rows for _, rows in self.undone(lines)],
+            [
+                "NULL, ARRAY['9', '']",
+                "NULL, ARRAY['1', 'a']",
+                "ARRAY['2', NULL], ARRAY['1', 'a']",
+                "ARRAY['9', NULL], NULL",
+            ],
+        )
 
     def test_a_key_that_is_none_all_along(self) -> None:
         full = Definition(1, "public", "stock", "f", STOCK.columns)
@@ -103,8 +120,11 @@ class Restored(Undoing):
 
     def test_characters_that_others_may_change(self) -> None:
         for cell, constant in (
-            ("a\r\nb", r"E'a\x0d\x0ab'"), ("\t\\t'", r"E'\x09\\t'''"), ("\x7fE", r"E'\x7fE'"),
-            ("E ä", "'E ä'"), ("\x9b1m", r"E'\u009b1m'"),
+            ("a\r\nb", r"E'a\x0d\x0ab'"),
+            ("\t\\t'", r"E'\x09\\t'''"),
+            ("\x7fE", r"E'\x7fE'"),
+            ("E ä", "'E ä'"),
+            ("\x9b1m", r"E'\u009b1m'"),
         ):
             self.feed.commit(self.feed.at + 0x100, [delete("1", cell)])
             text = self.print("--undo", lsn_text(self.feed.at - 0x100), lsn_text(self.feed.at))
@@ -182,7 +202,7 @@ class Refused(Undoing):
         self.feed.commit(0x200, [])
         for begin, text in (
             ("0/200", "no commit ends up to 0/300 after 0/200"),
-            ("0/150", "no commit ends at 0/150")
+            ("0/150", "no commit ends at 0/150"),
         ):
             with logged() as told:
                 self.print("--undo", begin, "0/300", status=UNFIT)

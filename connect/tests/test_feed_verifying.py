@@ -1,4 +1,5 @@
-"""Tables that follow a feed, compared with a server that is further on or behind, and with another file."""
+"""Tables that follow a feed, compared with a server that is further on or behind, and with another
+file."""
 
 from __future__ import annotations
 
@@ -14,15 +15,16 @@ from unittest import mock
 
 from feed_text import About
 from feed_text import Column as TextColumn
-from pgsub_connect.errors import FileError, Passing, Stopped, Unfit
+
 from pgsub_connect.commands import tables
-from pgsub_connect.verify import tables_file
-from pgsub_feed.reader.trail import Gone, Trail
-from pgsub_connect.verify.meeting_point import chosen
 from pgsub_connect.commands.options import Options
+from pgsub_connect.commands.words import arguments
+from pgsub_connect.errors import FileError, Passing, Stopped, Unfit
 from pgsub_connect.server.connection import never
 from pgsub_connect.server.publications import Column, Table
-from pgsub_connect.commands.words import arguments
+from pgsub_connect.verify import tables_file
+from pgsub_connect.verify.meeting_point import chosen
+from pgsub_feed.reader.trail import Gone, Trail
 
 from .fake_server import connection_to
 from .feeds import ID, NAME, delete, insert, table, truncate, update
@@ -31,8 +33,26 @@ from .test_feed_tables import TablesCase
 from .test_verifying import Publisher
 from .vectors import logged
 
-STOCK = Table(1, "public", "stock", "r", "d", None, None, [Column("id", 23, -1, True, 1), Column("name", 25, -1, False, 2)])
-WHOLE = Table(2, "public", "whole", "r", "f", None, None, [Column("id", 23, -1, True, 1), Column("name", 25, -1, True, 2)])
+STOCK = Table(
+    1,
+    "public",
+    "stock",
+    "r",
+    "d",
+    None,
+    None,
+    [Column("id", 23, -1, True, 1), Column("name", 25, -1, False, 2)],
+)
+WHOLE = Table(
+    2,
+    "public",
+    "whole",
+    "r",
+    "f",
+    None,
+    None,
+    [Column("id", 23, -1, True, 1), Column("name", 25, -1, True, 2)],
+)
 OF_WHOLE = table(2, "whole", [ID, TextColumn("name", 25, -1, True)], "f")
 Rows = list[Sequence[Cell]]
 
@@ -61,8 +81,17 @@ class VerifyCase(TablesCase):
 
     def source(self, options: Options, known: Any, check: Any) -> Any:
         self.known = known
-        found = SimpleNamespace(plain=connection_to(self.server), encoding="UTF8", tables=self.published, seen=[], closed=0, left=self.left)
-        found.chosen = lambda names: chosen(self.published, names) if names else list(self.published)
+        found = SimpleNamespace(
+            plain=connection_to(self.server),
+            encoding="UTF8",
+            tables=self.published,
+            seen=[],
+            closed=0,
+            left=self.left,
+        )
+        found.chosen = (
+            lambda names: chosen(self.published, names) if names else list(self.published)
+        )
         found.make_slot = lambda seconds: (self.point, "snapshot")
         found.see, found.close = lambda snapshot, leaves: self.meanwhile(), found.plain.close
         return found
@@ -83,7 +112,9 @@ class VerifyCase(TablesCase):
         with contextlib.ExitStack() as stack:
             self.said = stack.enter_context(logged())
             stack.enter_context(contextlib.redirect_stdout(out))
-            stack.enter_context(mock.patch.multiple("pgsub_connect.verify.digests.Queries", sums=sums, texts=texts))
+            stack.enter_context(
+                mock.patch.multiple("pgsub_connect.verify.digests.Queries", sums=sums, texts=texts)
+            )
             stack.enter_context(mock.patch.object(tables_file, "Source", self.source))
             self.assertEqual(tables_file.run(options, never), status)
         return [json.loads(line) for line in out.getvalue().splitlines()]
@@ -104,17 +135,38 @@ class Server(VerifyCase):
     def test_equal(self) -> None:
         for digests in (False, True):
             self.equal(digests=digests)
-        self.assertEqual((self.known.system, self.known.database, self.known.slot, self.known.timeline), ("7", "shop", "pgsub", 0))
-        self.assertEqual(self.said[-1:], ["2 tables, 14 rows on the server at 0/200: equal by the digests that are kept"])
+        self.assertEqual(
+            (self.known.system, self.known.database, self.known.slot, self.known.timeline),
+            ("7", "shop", "pgsub", 0),
+        )
+        self.assertEqual(
+            self.said[-1:],
+            ["2 tables, 14 rows on the server at 0/200: equal by the digests that are kept"],
+        )
 
     def test_what_is_above_the_point_is_taken_back(self) -> None:
-        self.take(update(["1", "name 1"], ["1", "b"]), delete("2", "name 2"), insert("20", "x"), delete("1", "", of=OF_WHOLE))
-        self.take(update(["20", "x"], ["21", "x"]), insert("2", "again"), insert("1", None, of=OF_WHOLE), update(["1", "b"], ["1", "c"]))
+        self.take(
+            update(["1", "name 1"], ["1", "b"]),
+            delete("2", "name 2"),
+            insert("20", "x"),
+            delete("1", "", of=OF_WHOLE),
+        )
+        self.take(
+            update(["20", "x"], ["21", "x"]),
+            insert("2", "again"),
+            insert("1", None, of=OF_WHOLE),
+            update(["1", "b"], ["1", "c"]),
+        )
         self.run_it()
         self.equal()
         for point, one, twenty in ((0x300, "b", ["20", "x"]), (0x400, "c", ["21", "x"])):
             self.point = point
-            rows: Rows = [["0", "name 0"], ["1", one], *([str(it), f"name {it}"] for it in range(3, 10)), twenty]
+            rows: Rows = [
+                ["0", "name 0"],
+                ["1", one],
+                *([str(it), f"name {it}"] for it in range(3, 10)),
+                twenty,
+            ]
             self.server.tables[1] = rows if point == 0x300 else [*rows, ["2", "again"]]
             self.server.tables[2] = [["1", None]] * (3 if point == 0x300 else 4)
             self.equal()
@@ -123,23 +175,34 @@ class Server(VerifyCase):
 
     def test_digests_are_taken_back(self) -> None:
         self.run_it(digests=True)
-        self.take(update(["1", "name 1"], ["1", "b"]), delete("1", "", of=OF_WHOLE), truncate(table(9, "else")))
+        self.take(
+            update(["1", "name 1"], ["1", "b"]),
+            delete("1", "", of=OF_WHOLE),
+            truncate(table(9, "else")),
+        )
         self.run_it()
         with mock.patch("pgsub_feed.tables.view.View.texts") as texts:
             self.equal(digests=True)
         self.assertEqual(texts.called, False)
         self.server.tables[1][3] = ["3", "other"]
         [found] = self.verified(1, digests=True)
-        self.assertEqual((found["key"], found["server"]["name"], found["copy"]["name"]), ({"id": "3"}, "other", "name 3"))
+        self.assertEqual(
+            (found["key"], found["server"]["name"], found["copy"]["name"]),
+            ({"id": "3"}, "other", "name 3"),
+        )
 
     def test_planted(self) -> None:
         for statement, server, copy in (
-            ("UPDATE stock SET name = 'x' WHERE id = 1", "name 1", "x"), ("UPDATE stock SET name = NULL WHERE id = 1", "name 1", None),
+            ("UPDATE stock SET name = 'x' WHERE id = 1", "name 1", "x"),
+            ("UPDATE stock SET name = NULL WHERE id = 1", "name 1", None),
             ("UPDATE stock SET name = 'name 1 ' WHERE id = 1", "name 1", "name 1 "),
         ):
             self.plant(statement)
             [found] = self.verified(1)
-            self.assertEqual((found["key"], found["server"]["name"], found["copy"]["name"]), ({"id": "1"}, server, copy))
+            self.assertEqual(
+                (found["key"], found["server"]["name"], found["copy"]["name"]),
+                ({"id": "1"}, server, copy),
+            )
         self.plant("UPDATE stock SET name = 'name 1' WHERE id = 1")
         self.equal()
         self.plant("DELETE FROM stock WHERE id = 5")
@@ -163,12 +226,20 @@ class Server(VerifyCase):
         self.plant("UPDATE stock SET name = 'x' WHERE id = 1")
         self.equal(digests=True)
         self.assertEqual(len(self.verified(1)), 1)
-        self.assertTrue(any("the digest that it keeps of public.stock (1) isn't that of its rows" in it for it in self.said))
+        self.assertTrue(
+            any(
+                "the digest that it keeps of public.stock (1) isn't that of its rows" in it
+                for it in self.said
+            )
+        )
         self.plant("UPDATE stock SET name = 'name 1' WHERE id = 1")
         self.plant("UPDATE pgsub_digests SET first = first + 1 WHERE oid = 2")
         self.assertEqual(self.verified(1), [])
         self.assertIn("equal rows", self.said[-2])
-        self.assertEqual(self.said[-1], "warning: rows come anew by: pgsub-connect add --store STORE --table public.whole")
+        self.assertEqual(
+            self.said[-1],
+            "warning: rows come anew by: pgsub-connect add --store STORE --table public.whole",
+        )
         self.assertEqual(self.verified(1, digests=True), [])
 
     def test_a_table_without_a_digest_is_read(self) -> None:
@@ -179,10 +250,25 @@ class Server(VerifyCase):
         self.assertEqual(len(self.verified(1, digests=True)), 1)
 
     def test_other_columns(self) -> None:
-        self.published[0] = Table(1, "public", "stock", "r", "d", None, None, [*STOCK.columns, Column("more", 23, -1, False, 3)])
+        self.published[0] = Table(
+            1,
+            "public",
+            "stock",
+            "r",
+            "d",
+            None,
+            None,
+            [*STOCK.columns, Column("more", 23, -1, False, 3)],
+        )
         for digests in (False, True):
             [found] = self.verified(1, digests=digests)
-            self.assertEqual(found, {"table": "public.stock", "columns": {"server": ["id", "name", "more"], "copy": ["id", "name"]}})
+            self.assertEqual(
+                found,
+                {
+                    "table": "public.stock",
+                    "columns": {"server": ["id", "name", "more"], "copy": ["id", "name"]},
+                },
+            )
 
     def test_an_export_whose_types_were_not_told(self) -> None:
         """They are the server's."""
@@ -191,7 +277,18 @@ class Server(VerifyCase):
         self.run_it()
         self.plant("UPDATE pgsub_relations SET definition = NULL")
         self.point = 0x300
-        self.published.append(Table(3, "public", "flags", "r", "d", None, None, [STOCK.columns[0], Column("is", 16, -1, False, 2)]))
+        self.published.append(
+            Table(
+                3,
+                "public",
+                "flags",
+                "r",
+                "d",
+                None,
+                None,
+                [STOCK.columns[0], Column("is", 16, -1, False, 2)],
+            )
+        )
         self.server.tables[3] = [["1", "t"], ["2", None]]
         self.equal()
 
@@ -215,17 +312,31 @@ class Server(VerifyCase):
     def test_rows_that_are_not_published(self) -> None:
         del self.published[1]
         self.equal()
-        self.assertTrue(any("rows of 1 table that the publications don't have now: public.whole" in it for it in self.said))
+        self.assertTrue(
+            any(
+                "rows of 1 table that the publications don't have now: public.whole" in it
+                for it in self.said
+            )
+        )
 
     def test_a_truncation_above_the_point(self) -> None:
-        """Of that table nothing is known; the others are compared, and it is, too, once the server is seen behind that."""
+        """Of that table nothing is known; the others are compared, and it is, too, once the server
+        is seen behind that."""
         self.take(truncate())
         self.run_it()
         self.fails(Passing, "^not compared: public.stock was truncated meanwhile: compare later")
-        self.assertEqual([it for it in self.said if "equal" in it], ["1 table, 4 rows on the server at 0/200: equal", "0 tables, 0 rows on the server at 0/200: equal"])
+        self.assertEqual(
+            [it for it in self.said if "equal" in it],
+            [
+                "1 table, 4 rows on the server at 0/200: equal",
+                "0 tables, 0 rows on the server at 0/200: equal",
+            ],
+        )
         self.server.tables[2].append(["7", "x"])
         self.assertEqual(len(self.verified(1)), 1)
-        self.assertEqual(self.said[-1], "warning: not compared: public.stock was truncated meanwhile")
+        self.assertEqual(
+            self.said[-1], "warning: not compared: public.stock was truncated meanwhile"
+        )
         del self.server.tables[2][-1]
         self.server.tables[1] = []
         self.meanwhile = lambda: setattr(self, "point", 0x300)
@@ -255,20 +366,43 @@ class Server(VerifyCase):
         self.run_it(1)
         self.point = 0x300
         self.assertEqual(self.verified(1), [])
-        self.assertIn(f"warning: public.stock is set aside in {self.into} since 0/300: a row that the feed changes isn't in it", self.said[0])
-        self.assertEqual(self.said[-1], "warning: rows come anew by: pgsub-connect add --store STORE --table public.stock")
+        self.assertIn(
+            f"warning: public.stock is set aside in {self.into} since 0/300: a row that the feed changes isn't in it",
+            self.said[0],
+        )
+        self.assertEqual(
+            self.said[-1],
+            "warning: rows come anew by: pgsub-connect add --store STORE --table public.stock",
+        )
         self.assertEqual(self.verified(1, table=["stock"]), [])
         self.equal(table=["whole"])
 
     def test_numbers_of_4_bytes_to_the_last_bit(self) -> None:
-        """What no number of 4 bytes is stored as is found, however close it is; its digits and its bytes are both right."""
+        """What no number of 4 bytes is stored as is found, however close it is; its digits and its
+        bytes are both right."""
         self.take(insert("1", "0.1", of=table(3, "short", [ID, TextColumn("f", 700)])))
         self.run_it()
         self.point = 0x300
-        self.published.append(Table(3, "public", "short", "r", "d", None, None, [STOCK.columns[0], Column("f", 700, -1, False, 2)]))
+        self.published.append(
+            Table(
+                3,
+                "public",
+                "short",
+                "r",
+                "d",
+                None,
+                None,
+                [STOCK.columns[0], Column("f", 700, -1, False, 2)],
+            )
+        )
         self.server.tables[3] = [["1", "0.1"]]
         self.equal()
-        for planted, shown in (("0.10000000001", "0.10000000001"), ("1e300", "1e+300"), ("9e999", "inf"), ("0.1000000014901161", "0.1000000014901161")):
+        for planted, shown in (
+            ("0.10000000001", "0.10000000001"),
+            ("1e300", "1e+300"),
+            ("9e999", "inf"),
+            ("0.1000000014901161", "0.1000000014901161"),
+        ):
             self.plant(f"UPDATE short SET f = {planted}")
             [found] = self.verified(1)
             self.assertEqual((found["server"]["f"], found["copy"]["f"]), ("0.1", shown))
@@ -278,7 +412,16 @@ class Server(VerifyCase):
     def test_an_alteration_above_the_point(self) -> None:
         self.take(insert("11", "x", "y", of=table(columns=[ID, NAME, TextColumn("more", 25)])))
         self.run_it()
-        self.published[0] = Table(1, "public", "stock", "r", "d", None, None, [*STOCK.columns, Column("more", 25, -1, False, 3)])
+        self.published[0] = Table(
+            1,
+            "public",
+            "stock",
+            "r",
+            "d",
+            None,
+            None,
+            [*STOCK.columns, Column("more", 25, -1, False, 3)],
+        )
         self.server.tables[1] = [[*it, None] for it in self.server.tables[1]]
         self.equal()
         self.published[0] = STOCK
@@ -287,7 +430,9 @@ class Server(VerifyCase):
     def test_what_is_not_there_in_time(self) -> None:
         self.point = 0x20000
         with mock.patch.object(tables_file, "PATIENCE", 0.05):
-            self.fails(Passing, "the feed .* doesn't have all, and 0/20000 wasn't reached in 0 seconds")
+            self.fails(
+                Passing, "the feed .* doesn't have all, and 0/20000 wasn't reached in 0 seconds"
+            )
             self.confirm(0x20000)
             self.take(insert("11", "x"))
             self.fails(Passing, "rows.db is at 0/200, and 0/20000 wasn't reached")
@@ -313,7 +458,9 @@ class Server(VerifyCase):
         self.fails(Passing, "being added just now, or refused: public.whole", store=str(store))
 
     def test_a_file_that_is_taken_back_meanwhile(self) -> None:
-        with mock.patch.object(tables_file, "wait", lambda path, trail, point, check: trail.has(point)):
+        with mock.patch.object(
+            tables_file, "wait", lambda path, trail, point, check: trail.has(point)
+        ):
             self.meanwhile = lambda: self.plant("UPDATE pgsub_position SET lsn = '0/100'")
             self.fails(Passing, "rows.db was taken back to 0/100 meanwhile")
 
@@ -327,14 +474,21 @@ class Server(VerifyCase):
         self.fails(Passing, "rows.db has followed nothing yet")
 
     def test_a_file_of_something_else(self) -> None:
-        for path, text in ((self.into + ".none", "there is no file"), (str(self.path / "confirmed"), "has no tables that follow a feed")):
+        for path, text in (
+            (self.into + ".none", "there is no file"),
+            (str(self.path / "confirmed"), "has no tables that follow a feed"),
+        ):
             with self.assertRaisesRegex(FileError, text):
                 tables_file.run(Options(tables=path), never)
 
     def test_ended(self) -> None:
-        with mock.patch.object(tables_file, "with_server", side_effect=Stopped), self.assertRaisesRegex(Passing, "ended before"):
+        with mock.patch.object(
+            tables_file, "with_server", side_effect=Stopped
+        ), self.assertRaisesRegex(Passing, "ended before"):
             tables_file.run(Options(tables=self.into), never)
-        with mock.patch.object(tables_file, "with_server", side_effect=sqlite3.DatabaseError("x")), self.assertRaisesRegex(FileError, "rows.db: x"):
+        with mock.patch.object(
+            tables_file, "with_server", side_effect=sqlite3.DatabaseError("x")
+        ), self.assertRaisesRegex(FileError, "rows.db: x"):
             tables_file.run(Options(tables=self.into), never)
 
 
@@ -348,7 +502,10 @@ class Files(VerifyCase):
     def test_at_the_same_lsn(self) -> None:
         for digests in (False, True):
             self.equal(other=self.other, digests=digests)
-        self.assertEqual(self.said, [f"2 tables, 14 rows in {self.other} at 0/200: equal by the digests that are kept"])
+        self.assertEqual(
+            self.said,
+            [f"2 tables, 14 rows in {self.other} at 0/200: equal by the digests that are kept"],
+        )
 
     def test_either_is_ahead(self) -> None:
         self.take(update(["1", "name 1"], ["1", "b"]), delete("1", "", of=OF_WHOLE))
@@ -365,9 +522,15 @@ class Files(VerifyCase):
         self.take(insert("11", "c"), delete("2", "name 2"))
         self.run_it()
         [found] = self.verified(1, other=self.other)
-        self.assertEqual(found, {
-            "table": "public.stock", "key": {"id": "1"}, "other": {"id": "1", "name": "x"}, "copy": {"id": "1", "name": "name 1"},
-        })
+        self.assertEqual(
+            found,
+            {
+                "table": "public.stock",
+                "key": {"id": "1"},
+                "other": {"id": "1", "name": "x"},
+                "copy": {"id": "1", "name": "name 1"},
+            },
+        )
         self.plant("UPDATE stock SET name = 'name 1' WHERE id = 1", self.other)
         self.equal(other=self.other)
         self.plant("UPDATE pgsub_digests SET second = second - 1 WHERE oid = 1", self.other)
@@ -381,7 +544,9 @@ class Files(VerifyCase):
         self.take(delete("77", "none"))
         with logged():
             for path in (self.into, self.other):
-                tables.run(Options(command="tables", feed=str(self.path), into=path, once=True), never)
+                tables.run(
+                    Options(command="tables", feed=str(self.path), into=path, once=True), never
+                )
                 self.assertEqual(self.verified(1, other=self.other), [])
                 self.assertIn("public.stock is set aside in", self.said[0])
 
@@ -408,7 +573,9 @@ class Files(VerifyCase):
 
     def test_of_another_server(self) -> None:
         self.plant("UPDATE pgsub_feed SET system = '8'", self.other)
-        self.fails(Unfit, "has rows of slot pgsub of database shop, system 8, and", other=self.other)
+        self.fails(
+            Unfit, "has rows of slot pgsub of database shop, system 8, and", other=self.other
+        )
         self.plant("UPDATE pgsub_feed SET system = NULL, folder = '/nowhere'", self.other)
         self.fails(Passing, "other.db has followed nothing yet", other=self.other)
         self.plant("UPDATE pgsub_feed SET system = NULL")
@@ -421,13 +588,18 @@ class Trails(VerifyCase):
 
     def test_over_segments(self) -> None:
         for it in range(20):
-            self.take(insert(str(100 + it), "x" * 200), update(["1", "name 1" if not it else f"{it}"], ["1", f"{it + 1}"]))
+            self.take(
+                insert(str(100 + it), "x" * 200),
+                update(["1", "name 1" if not it else f"{it}"], ["1", f"{it + 1}"]),
+            )
         self.run_it()
         self.assertGreater(len(list(self.path.iterdir())), 10)
         for point in range(0x200, 0x1600, 0x180):
             count = max(0, point // 0x100 - 2)
             self.point = point
-            self.server.tables[1] = [[str(it), f"name {it}" if it != 1 or not count else str(count)] for it in range(10)]
+            self.server.tables[1] = [
+                [str(it), f"name {it}" if it != 1 or not count else str(count)] for it in range(10)
+            ]
             self.server.tables[1] += [[str(100 + it), "x" * 200] for it in range(count)]
             self.equal()
 
@@ -456,7 +628,9 @@ class Trails(VerifyCase):
 
 class Words(TablesCase):
     def rejected(self, *words: str) -> str:
-        with contextlib.redirect_stderr(io.StringIO()) as said, self.assertRaises(SystemExit) as ended:
+        with contextlib.redirect_stderr(io.StringIO()) as said, self.assertRaises(
+            SystemExit
+        ) as ended:
             arguments(["verify", *words])
         self.assertEqual(ended.exception.code, 2)
         return said.getvalue()
@@ -465,7 +639,9 @@ class Words(TablesCase):
         self.rejected()
         for words in (["--with", "x"], ["--digests"], ["--feed", "x"]):
             self.rejected("--store", "x", *words)
-        self.assertIn("pgsub-connect add --store STORE --table T", self.rejected("--tables", "x", "--repair"))
+        self.assertIn(
+            "pgsub-connect add --store STORE --table T", self.rejected("--tables", "x", "--repair")
+        )
         self.assertEqual(arguments(["verify", "--tables", "a", "--with", "b"]).other, "b")
 
     def test_which_store(self) -> None:
@@ -480,4 +656,6 @@ class Words(TablesCase):
         self.assertEqual(tables_file.store_of(self.into), "")
         open(store + ".connector", "w").close()
         self.assertEqual(tables_file.store_of(self.into), store)
-        self.assertEqual([tables_file.store_of(it) for it in (store, store + ".connector")], ["", ""])
+        self.assertEqual(
+            [tables_file.store_of(it) for it in (store, store + ".connector")], ["", ""]
+        )

@@ -1,4 +1,5 @@
-"""The feed of a follower: what the filter is told of it, what is confirmed, who reads it, and when it is refused."""
+"""The feed of a follower: what the filter is told of it, what is confirmed, who reads it, and when
+it is refused."""
 
 from __future__ import annotations
 
@@ -13,29 +14,33 @@ from typing import Any
 from unittest import mock
 
 from feed_text import Column, lsn_text
-from pgsub_connect.follow import feed as feed_module, tables_process
-from pgsub_connect.follow.tables_process import Beside, words_of
+
+from pgsub_connect.commands.options import Options
+from pgsub_connect.commands.words import arguments
+from pgsub_connect.drift.remembered import Remembered, replace_file
 from pgsub_connect.errors import FileError, Unfit
-from pgsub_feed.reader.positions import Noted, make_folder
-from pgsub_feed.reader.segments import CONFIRMED, Reader, read_confirmed, segments
+from pgsub_connect.follow import feed as feed_module
+from pgsub_connect.follow import tables_process
 from pgsub_connect.follow.feed import Feeding, Keeper, Reached
 from pgsub_connect.follow.filter import FilterEnded
 from pgsub_connect.follow.follower import Follower
+from pgsub_connect.follow.tables_process import Beside, words_of
 from pgsub_connect.status.metrics import metrics_text
-from pgsub_connect.commands.options import Options
 from pgsub_connect.status.progress import Progress
-from pgsub_connect.drift.remembered import Remembered, replace_file
-from pgsub_connect.commands.words import arguments
+from pgsub_feed.reader.positions import Noted, make_folder
+from pgsub_feed.reader.segments import CONFIRMED, Reader, read_confirmed, segments
 
 from .fake_server import Quiet
 from .feeds import ID, FeedCase, insert, table, truncate
 from .test_following import Case
-from .vectors import begin, commit, insert as inserted, keepalive
-
+from .vectors import begin, commit
+from .vectors import insert as inserted
+from .vectors import keepalive
 
 # What a child's code has before it begins.
 QUICK = (
-    "from pgsub_connect.feed import noting, polling; noting.OFTEN = 0.05; polling.PATIENCE = 0.2; "
+    "from pgsub_feed.reader import polling, positions; "
+    "positions.OFTEN = 0.05; polling.PATIENCE = 0.2; "
 )
 
 
@@ -58,7 +63,9 @@ class Followed(Case):
     def fed(self, feed: str | None = None, **options: object) -> Follower:
         """A follower whose feed is checked, and that is about to run."""
         follower = self.follower(feed=self.feed if feed is None else feed, **options)
-        follower.feeding = it = Feeding(follower.options, self.checkpoint, self.progress, follower.watch.remembered)
+        follower.feeding = it = Feeding(
+            follower.options, self.checkpoint, self.progress, follower.watch.remembered
+        )
         it.check()
         self.addCleanup(it.finish)
         it.begin(follower.filter, follower.confirming.stored, follower.check_stop)
@@ -90,7 +97,11 @@ class Followed(Case):
     def test_all_that_is_confirmed_is_told(self) -> None:
         self.server.to_send = [begin(0x100, 7), inserted(1), commit(0x100, 0x108), keepalive(0x400)]
         follower = self.fed()
-        self.run_until(follower, lambda: os.path.exists(f"{self.feed}/{CONFIRMED}") and read_confirmed(self.feed) == 0x400)
+        self.run_until(
+            follower,
+            lambda: os.path.exists(f"{self.feed}/{CONFIRMED}")
+            and read_confirmed(self.feed) == 0x400,
+        )
         self.assertEqual(self.ends(), [0x108])
         assert follower.feeding
         follower.feeding.finish()
@@ -108,7 +119,8 @@ class Followed(Case):
         self.assertEqual(read_confirmed(self.feed), 0x108)
 
     def let_go(self, has: mock.Mock) -> bool:
-        """Has the tables have all, once it was asked for some times; whether the follower ends then."""
+        """Has the tables have all, once it was asked for some times; whether the follower ends
+        then."""
         has.return_value = has.call_count > 3
         return self.progress.state == "stopping"
 
@@ -121,9 +133,21 @@ class Followed(Case):
         self.assertEqual({it.args for it in has.call_args_list}, {(0x108,)})
 
     def test_whose_feed_it_is(self) -> None:
-        words = ["--feed", self.feed, "--feed-system", "77", "--feed-database", "shop", "--feed-slot", "pgsub"]
+        words = [
+            "--feed",
+            self.feed,
+            "--feed-system",
+            "77",
+            "--feed-database",
+            "shop",
+            "--feed-slot",
+            "pgsub",
+        ]
         follower = self.fed(feed_segment_bytes=5000, feed_segment_seconds=60)
-        self.assertEqual(follower.filter.words[-12:], [*words, "--feed-segment-bytes", "5000", "--feed-segment-seconds", "60"])
+        self.assertEqual(
+            follower.filter.words[-12:],
+            [*words, "--feed-segment-bytes", "5000", "--feed-segment-seconds", "60"],
+        )
         # (of a store that was followed, the checkpoint knows it)
         self.server.to_send = [keepalive(0x400)]
         self.run_until(follower, lambda: self.confirmed() == 0x400)
@@ -150,7 +174,9 @@ class Followed(Case):
 
     def test_following_without_it(self) -> None:
         self.follow_once()
-        with self.assertRaisesRegex(Unfit, f"the feed {self.feed} has all commits .* --feed {self.feed}, or --without-feed"):
+        with self.assertRaisesRegex(
+            Unfit, f"the feed {self.feed} has all commits .* --feed {self.feed}, or --without-feed"
+        ):
             self.fed(feed="")
         self.unlock()
         with self.assertRaisesRegex(Unfit, "/other has none of its commits"):
@@ -158,7 +184,10 @@ class Followed(Case):
         self.unlock()
         self.assertFalse(os.path.exists(self.folder + "/other"))
         follower = self.fed(feed="", without_feed=True)
-        self.assertIn(f"warning: the feed {self.feed} ends here: whoever reads it begins anew, from an export and another feed", self.said)
+        self.assertIn(
+            f"warning: the feed {self.feed} ends here: whoever reads it begins anew, from an export and another feed",
+            self.said,
+        )
         self.server.to_send = [begin(0x200, 8), inserted(1), commit(0x200, 0x208)]
         self.run_until(follower, lambda: self.confirmed() == 0x208)
         self.assertEqual(Remembered(self.store).feed, "")
@@ -166,8 +195,13 @@ class Followed(Case):
         follower = self.fed()
         with self.assertRaises(FilterEnded) as ended:
             self.run_until(follower, lambda: False)
-        self.assertEqual((ended.exception.status, ended.exception.said), (3, feed_module.NOT_A_FEED))
-        self.assertTrue(any("Name an empty folder by --feed, with --without-feed" in it for it in self.said), self.said)
+        self.assertEqual(
+            (ended.exception.status, ended.exception.said), (3, feed_module.NOT_A_FEED)
+        )
+        self.assertTrue(
+            any("Name an empty folder by --feed, with --without-feed" in it for it in self.said),
+            self.said,
+        )
         self.unlock()
         follower = self.fed(feed=self.folder + "/other", without_feed=True)
         self.server.to_send = [begin(0x300, 9), inserted(1), commit(0x300, 0x308)]
@@ -176,16 +210,21 @@ class Followed(Case):
         self.assertEqual(self.ends(), [0x308])
 
     def test_an_older_store(self) -> None:
-        """Its feed isn't cut, whether the store's file says its position or, since there is a log, a filter alone."""
+        """Its feed isn't cut, whether the store's file says its position or, since there is a log,
+        a filter alone."""
         self.follow_once()
         before = self.ends()
         with open(self.store, "w", encoding="ascii") as file:
             file.write(str(0x50))
-        with mock.patch.object(feed_module, "position_in", lambda _: 0x50), self.assertRaisesRegex(Unfit, "0/50, and was at 0/108 before"):
+        with mock.patch.object(feed_module, "position_in", lambda _: 0x50), self.assertRaisesRegex(
+            Unfit, "0/50, and was at 0/108 before"
+        ):
             self.fed()
         self.unlock()
         Path(self.store + "-wal").write_text("x")
-        with self.assertRaisesRegex(Unfit, "the store is at 0/50, and was at 0/108 before.*would lose the commits between"):
+        with self.assertRaisesRegex(
+            Unfit, "the store is at 0/50, and was at 0/108 before.*would lose the commits between"
+        ):
             self.fed()
         self.unlock()
         self.assertEqual(self.ends(), before)
@@ -198,7 +237,8 @@ class Followed(Case):
         self.assertFalse(follower.filter.has_told_all or follower.filter.is_running())
 
     def test_an_older_store_of_which_the_checkpoint_knows_nothing_more(self) -> None:
-        """Since that isn't there, or was put back with it: the feed itself tells that it has commits that were confirmed."""
+        """Since that isn't there, or was put back with it: the feed itself tells that it has
+        commits that were confirmed."""
         self.follow_once()
         checkpoint = Path(self.store + ".connector").read_bytes()
         self.follow_once(0x208)
@@ -218,7 +258,8 @@ class Followed(Case):
             self.unlock()
 
     def test_what_a_right_store_may_lack(self) -> None:
-        """A commit that isn't confirmed, as where its filter was killed; and what a keepalive alone has confirmed."""
+        """A commit that isn't confirmed, as where its filter was killed; and what a keepalive alone
+        has confirmed."""
         self.follow_once()
         self.follow_once(0x208)
         self.patch(feed_module, "position_in", lambda path: int(Path(path).read_text()))
@@ -230,7 +271,8 @@ class Followed(Case):
             self.unlock()
 
     def test_a_commit_above_the_store_that_cant_be_read(self) -> None:
-        """As a power cut may leave one that isn't confirmed. A segment that begins above the store tells that there were others."""
+        """As a power cut may leave one that isn't confirmed. A segment that begins above the store
+        tells that there were others."""
         self.follow_once()
         self.follow_once(0x208)
         self.patch(feed_module, "position_in", lambda path: int(Path(path).read_text()))
@@ -248,12 +290,22 @@ class Followed(Case):
     def test_a_store_that_is_busy_is_waited_for(self) -> None:
         """Unseen it would be opened with its feed later. None is of no use."""
         self.patch(feed_module, "AGAIN", 0)
-        for ends, position in (((FilterEnded(12, "busy"), FilterEnded(-9, ""), 0x50), 0x50), ((FilterEnded(3, "none"),), None)):
-            other = mock.Mock(start=mock.Mock(side_effect=ends), serve=mock.Mock(side_effect=FilterEnded(0, "")))
+        for ends, position in (
+            ((FilterEnded(12, "busy"), FilterEnded(-9, ""), 0x50), 0x50),
+            ((FilterEnded(3, "none"),), None),
+        ):
+            other = mock.Mock(
+                start=mock.Mock(side_effect=ends), serve=mock.Mock(side_effect=FilterEnded(0, ""))
+            )
             with mock.patch.object(feed_module, "Filter", lambda *_, other=other: other):
                 self.assertEqual(feed_module.opened_at(mock.Mock(), lambda: None), position)
-            self.assertEqual((other.start.call_count, other.kill.call_count), (len(ends), len(ends)))
-        self.assertEqual(self.said[0], "warning: the filter ended with status 12: busy: the store is tried again in 0 seconds")
+            self.assertEqual(
+                (other.start.call_count, other.kill.call_count), (len(ends), len(ends))
+            )
+        self.assertEqual(
+            self.said[0],
+            "warning: the filter ended with status 12: busy: the store is tried again in 0 seconds",
+        )
         self.assertEqual(len(self.said), 2)
 
     def test_a_feed_that_was_moved(self) -> None:
@@ -281,7 +333,9 @@ class Refused(Quiet):
 
     def test_a_new_store_and_an_old_feed(self) -> None:
         os.makedirs(self.store + ".feed/readers")
-        with self.assertRaisesRegex(Unfit, "a new store begins a new feed, and the folder .*copy.db.feed isn't empty"):
+        with self.assertRaisesRegex(
+            Unfit, "a new store begins a new feed, and the folder .*copy.db.feed isn't empty"
+        ):
             self.feeding().check()
         os.rmdir(self.store + ".feed/readers")
         self.feeding().check()
@@ -294,9 +348,13 @@ class Refused(Quiet):
     def test_tables_of_an_older_copy(self) -> None:
         rows = self.folder + "/rows.db"
         Path(rows).write_text("x")
-        with self.assertRaisesRegex(FileError, "rows.db is there and has no tables that follow a feed"):
+        with self.assertRaisesRegex(
+            FileError, "rows.db is there and has no tables that follow a feed"
+        ):
             self.feeding(tables=rows).check()
-        with mock.patch.object(tables_process, "is_tables", lambda _: True), self.assertRaisesRegex(Unfit, "has the tables of an older copy"):
+        with mock.patch.object(tables_process, "is_tables", lambda _: True), self.assertRaisesRegex(
+            Unfit, "has the tables of an older copy"
+        ):
             self.feeding(tables=rows).check()
         self.assertFalse(os.path.exists(self.store + ".feed"))
 
@@ -308,9 +366,16 @@ class Refused(Quiet):
             self.assertEqual(stat.S_IMODE(os.stat(f"{self.folder}/{mode:o}").st_mode), made)
 
     def test_words(self) -> None:
-        options = arguments("follow --store s --tables rows.db --feed-max-bytes 10GB --feed-max-age 7d".split())
-        self.assertEqual((options.feed, options.feed_max_bytes, options.feed_max_age), ("s.feed", 10 << 30, 7 * 86400.0))
-        self.assertEqual(arguments("follow --store s --feed f --feed-max-bytes 500".split()).feed_max_bytes, 500)
+        options = arguments(
+            "follow --store s --tables rows.db --feed-max-bytes 10GB --feed-max-age 7d".split()
+        )
+        self.assertEqual(
+            (options.feed, options.feed_max_bytes, options.feed_max_age),
+            ("s.feed", 10 << 30, 7 * 86400.0),
+        )
+        self.assertEqual(
+            arguments("follow --store s --feed f --feed-max-bytes 500".split()).feed_max_bytes, 500
+        )
         self.assertEqual(arguments("follow --store s".split()).feed, "")
 
 
@@ -320,7 +385,9 @@ class Kept(FeedCase):
     def setUp(self) -> None:
         super().setUp()
         self.said: list[str] = []
-        patched = mock.patch("pgsub_feed.log.line", lambda level, text: self.said.append(f"{level}: {text}"))
+        patched = mock.patch(
+            "pgsub_feed.log.line", lambda level, text: self.said.append(f"{level}: {text}")
+        )
         patched.start()
         self.addCleanup(patched.stop)
         for end in range(0x100, 0x600, 0x100):
@@ -342,9 +409,14 @@ class Kept(FeedCase):
         self.keeper().tend(100.0)
         shown = self.progress.shown(0.0, 0.0)
         self.assertEqual(shown["readers"], {"index": {"lsn": "0/250", "lag_bytes": 0x3B0}})
-        self.assertEqual([base for base, _ in segments(str(self.path))], [0x200, 0x300, 0x400, 0x500])
+        self.assertEqual(
+            [base for base, _ in segments(str(self.path))], [0x200, 0x300, 0x400, 0x500]
+        )
         self.keeper().tend(100.0)
-        self.assertEqual(self.progress.feed_bytes, sum(it.stat().st_size for it in self.path.iterdir() if len(it.name) == 16))
+        self.assertEqual(
+            self.progress.feed_bytes,
+            sum(it.stat().st_size for it in self.path.iterdir() if len(it.name) == 16),
+        )
         text = metrics_text(self.progress, 0.0, {"slot": "s"})
         self.assertIn('pgsub_reader_lag_bytes{slot="s",reader="index"} 944\n', text)
         self.assertIn(f'pgsub_feed_bytes{{slot="s"}} {self.progress.feed_bytes}\n', text)
@@ -354,7 +426,10 @@ class Kept(FeedCase):
         self.read("slow", 0x100)
         self.keeper(feed_max_bytes=4000).tend(100.0)
         self.assertEqual([base for base, _ in segments(str(self.path))][-1], 0x500)
-        self.assertIn("warning: the reader slow hadn't read all of that, and has to begin anew: the feed may have 4000 bytes", self.said)
+        self.assertIn(
+            "warning: the reader slow hadn't read all of that, and has to begin anew: the feed may have 4000 bytes",
+            self.said,
+        )
 
     def test_confirmed_is_written_so_often(self) -> None:
         keeper = self.keeper(confirmed=0x600)
@@ -381,8 +456,12 @@ class Kept(FeedCase):
         with mock.patch("os.replace", side_effect=OSError(28, "No space left on device")):
             keeper.tend(100.0)
             keeper.tend(200.0)
-        self.assertEqual(self.said, [f"warning: the feed can't be looked after: {self.path}/confirmed: No space left on device"])
-
+        self.assertEqual(
+            self.said,
+            [
+                f"warning: the feed can't be looked after: {self.path}/confirmed: No space left on device"
+            ],
+        )
 
     def test_a_disk_that_is_full_loses_old_segments(self) -> None:
         self.read("index", 0x250)
@@ -394,9 +473,13 @@ class Kept(FeedCase):
             # (by a keepalive alone)
             keeper.reached = lambda: Reached(0x700, 0x600)
             keeper.tend(101.3)
-        self.assertEqual([base for base, _ in segments(str(self.path))], [0x200, 0x300, 0x400, 0x500])
+        self.assertEqual(
+            [base for base, _ in segments(str(self.path))], [0x200, 0x300, 0x400, 0x500]
+        )
         self.assertEqual(self.progress.readers, {"index": 0x250})
-        told = [f"warning: the feed can't be looked after: {self.path}/confirmed: No space left on device"]
+        told = [
+            f"warning: the feed can't be looked after: {self.path}/confirmed: No space left on device"
+        ]
         self.assertEqual([it for it in self.said if it.startswith("warning")], told)
         keeper.tend(103.0)
         self.assertEqual((read_confirmed(str(self.path)), keeper.causes), (0x700, {}))
@@ -406,8 +489,13 @@ class Kept(FeedCase):
         (self.path / "readers/old").mkdir()
         (self.path / "readers/.nfs0001").write_text("")
         self.keeper().tend(100.0)
-        self.assertEqual([base for base, _ in segments(str(self.path))], [0x200, 0x300, 0x400, 0x500])
-        self.assertEqual((self.progress.readers, [it for it in self.said if it.startswith("warning")]), ({"index": 0x250}, []))
+        self.assertEqual(
+            [base for base, _ in segments(str(self.path))], [0x200, 0x300, 0x400, 0x500]
+        )
+        self.assertEqual(
+            (self.progress.readers, [it for it in self.said if it.startswith("warning")]),
+            ({"index": 0x250}, []),
+        )
 
     def test_a_reader_that_cant_be_read_keeps_all_and_hinders_nothing_else(self) -> None:
         self.read("index", 0x250)
@@ -416,8 +504,15 @@ class Kept(FeedCase):
         keeper.tend(100.0)
         keeper.tend(100.3)
         keeper.tend(120.0)
-        self.assertEqual((len(segments(str(self.path))), read_confirmed(str(self.path))), (6, 0x600))
-        self.assertEqual(self.said, [f"warning: the feed can't be looked after: {self.path}/readers/other: 'x' is not an LSN, as 16/B374D848"])
+        self.assertEqual(
+            (len(segments(str(self.path))), read_confirmed(str(self.path))), (6, 0x600)
+        )
+        self.assertEqual(
+            self.said,
+            [
+                f"warning: the feed can't be looked after: {self.path}/readers/other: 'x' is not an LSN, as 16/B374D848"
+            ],
+        )
 
 
 class Tables(FeedCase):
@@ -429,16 +524,20 @@ class Tables(FeedCase):
         delay = mock.patch.object(tables_process, "FIRST_DELAY", 0.02)
         delay.start()
         self.addCleanup(delay.stop)
-        patch = mock.patch("pgsub_feed.log.line", lambda level, text: self.said.append(f"{level}: {text}"))
+        patch = mock.patch(
+            "pgsub_feed.log.line", lambda level, text: self.said.append(f"{level}: {text}")
+        )
         patch.start()
         self.addCleanup(patch.stop)
         self.into, self.progress = str(self.folder / "rows.db"), Progress()
-        self.options = Options(store=str(self.folder / "copy.db"), feed=str(self.path), tables=self.into)
+        self.options = Options(
+            store=str(self.folder / "copy.db"), feed=str(self.path), tables=self.into
+        )
 
     def kept(self, code: str | None = None) -> Beside:
-        """One that runs this in the place of `pgsub-connect tables`; by default that itself, from the
-        beginning of the feed, which notes at once how far it is, and bears for a short time what is
-        wrong."""
+        """One that runs this in the place of `pgsub-connect tables`; by default that itself, from
+        the beginning of the feed, which notes at once how far it is, and bears for a short time
+        what is wrong."""
         it = Beside(self.options, self.progress)
         if code is not None:
             it.words = [sys.executable, "-S", "-c", code]
@@ -462,12 +561,20 @@ class Tables(FeedCase):
         kept.child.kill()
         self.feed.commit(0x200, [insert("2", "y")])
         self.assertTrue(wait_until(lambda: kept.has(0x200)), self.said)
-        self.assertTrue(any("ended with status -9: it is started again" in it for it in self.said), self.said)
+        self.assertTrue(
+            any("ended with status -9: it is started again" in it for it in self.said), self.said
+        )
         kept.finish()
         self.assertEqual(kept.child.returncode, 0)
         self.assertFalse(os.path.exists(self.into + "-wal"))
         self.assertEqual(self.progress.tables_error, "")
-        self.assertTrue(any(it.startswith("info: tables: ") and it.endswith(f"from {lsn_text(0x100)}") for it in self.said), self.said)
+        self.assertTrue(
+            any(
+                it.startswith("info: tables: ") and it.endswith(f"from {lsn_text(0x100)}")
+                for it in self.said
+            ),
+            self.said,
+        )
 
     def test_a_table_that_is_set_aside_is_shown_until_its_rows_come(self) -> None:
         self.feed.commit(0x100, [insert("1", "x")])
@@ -477,10 +584,15 @@ class Tables(FeedCase):
         self.feed.commit(0x200, [insert("2", "5", of=numbers)])
         self.assertTrue(wait_until(lambda: bool(self.progress.tables_aside)), self.said)
         self.assertTrue(wait_until(lambda: kept.has(0x200)), self.said)
-        self.assertRegex(self.progress.tables_aside["public.stock"], "^since 0/200: the column name has a value that isn't one of its type")
+        self.assertRegex(
+            self.progress.tables_aside["public.stock"],
+            "^since 0/200: the column name has a value that isn't one of its type",
+        )
         self.assertEqual(self.progress.shown(0.0, 0.0)["tables_aside"], self.progress.tables_aside)
         self.progress.feed_bytes = 0
-        self.assertIn('pgsub_tables_aside{slot="s"} 1\n', metrics_text(self.progress, 0.0, {"slot": "s"}))
+        self.assertIn(
+            'pgsub_tables_aside{slot="s"} 1\n', metrics_text(self.progress, 0.0, {"slot": "s"})
+        )
         self.assertEqual(self.progress.tables_error, "")
         self.feed.commit(0x300, [truncate(numbers), insert("2", "5", of=numbers)])
         self.assertTrue(wait_until(lambda: not self.progress.tables_aside), self.said)
@@ -497,7 +609,12 @@ class Tables(FeedCase):
 
     def test_they_end_where_the_follower_is_killed(self) -> None:
         kept = self.kept()
-        self.assertTrue(wait_until(lambda: os.path.exists(self.into) and any("from 0/0" in it for it in self.said)), self.said)
+        self.assertTrue(
+            wait_until(
+                lambda: os.path.exists(self.into) and any("from 0/0" in it for it in self.said)
+            ),
+            self.said,
+        )
         kept.ended.set()
         assert kept.child and kept.child.stdin
         kept.child.stdin.close()
@@ -511,7 +628,12 @@ class Tables(FeedCase):
         kept.join(20)
         self.assertIn("reading 1 NotAFeed", self.progress.tables_error)
         self.assertEqual(self.progress.shown(0.0, 0.0)["tables_error"], self.progress.tables_error)
-        self.assertTrue(any(it.startswith(f"error: {self.into} follows no more, status 3: ") for it in self.said), self.said)
+        self.assertTrue(
+            any(
+                it.startswith(f"error: {self.into} follows no more, status 3: ") for it in self.said
+            ),
+            self.said,
+        )
         self.assertTrue(kept.has(0x500))
 
     def test_what_passes_is_tried_again(self) -> None:
@@ -532,22 +654,43 @@ class Tables(FeedCase):
 
         with mock.patch("subprocess.Popen", start):
             kept = self.kept()
-            self.assertTrue(wait_until(lambda: os.path.exists(kept.reader) and kept.has(0x100)), self.said)
+            self.assertTrue(
+                wait_until(lambda: os.path.exists(kept.reader) and kept.has(0x100)), self.said
+            )
         self.assertTrue(kept.is_alive())
-        self.assertIn(f"warning: {self.into}: what follows can't be started now: Resource temporarily unavailable", self.said)
+        self.assertIn(
+            f"warning: {self.into}: what follows can't be started now: Resource temporarily unavailable",
+            self.said,
+        )
 
     def test_how_it_is_started(self) -> None:
         self.options.init, self.options.mode = "my.sql", 0o640
         options = arguments(words_of(self.options)[3:])
-        self.assertEqual((options.command, options.feed, options.into), ("tables", str(self.path), self.into))
+        self.assertEqual(
+            (options.command, options.feed, options.into), ("tables", str(self.path), self.into)
+        )
         self.assertEqual(options.store, self.options.store)
-        self.assertEqual((options.reader, options.mode, options.while_input, options.once), ("tables", 0o640, True, False))
+        self.assertEqual(
+            (options.reader, options.mode, options.while_input, options.once),
+            ("tables", 0o640, True, False),
+        )
         self.assertEqual(options.init, "my.sql")
 
     def test_modules_where_it_is_started_are_none_of_its_own(self) -> None:
         """Whoever may write there would have their code run."""
         for name in ("json", "argparse", "psycopg", "pgsub_connect"):
-            (self.folder / f"{name}.py").write_text(f"raise SystemExit('the {name} of somebody else')")
-        environment = {name: value for name, value in os.environ.items() if not name.startswith("PYTHON")}
-        done = subprocess.run([*words_of(self.options)[:3], "tables"], cwd=self.folder, env=environment, capture_output=True, check=False, timeout=60)
+            (self.folder / f"{name}.py").write_text(
+                f"raise SystemExit('the {name} of somebody else')"
+            )
+        environment = {
+            name: value for name, value in os.environ.items() if not name.startswith("PYTHON")
+        }
+        done = subprocess.run(
+            [*words_of(self.options)[:3], "tables"],
+            cwd=self.folder,
+            env=environment,
+            capture_output=True,
+            check=False,
+            timeout=60,
+        )
         self.assertIn("the following arguments are required: --feed, --into", done.stderr.decode())

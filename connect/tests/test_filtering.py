@@ -10,9 +10,24 @@ import unittest
 from pathlib import Path
 from unittest import mock
 
-from pgsub_connect.follow import filter as filter_module
 from pgsub_connect.errors import FilterFault, Stopped
-from pgsub_connect.follow.filter import COPY_DONE, Filter, FilterEnded, HEADERS, MISSED, Missing, PIECE, ROOM, STATUS_HEAD, asking, flushed, header, missing_of, without_received
+from pgsub_connect.follow import filter as filter_module
+from pgsub_connect.follow.filter import (
+    COPY_DONE,
+    HEADERS,
+    MISSED,
+    PIECE,
+    ROOM,
+    STATUS_HEAD,
+    Filter,
+    FilterEnded,
+    Missing,
+    asking,
+    flushed,
+    header,
+    missing_of,
+    without_received,
+)
 
 from .fake_server import Quiet
 from .vectors import begin, commit, delete, insert, keepalive
@@ -34,7 +49,10 @@ class Case(Quiet):
             file.write(text)
 
     def filter(self, *words: str) -> Filter:
-        found = Filter([*(words or ("/usr/bin/python3", "-S", "-E", FAKE, "follow")), "--store", self.store], ())
+        found = Filter(
+            [*(words or ("/usr/bin/python3", "-S", "-E", FAKE, "follow")), "--store", self.store],
+            (),
+        )
         self.addCleanup(found.kill)
         return found
 
@@ -79,7 +97,11 @@ class Statuses(Case):
         self.assertEqual((child.start(go_on), parts), (7, [7]))
 
     def test_what_isnt_one(self) -> None:
-        for script in ("printf '%050d' 5", "printf 'd\\0\\0\\0\\047r%040d' 5", "printf 'd\\0\\0\\0\\046k%040d' 5"):
+        for script in (
+            "printf '%050d' 5",
+            "printf 'd\\0\\0\\0\\047r%040d' 5",
+            "printf 'd\\0\\0\\0\\046k%040d' 5",
+        ):
             child = self.shell(f"{script}; cat > /dev/null")
             with self.assertRaisesRegex(FilterFault, "isn't a status"):
                 child.start()
@@ -89,30 +111,49 @@ class Statuses(Case):
         status = STATUS_HEAD[5:] + b"".join(it.to_bytes(8, "big") for it in (9, 5, 5, 1)) + b"\0"
         self.assertEqual(flushed(status), 5)
         self.assertEqual(without_received(status)[1:9], (5).to_bytes(8, "big"))
-        self.assertEqual((without_received(status)[9:], asking(status)), (status[9:], status[:-1] + b"\1"))
+        self.assertEqual(
+            (without_received(status)[9:], asking(status)), (status[9:], status[:-1] + b"\1")
+        )
 
 
 class Ends(Case):
     def test_each_status(self) -> None:
         for status, rejected in (
-            (1, True), (2, True), (3, True), (10, True), (11, True), (12, False), (13, False), (14, False), (15, False),
+            (1, True),
+            (2, True),
+            (3, True),
+            (10, True),
+            (11, True),
+            (12, False),
+            (13, False),
+            (14, False),
+            (15, False),
             (16, False),
         ):
             child = self.shell(f"echo 'pgsub: why {status}' >&2; exit {status}")
             with self.assertRaises(FilterEnded) as raised:
                 child.start()
             ended = raised.exception
-            self.assertEqual((ended.status, ended.said, ended.is_rejection()), (status, f"pgsub: why {status}", rejected))
+            self.assertEqual(
+                (ended.status, ended.said, ended.is_rejection()),
+                (status, f"pgsub: why {status}", rejected),
+            )
             self.assertEqual((ended.is_full(), ended.is_unopened()), (status == 10, status == 12))
 
     def test_a_cause_before_its_fault(self) -> None:
         """It is passed on, and the fault stays what was said last."""
-        child = self.shell("echo 'pgsub: the disk is full' >&2; echo 'pgsub: store 8 Refused' >&2; exit 13")
+        child = self.shell(
+            "echo 'pgsub: the disk is full' >&2; echo 'pgsub: store 8 Refused' >&2; exit 13"
+        )
         with self.assertRaises(FilterEnded) as raised:
             child.start()
         ended = raised.exception
-        self.assertEqual((ended.status, ended.said, ended.is_rejection()), (13, "pgsub: store 8 Refused", False))
-        self.assertEqual(self.said, ["filter: pgsub: the disk is full", "filter: pgsub: store 8 Refused"])
+        self.assertEqual(
+            (ended.status, ended.said, ended.is_rejection()), (13, "pgsub: store 8 Refused", False)
+        )
+        self.assertEqual(
+            self.said, ["filter: pgsub: the disk is full", "filter: pgsub: store 8 Refused"]
+        )
 
     def test_by_a_signal(self) -> None:
         with self.assertRaises(FilterEnded) as raised:
@@ -160,8 +201,16 @@ class Misses(Case):
         most = "pgsub: rows not found: 18446744073709551615, first in relation 4294967295 at FFFFFFFF/FFFFFFFF"
         self.assertEqual(missing_of(most), Missing((1 << 64) - 1, (1 << 64) - 1, (1 << 32) - 1))
         for line in (
-            "", f" {self.LINE}", f"{self.LINE} ", f"{self.LINE}\n", self.LINE[:-9], self.LINE.replace("3,", "-3,"),
-            self.LINE.replace("3,", ","), self.LINE.replace("0/1A2B3C8", "1A2B3C8"), self.LINE.replace("16385", "t"), "pgsub: store 1 Clash",
+            "",
+            f" {self.LINE}",
+            f"{self.LINE} ",
+            f"{self.LINE}\n",
+            self.LINE[:-9],
+            self.LINE.replace("3,", "-3,"),
+            self.LINE.replace("3,", ","),
+            self.LINE.replace("0/1A2B3C8", "1A2B3C8"),
+            self.LINE.replace("16385", "t"),
+            "pgsub: store 1 Clash",
         ):
             self.assertIsNone(missing_of(line), line)
 
@@ -184,13 +233,24 @@ class Misses(Case):
         with mock.patch("select.select", lambda *_: ([child.up], [], [])):
             self.assertEqual(len(child.serve(1.0)[2]), 1)
         self.assertEqual(child.missing, Missing(2, 0x108, 3))
-        child.push_payloads([begin(0x110, 7), insert(3), commit(0x110, 0x118), begin(0x120, 7), delete(9), commit(0x120, 0x128)])
+        child.push_payloads(
+            [
+                begin(0x110, 7),
+                insert(3),
+                commit(0x110, 0x118),
+                begin(0x120, 7),
+                delete(9),
+                commit(0x120, 0x128),
+            ]
+        )
         while child.confirmed() < 0x128:
             self.statuses(child)
         self.assertEqual(child.missing, Missing(3, 0x108, 3))
         child.finish()
         ended = self.end(child)
-        self.assertEqual((ended.status, ended.said, ended.is_rejection(), self.said), (MISSED, "", False, []))
+        self.assertEqual(
+            (ended.status, ended.said, ended.is_rejection(), self.said), (MISSED, "", False, [])
+        )
 
     def test_a_line_in_two_parts(self) -> None:
         """Each of which is read by itself."""
@@ -204,7 +264,9 @@ class Misses(Case):
         self.assertEqual((child.line, child.missing), (b"pgsub: rows not fou", Missing()))
         child.push(b"x\n")
         self.statuses(child)
-        self.assertEqual((child.missing, child.line, self.said), (Missing(3, 0x1A2B3C8, 16385), b"more", []))
+        self.assertEqual(
+            (child.missing, child.line, self.said), (Missing(3, 0x1A2B3C8, 16385), b"more", [])
+        )
         child.push(b"x\n")
         while child.line:
             child.serve(0.01)
@@ -234,7 +296,10 @@ class Misses(Case):
 
     def test_what_it_said_before_it_was_killed(self) -> None:
         """Also a line without its end isn't one."""
-        for line, missing in ((f"{self.LINE}\\n", Missing(3, 0x1A2B3C8, 16385)), (self.LINE, Missing())):
+        for line, missing in (
+            (f"{self.LINE}\\n", Missing(3, 0x1A2B3C8, 16385)),
+            (self.LINE, Missing()),
+        ):
             child = self.shell(f"printf '{self.STATUS}'; read it; printf '{line}' >&2; kill -9 $$")
             child.start()
             child.push(b"x\n")
@@ -284,7 +349,13 @@ class Given(Case):
 
     def test_bytes(self) -> None:
         long = bytes(range(256)) * (PIECE // 256 + 3)
-        lots: list[list[bytes]] = [[keepalive(5), insert(1), long], [], [long], [insert(1)] * 3, [b"x" * 5000]]
+        lots: list[list[bytes]] = [
+            [keepalive(5), insert(1), long],
+            [],
+            [long],
+            [insert(1)] * 3,
+            [b"x" * 5000],
+        ]
         child = self.shell(f"printf 'd\\0\\0\\0\\046r%033d' 0; cat > {self.store}.got")
         child.start()
         for payloads in lots:
@@ -297,7 +368,9 @@ class Given(Case):
         child.finish()
         self.end(child)
         with open(self.store + ".got", "rb") as file:
-            self.assertEqual(file.read(), framed(*(it for payloads in lots for it in payloads)) + COPY_DONE)
+            self.assertEqual(
+                file.read(), framed(*(it for payloads in lots for it in payloads)) + COPY_DONE
+            )
 
     def test_headers(self) -> None:
         for length in (0, 1, 4095, 4096, 70000, 1 << 30):

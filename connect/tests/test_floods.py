@@ -12,8 +12,10 @@ from unittest import mock
 
 from server_messages import described, row
 
-from pgsub_connect.server import connection as connection_module, notices, rows as rows_module
 from pgsub_connect.errors import ServerError, Stopped, WrongAnswer
+from pgsub_connect.server import connection as connection_module
+from pgsub_connect.server import notices
+from pgsub_connect.server import rows as rows_module
 from pgsub_connect.server.connection import Connection
 
 from . import small_server
@@ -148,7 +150,8 @@ class Floods(Case):
         self.assertIs(rows.rows[0][0], rows.rows[1][0])
         self.assertEqual(rows.rows[-1], ["16384", str(3 * rows_module.KEPT - 1), None])
         self.assertLess(
-            rows.taken, 3 * rows_module.KEPT * (rows_module.ROW + 3 * rows_module.VALUE + 2 * rows_module.TEXT)
+            rows.taken,
+            3 * rows_module.KEPT * (rows_module.ROW + 3 * rows_module.VALUE + 2 * rows_module.TEXT),
         )
 
 

@@ -13,24 +13,26 @@ import unittest
 from collections.abc import Callable, Iterator, Sequence
 from unittest import mock
 
-from pgsub_connect.follow import follower as follower_module, statuses
-from pgsub_connect.server import connection as connection_module, session, transport
-from pgsub_connect.store import snapshot
+from pgsub_connect.commands.options import Options
 from pgsub_connect.drift import watch
-from pgsub_connect.follow.awake import Awake
-from pgsub_connect.store.checkpoint import Checkpoint
+from pgsub_connect.drift.findings import About
+from pgsub_connect.drift.remembered import Remembered
 from pgsub_connect.errors import FilterFault, Passing, ServerError, Unconnected, Unfit
+from pgsub_connect.follow import follower as follower_module
+from pgsub_connect.follow import statuses
+from pgsub_connect.follow.awake import Awake
 from pgsub_connect.follow.filter import Filter, FilterEnded, flushed
 from pgsub_connect.follow.follower import Follower
-from pgsub_connect.drift.findings import About
-from pgsub_connect.commands.options import Options
-from pgsub_connect.status.progress import Progress
-from pgsub_connect.drift.remembered import Remembered
-from pgsub_connect.store.at_rest import read_request
+from pgsub_connect.server import connection as connection_module
+from pgsub_connect.server import session, transport
 from pgsub_connect.server.session import Server
+from pgsub_connect.server.transport import Protection
+from pgsub_connect.status.progress import Progress
+from pgsub_connect.store import snapshot
+from pgsub_connect.store.at_rest import read_request
+from pgsub_connect.store.checkpoint import Checkpoint
 from pgsub_connect.store.snapshot import Snapshots
 from pgsub_feed.texts import lsn_text, parse_lsn
-from pgsub_connect.server.transport import Protection
 
 from .fake_server import FakeServer, Quiet, Row
 from .small_server import READY, SmallServer, error
@@ -51,18 +53,25 @@ class Case(Quiet):
         self.standby, self.started = "f", "1000"
         self.slots: list[Row] = [["pgoutput", "t", "f", "0"]]
         answers: Sequence[tuple[str, Callable[[str], list[Row]]]] = (
-            ("IDENTIFY_SYSTEM", lambda _: [self.identity]), ("pg_is_in_recovery", lambda _: [[self.standby]]),
-            ("pg_postmaster_start_time", lambda _: [[self.started]]), ("s.confirmed_flush_lsn", lambda _: self.slots),
-            ("SHOW wal_sender_timeout", lambda _: [["1min"]]), ("TIMELINE_HISTORY", lambda _: [["x", "1\t0/500\treason"]]),
-            ("set_config", lambda _: [[""]]), ("pg_current_wal_insert_lsn", lambda _: [["0/800", "0/800", "16777216"]]),
+            ("IDENTIFY_SYSTEM", lambda _: [self.identity]),
+            ("pg_is_in_recovery", lambda _: [[self.standby]]),
+            ("pg_postmaster_start_time", lambda _: [[self.started]]),
+            ("s.confirmed_flush_lsn", lambda _: self.slots),
+            ("SHOW wal_sender_timeout", lambda _: [["1min"]]),
+            ("TIMELINE_HISTORY", lambda _: [["x", "1\t0/500\treason"]]),
+            ("set_config", lambda _: [[""]]),
+            ("pg_current_wal_insert_lsn", lambda _: [["0/800", "0/800", "16777216"]]),
         )
         for part, call in answers:
             self.brain.answer(part, call)
         self.server = SmallServer(self.folder, self.brain)
         self.addCleanup(self.server.close)
         for where, name, by in (
-            (connection_module, "TICK", 0.02), (follower_module, "STEP", 0.02), (statuses, "QUIET", 0.3),
-            (follower_module, "SLEEP", 0.02), (follower_module, "FIRST_DELAY", 0.02),
+            (connection_module, "TICK", 0.02),
+            (follower_module, "STEP", 0.02),
+            (statuses, "QUIET", 0.3),
+            (follower_module, "SLEEP", 0.02),
+            (follower_module, "FIRST_DELAY", 0.02),
         ):
             self.patch(where, name, by)
         self.patch(watch.Watch, "compare", lambda *_: True)
@@ -79,13 +88,26 @@ class Case(Quiet):
             with open(self.store, "w", encoding="ascii") as file:
                 file.write("0")
         chosen = Options(store=self.store, dsn=self.server.dsn(), publication=["pgsub"], **options)  # type: ignore[arg-type]
-        child = Filter(["/usr/bin/python3", "-S", "-E", FAKE, "follow", "--store", self.store], (self.checkpoint.file,))
+        child = Filter(
+            ["/usr/bin/python3", "-S", "-E", FAKE, "follow", "--store", self.store],
+            (self.checkpoint.file,),
+        )
         self.addCleanup(child.kill)
         self.progress, remembered = Progress(), Remembered(self.store)
         remembered.begin_copy(a_catalog(a_table(1, "t")), 100)
-        return Follower(chosen, self.checkpoint, child, self.progress, None, Snapshots(self.store, None, 0.0), remembered)
+        return Follower(
+            chosen,
+            self.checkpoint,
+            child,
+            self.progress,
+            None,
+            Snapshots(self.store, None, 0.0),
+            remembered,
+        )
 
-    def run_until(self, follower: Follower, holds: Callable[[], bool], seconds: float = 20.0) -> None:
+    def run_until(
+        self, follower: Follower, holds: Callable[[], bool], seconds: float = 20.0
+    ) -> None:
         """Follows in a thread until something holds, and then asks for the end."""
         raised: list[BaseException] = []
 
@@ -121,7 +143,10 @@ class Sessions(Case):
     def test_commits_are_confirmed_once_they_are_stored(self) -> None:
         self.server.to_send = [begin(0x100, 7), insert(1), commit(0x100, 0x108)]
         self.run_until(self.follower(), lambda: self.confirmed() == 0x108)
-        self.assertEqual((self.progress.passed_commits, self.progress.confirmed, self.progress.position), (1, 0x108, 0x108))
+        self.assertEqual(
+            (self.progress.passed_commits, self.progress.confirmed, self.progress.position),
+            (1, 0x108, 0x108),
+        )
         with open(self.store, encoding="ascii") as file:
             self.assertEqual(file.read(), str(0x108))
         self.assertEqual(self.checkpoint.read().position, 0x108)
@@ -164,9 +189,21 @@ class Sessions(Case):
         waits = set[tuple[bool, str | None]]()
         serve = follower.filter.serve
 
-        def note(timeout: float, reads: Sequence[int] = (), writes: Sequence[int] = (), awake: Awake | None = None) -> object:
+        def note(
+            timeout: float,
+            reads: Sequence[int] = (),
+            writes: Sequence[int] = (),
+            awake: Awake | None = None,
+        ) -> object:
             if self.progress.state == "following":
-                waits.add((bool(follower.noting.ends), {follower.for_statuses: "status", follower.for_commits: "commit"}.get(awake)))
+                waits.add(
+                    (
+                        bool(follower.noting.ends),
+                        {follower.for_statuses: "status", follower.for_commits: "commit"}.get(
+                            awake
+                        ),
+                    )
+                )
             return serve(timeout, reads, writes, awake)
 
         self.patch(follower.filter, "serve", note)
@@ -205,7 +242,11 @@ class Sessions(Case):
         follower = self.follower()
         follower.confirming.last_moved = time.monotonic()
         ends = iter([True])
-        self.patch(follower.adder, "wants_session", lambda: follower.confirming.held is not None and next(ends, False))
+        self.patch(
+            follower.adder,
+            "wants_session",
+            lambda: follower.confirming.held is not None and next(ends, False),
+        )
 
         def holds() -> bool:
             # (a session's first status passes on what waits)
@@ -218,7 +259,12 @@ class Sessions(Case):
 
     def test_until(self) -> None:
         for until, end in ((0x104, 0x108), ("now", 0x800)):
-            self.server.to_send = [begin(0x100, 7), insert(1), commit(0x100, 0x108), keepalive(0x800)]
+            self.server.to_send = [
+                begin(0x100, 7),
+                insert(1),
+                commit(0x100, 0x108),
+                keepalive(0x800),
+            ]
             follower = self.follower(until=until)
             self.run_until(follower, lambda follower=follower, end=end: follower.filter.status != b"" and follower.filter.confirmed() >= end)  # type: ignore[misc]
             self.assertTrue(follower.stop_asked)
@@ -227,7 +273,10 @@ class Sessions(Case):
     def test_silence(self) -> None:
         """A server is asked for an answer at half of the limit, and given up at the limit."""
         self.server.answers_asking = False
-        follower, said = self.follower(silence=0.4), "warning: the server said nothing for 0 seconds"
+        follower, said = (
+            self.follower(silence=0.4),
+            "warning: the server said nothing for 0 seconds",
+        )
         # (on a busy machine the beginning of a session may take longer)
         follower.was_connected = True
         self.run_until(
@@ -235,16 +284,22 @@ class Sessions(Case):
         )
 
     def test_a_publication_that_the_server_passes_over(self) -> None:
-        """From 18 on it leaves out the changes of one that wasn't there yet at their place in the log, and tells that by a warning."""
+        """From 18 on it leaves out the changes of one that wasn't there yet at their place in the
+        log, and tells that by a warning."""
         text = 'skipped loading publication "late"'
-        self.server.notices = error(text, "55000", b"N", "LoadPublications") + error("careful", "01000", b"N")
+        self.server.notices = error(text, "55000", b"N", "LoadPublications") + error(
+            "careful", "01000", b"N"
+        )
         self.server.to_send = [begin(0x100, 7), insert(1), commit(0x100, 0x108)]
         follower = self.follower()
         follower.options.publication = ["pgsub", "late"]
         found = f"the server leaves out changes from before a publication was made: {text}"
         self.run_until(follower, lambda: self.confirmed() == 0x108)
         self.assertIn(f"warning: found: publication at 0/0: {found}", self.said)
-        self.assertEqual(follower.watch.remembered.found["publication"].texts, {found: About(publication="late", is_missing=True)})
+        self.assertEqual(
+            follower.watch.remembered.found["publication"].texts,
+            {found: About(publication="late", is_missing=True)},
+        )
         self.assertEqual(list(self.checkpoint.read().found), ["publication"])
         self.checkpoint.write(True, found={})
         follower = self.follower_again(strict=True)
@@ -294,7 +349,9 @@ class Sessions(Case):
         shows = follower.noting.show
         self.patch(follower.noting, "show", lambda: (shows(), next(passes, 0) if taken else 0))
         self.run_until(follower, lambda: bool(taken) and next(passes, None) is None)
-        self.assertEqual((self.server.sessions, [it for it in self.said if "said nothing" in it]), (1, []))
+        self.assertEqual(
+            (self.server.sessions, [it for it in self.said if "said nothing" in it]), (1, [])
+        )
 
     def test_a_server_that_hangs_while_a_table_is_added(self) -> None:
         """Nothing of the session is read meanwhile, so it is asked on another connection."""
@@ -302,13 +359,22 @@ class Sessions(Case):
         self.patch(connection_module, "CONNECT_LIMIT", 0.05)
         self.patch(session, "QUICK", 0.05)
         follower = self.follower(silence=30.0)
-        follower.confirming.last_sent, now, self.progress.server_started = time.monotonic(), time.monotonic(), 1000
+        follower.confirming.last_sent, now, self.progress.server_started = (
+            time.monotonic(),
+            time.monotonic(),
+            1000,
+        )
         for heard, lets_in, refusal, fails in (
-            (now, False, b"", False), (now - 40.0, True, b"", False), (now - 40.0, False, b"", True), (now - 40.0, True, error("no", "53300"), False),
+            (now, False, b"", False),
+            (now - 40.0, True, b"", False),
+            (now - 40.0, False, b"", True),
+            (now - 40.0, True, error("no", "53300"), False),
         ):
             follower.heard, self.server.lets_in, self.server.refusal = heard, lets_in, refusal
             if fails:
-                with self.assertRaisesRegex(ServerError, "the server said nothing for 30 seconds") as raised:
+                with self.assertRaisesRegex(
+                    ServerError, "the server said nothing for 30 seconds"
+                ) as raised:
                     follower.attend()
                 self.assertFalse(raised.exception.is_lasting())
             else:
@@ -316,7 +382,12 @@ class Sessions(Case):
                 self.assertLess(time.monotonic() - follower.heard, 20.0)
         for started, silent in ((1000, "pg_postmaster_start_time"), (999, "")):
             # (a server that was started since isn't the one that is waited for)
-            self.server.refusal, self.server.silent, follower.heard, self.progress.server_started = b"", silent, now - 40.0, started
+            (
+                self.server.refusal,
+                self.server.silent,
+                follower.heard,
+                self.progress.server_started,
+            ) = (b"", silent, now - 40.0, started)
             with self.assertRaisesRegex(ServerError, "said nothing"):
                 follower.attend()
 
@@ -330,13 +401,28 @@ class Sessions(Case):
         """What may pass is told, and what won't is raised."""
         follower = self.follower()
         for end in (follower.finish_filter, follower.end_session_by_ourselves):
-            for status, said in ((0, []), (13, ["warning: the filter ended with status 13: pgsub: store 8 Refused"])):
+            for status, said in (
+                (0, []),
+                (13, ["warning: the filter ended with status 13: pgsub: store 8 Refused"]),
+            ):
                 self.said.clear()
                 ended = FilterEnded(status, "pgsub: store 8 Refused" if status else "")
-                with mock.patch.multiple(follower.filter, create=True, runs=True, takes=False, serve=mock.Mock(side_effect=ended)):
+                with mock.patch.multiple(
+                    follower.filter,
+                    create=True,
+                    runs=True,
+                    takes=False,
+                    serve=mock.Mock(side_effect=ended),
+                ):
                     end()
                 self.assertEqual(self.said, said)
-            with mock.patch.multiple(follower.filter, create=True, runs=True, takes=False, serve=mock.Mock(side_effect=FilterEnded(1, "x"))):
+            with mock.patch.multiple(
+                follower.filter,
+                create=True,
+                runs=True,
+                takes=False,
+                serve=mock.Mock(side_effect=FilterEnded(1, "x")),
+            ):
                 with self.assertRaises(FilterEnded):
                     end()
 
@@ -350,7 +436,8 @@ class Sessions(Case):
 
 
 class Meets(Case):
-    """A copy at an LSN that somebody tells: none of the commits above it, and all of those below."""
+    """A copy at an LSN that somebody tells: none of the commits above it, and all of those
+    below."""
 
     def setUp(self) -> None:
         super().setUp()
@@ -383,7 +470,8 @@ class Meets(Case):
             yield
 
     def meet(self, then: Sequence[bytes], point: int, expected: int) -> None:
-        """Passes a commit on, and has the copy taken at a point that comes with these payloads. The last of them ends at 0x208."""
+        """Passes a commit on, and has the copy taken at a point that comes with these payloads. The
+        last of them ends at 0x208."""
         self.running = self.follower()
         self.server.to_send = [begin(0x100, 7), insert(1), commit(0x100, 0x108)]
         closing = contextlib.ExitStack()
@@ -391,7 +479,9 @@ class Meets(Case):
         with closing:
             self.run_until(self.running, lambda: next(steps))
 
-    def steps(self, closing: contextlib.ExitStack, then: Sequence[bytes], point: int, expected: int) -> Iterator[bool]:
+    def steps(
+        self, closing: contextlib.ExitStack, then: Sequence[bytes], point: int, expected: int
+    ) -> Iterator[bool]:
         while self.confirmed() != 0x108:
             yield False
         closing.enter_context(self.asked())
@@ -410,11 +500,25 @@ class Meets(Case):
             yield True
 
     def test_between_commits(self) -> None:
-        pairs = [it for lsn in (0x110, 0x120, 0x200) for it in (begin(lsn, 7), insert(1), commit(lsn, lsn + 8))]
+        pairs = [
+            it
+            for lsn in (0x110, 0x120, 0x200)
+            for it in (begin(lsn, 7), insert(1), commit(lsn, lsn + 8))
+        ]
         self.meet(pairs, 0x130, 0x128)
 
     def test_a_commit_that_ends_there(self) -> None:
-        self.meet([begin(0x110, 7), insert(1), commit(0x110, 0x118), begin(0x200, 8), commit(0x200, 0x208)], 0x118, 0x118)
+        self.meet(
+            [
+                begin(0x110, 7),
+                insert(1),
+                commit(0x110, 0x118),
+                begin(0x200, 8),
+                commit(0x200, 0x208),
+            ],
+            0x118,
+            0x118,
+        )
 
     def test_a_quiet_server(self) -> None:
         """It is asked how far it is."""
@@ -431,7 +535,8 @@ class Fits(Case):
         follower.connect()
 
     def check(self, *, timeline: int, started: int, position: int, now: Server) -> None:
-        """Checks the timeline of a server, where the last session had this one and the store is there."""
+        """Checks the timeline of a server, where the last session had this one and the store is
+        there."""
         follower = self.follower()
         self.checkpoint.write(False, timeline=timeline, started=started, position=position)
         connection = connection_module.Connection(self.server.dsn())
@@ -447,10 +552,17 @@ class Fits(Case):
             with self.subTest(timeline=timeline, position=position):
                 self.patch(Checkpoint, "lock", lambda *_: None)
                 if fits:
-                    self.check(timeline=1, started=1000, position=position, now=self.server_now(timeline))
+                    self.check(
+                        timeline=1, started=1000, position=position, now=self.server_now(timeline)
+                    )
                 else:
                     with self.assertRaisesRegex(Unfit, "changes that the server hasn't"):
-                        self.check(timeline=1, started=1000, position=position, now=self.server_now(timeline))
+                        self.check(
+                            timeline=1,
+                            started=1000,
+                            position=position,
+                            now=self.server_now(timeline),
+                        )
                     self.assertIn("history", self.checkpoint.read().found)
 
     def test_an_older_timeline(self) -> None:
@@ -478,7 +590,10 @@ class Fits(Case):
         self.connect(follower)
         self.assertEqual(self.checkpoint.read().timeline, 2)
         text = "the server's commits from 0/500 to 0/900 are missing, and the store has others: verify --repair, then --accept history again"
-        self.assertEqual((self.checkpoint.read().found, list(follower.watch.remembered.found["history"].texts)), ({"history": "0/900"}, [text]))
+        self.assertEqual(
+            (self.checkpoint.read().found, list(follower.watch.remembered.found["history"].texts)),
+            ({"history": "0/900"}, [text]),
+        )
         self.assertIn(f"warning: found: history at 0/900: {text}", self.said)
         follower.disconnect()
         self.identity[1], self.started = "3", "3000"
@@ -488,39 +603,76 @@ class Fits(Case):
         self.assertIn("history", self.checkpoint.read().found)
 
     def test_a_history_that_is_accepted_confirms_nothing_more(self) -> None:
-        """What a keepalive has confirmed above the position is of the other history: the new one's commits there are to come."""
+        """What a keepalive has confirmed above the position is of the other history: the new one's
+        commits there are to come."""
         self.identity[1] = "2"
-        for position, left, strict in ((0x900, "0/500", False), (0x500, "0/500", False), (0x900, "0/500", True), (0x900, "0/900", True)):
+        for position, left, strict in (
+            (0x900, "0/500", False),
+            (0x500, "0/500", False),
+            (0x900, "0/500", True),
+            (0x900, "0/900", True),
+        ):
             with self.subTest(position=position, left=left, strict=strict):
                 self.brain.answer("TIMELINE_HISTORY", [["x", f"1\t{left}\treason"]])
                 follower = self.follower_alone(accept=["history"], strict=strict)
-                self.checkpoint.write(False, phase="following", timeline=1, started=1, confirmed=0xA00, position=position, found={})
-                follower.confirming.position, follower.filter.status = position, b"r" + 4 * (0xA00).to_bytes(8, "big")
+                self.checkpoint.write(
+                    False,
+                    phase="following",
+                    timeline=1,
+                    started=1,
+                    confirmed=0xA00,
+                    position=position,
+                    found={},
+                )
+                follower.confirming.position, follower.filter.status = position, b"r" + 4 * (
+                    0xA00
+                ).to_bytes(8, "big")
                 self.addCleanup(follower.disconnect)
                 found = position > parse_lsn(left)
-                with self.assertRaisesRegex(Unfit if found and strict else ServerError, "are missing" if found and strict else "started anew"):
+                with self.assertRaisesRegex(
+                    Unfit if found and strict else ServerError,
+                    "are missing" if found and strict else "started anew",
+                ):
                     follower.connect()
                 known = self.checkpoint.read()
-                self.assertEqual((known.timeline, known.confirmed, "history" in known.found), (2, position, found))
+                self.assertEqual(
+                    (known.timeline, known.confirmed, "history" in known.found),
+                    (2, position, found),
+                )
 
     def test_each_session_is_judged(self) -> None:
-        """What is warned of is told once, until it is another thing. The checkpoint keeps that TLS was in use, and so does the process."""
+        """What is warned of is told once, until it is another thing. The checkpoint keeps that TLS
+        was in use, and so does the process."""
         follower, own = self.follower_alone(), transport.Trust()
         plain, unverified = Protection("plain", (), False), Protection("tls", (), False)
-        for protection, warnings, kept in ((plain, 1, False), (plain, 1, False), (unverified, 2, True), (unverified, 2, True)):
-            with mock.patch.object(transport, "protection_of", return_value=protection), mock.patch.object(transport, "OWN", own):
+        for protection, warnings, kept in (
+            (plain, 1, False),
+            (plain, 1, False),
+            (unverified, 2, True),
+            (unverified, 2, True),
+        ):
+            with mock.patch.object(
+                transport, "protection_of", return_value=protection
+            ), mock.patch.object(transport, "OWN", own):
                 self.connect(follower)
                 follower.disconnect()
             self.assertEqual(sum("warning: the connection is" in it for it in self.said), warnings)
             self.assertIs(self.checkpoint.read().encrypted, kept)
-        with mock.patch.object(transport, "protection_of", return_value=plain), mock.patch.object(transport, "OWN", own):
-            with self.assertRaisesRegex(Unfit, "isn't encrypted, and the connections were encrypted before.*--accept plaintext"):
+        with mock.patch.object(transport, "protection_of", return_value=plain), mock.patch.object(
+            transport, "OWN", own
+        ):
+            with self.assertRaisesRegex(
+                Unfit,
+                "isn't encrypted, and the connections were encrypted before.*--accept plaintext",
+            ):
                 self.connect(follower)
 
     def test_a_promotion_ends_the_session(self) -> None:
         follower = self.follower()
         self.run_until(follower, lambda: self.promoted() and self.server.sessions >= 2)
-        self.assertIn("warning: the standby was promoted: a session with the new primary is begun", self.said)
+        self.assertIn(
+            "warning: the standby was promoted: a session with the new primary is begun", self.said
+        )
 
     def promoted(self) -> bool:
         if self.server.sessions == 1 and self.progress.state == "following":
@@ -537,8 +689,10 @@ class Fits(Case):
 
     def test_slots(self) -> None:
         cases: Sequence[tuple[list[Row], str, type[Exception], str]] = (
-            ([], "f", Unfit, "the server has no slot"), ([], "t", ServerError, "a standby without the slot"),
-            ([["pgoutput", "t", "t", "0"]], "f", Unfit, "two-phase"), ([["test_decoding", "t", "f", "0"]], "f", Unfit, "not one of pgoutput"),
+            ([], "f", Unfit, "the server has no slot"),
+            ([], "t", ServerError, "a standby without the slot"),
+            ([["pgoutput", "t", "t", "0"]], "f", Unfit, "two-phase"),
+            ([["test_decoding", "t", "f", "0"]], "f", Unfit, "not one of pgoutput"),
             ([["pgoutput", "f", "f", "0"]], "f", Unfit, "not one of pgoutput in this database"),
             ([["pgoutput", "t", "f", None]], "f", ServerError, "still being made"),
         )
@@ -554,8 +708,13 @@ class Fits(Case):
         self.assertEqual(self.brain.told("START_REPLICATION"), [])
 
     def test_a_standby_that_cant_be_followed_yet(self) -> None:
-        """Its slot is one that it keeps for its promotion, or it can't decode; but a slot that is lost stays so."""
-        for sqlstate, status, lasts in (("55000", "reserved", False), ("0A000", "reserved", False), ("55000", "lost", True)):
+        """Its slot is one that it keeps for its promotion, or it can't decode; but a slot that is
+        lost stays so."""
+        for sqlstate, status, lasts in (
+            ("55000", "reserved", False),
+            ("0A000", "reserved", False),
+            ("55000", "lost", True),
+        ):
             with self.subTest(sqlstate=sqlstate, status=status):
                 self.brain.answer("s.wal_status", [[status]])
                 follower, server = self.follower_alone(), self.server_now(1, standby=True)
@@ -577,12 +736,15 @@ class Fits(Case):
 
     def test_another_server(self) -> None:
         for change, error, text in (
-            ({"system": "78"}, Unfit, "and not slot pgsub of shop of 77"), ({"database": "other"}, Unfit, "database other"),
+            ({"system": "78"}, Unfit, "and not slot pgsub of shop of 77"),
+            ({"database": "other"}, Unfit, "database other"),
             ({"slot": "other"}, Unfit, "follows slot other"),
         ):
             with self.subTest(text):
                 follower = self.follower_alone()
-                self.checkpoint.write(False, **{"system": "77", "database": "shop", "slot": "pgsub", **change})
+                self.checkpoint.write(
+                    False, **{"system": "77", "database": "shop", "slot": "pgsub", **change}
+                )
                 with self.assertRaisesRegex(error, text):
                     follower.fitting.check_server(self.server_now(1), 0, 0)
 
@@ -591,13 +753,18 @@ class Fits(Case):
         self.patch(Checkpoint, "lock", lambda *_: None)
         self.brain.answer("FROM pg_catalog.pg_database", [["16384"]])
         self.connect(self.follower())
-        self.assertEqual((Remembered(self.store).database, self.checkpoint.read().database), (None, "shop"))
+        self.assertEqual(
+            (Remembered(self.store).database, self.checkpoint.read().database), (None, "shop")
+        )
         self.identity[3] = "store"
         follower = self.follower()
         follower.watch.remembered.note_database(16384, "shop")
         self.connect(follower)
         self.assertIn("warning: the database shop was renamed: it is store now", self.said)
-        self.assertEqual((follower.watch.remembered.database, self.checkpoint.read().database), ((16384, "store"), "store"))
+        self.assertEqual(
+            (follower.watch.remembered.database, self.checkpoint.read().database),
+            ((16384, "store"), "store"),
+        )
         follower.watch.remembered.save()
         self.assertEqual(Remembered(self.store).database, (16384, "store"))
         self.brain.answer("FROM pg_catalog.pg_database", [["16385"]])
@@ -619,17 +786,32 @@ class Fits(Case):
         follower = self.follower_alone()
         self.checkpoint.write(False, system="77", database="shop", slot="pgsub")
         with self.assertRaisesRegex(Unfit, "not slot pgsub of store"):
-            follower.fitting.check_server(Server("77", 1, 0x1000000, "store", False, 1000, 16384), 0, 0)
+            follower.fitting.check_server(
+                Server("77", 1, 0x1000000, "store", False, 1000, 16384), 0, 0
+            )
 
     def test_a_slot_that_is_lost(self) -> None:
         """The server's text, why, and what to do."""
         self.server.version = "18.1"
-        for reason, why in (("idle_timeout", "idle_replication_slot_timeout"), ("wal_removed", "max_slot_wal_keep_size"), (None, "has removed log")):
+        for reason, why in (
+            ("idle_timeout", "idle_replication_slot_timeout"),
+            ("wal_removed", "max_slot_wal_keep_size"),
+            (None, "has removed log"),
+        ):
             self.patch(Checkpoint, "lock", lambda *_: None)
             self.brain.answer("s.wal_status", [["lost"]])
             self.brain.answer("s.invalidation_reason", [[reason]])
-            self.patch(self.server, "copy", lambda peer: peer.sendall(error('can no longer access replication slot "pgsub"', "55000") + READY))
-            with self.assertRaisesRegex(ServerError, f"can no longer access(.|\n)*{why}.*pgsub-connect drop.*--create copies anew") as raised:
+            self.patch(
+                self.server,
+                "copy",
+                lambda peer: peer.sendall(
+                    error('can no longer access replication slot "pgsub"', "55000") + READY
+                ),
+            )
+            with self.assertRaisesRegex(
+                ServerError,
+                f"can no longer access(.|\n)*{why}.*pgsub-connect drop.*--create copies anew",
+            ) as raised:
                 self.connect(self.follower())
             self.assertTrue(raised.exception.is_lasting())
 
@@ -637,29 +819,46 @@ class Fits(Case):
         with self.assertRaisesRegex(Unfit, "it lost changes.*Copy anew.*--accept history"):
             self.follower_alone().fitting.check_server(self.server_now(1), 0x2000000, 0)
         with self.assertRaisesRegex(ServerError, "a standby whose log ends") as raised:
-            self.follower_alone().fitting.check_server(self.server_now(1, standby=True), 0x2000000, 0)
+            self.follower_alone().fitting.check_server(
+                self.server_now(1, standby=True), 0x2000000, 0
+            )
         self.assertFalse(raised.exception.is_lasting())
 
     def test_a_new_primary_behind_what_a_keepalive_confirmed(self) -> None:
-        """The old one has written what isn't published behind the LSN at which the new one left it: the copy has nothing of that."""
+        """The old one has written what isn't published behind the LSN at which the new one left it:
+        the copy has nothing of that."""
         self.brain.answer("TIMELINE_HISTORY", [["x", "1\t0/900\treason"]])
         self.identity[1] = "2"
         follower = self.follower()
-        self.checkpoint.write(False, phase="following", timeline=1, started=1, confirmed=0x2000000, position=0x500)
-        follower.confirming.position, follower.filter.status = 0x500, b"r" + 4 * (0x2000000).to_bytes(8, "big")
+        self.checkpoint.write(
+            False, phase="following", timeline=1, started=1, confirmed=0x2000000, position=0x500
+        )
+        follower.confirming.position, follower.filter.status = 0x500, b"r" + 4 * (
+            0x2000000
+        ).to_bytes(8, "big")
         self.addCleanup(follower.disconnect)
-        with self.assertRaisesRegex(ServerError, "the filter is started anew on the server's new timeline") as raised:
+        with self.assertRaisesRegex(
+            ServerError, "the filter is started anew on the server's new timeline"
+        ) as raised:
             follower.connect()
         self.assertFalse(raised.exception.is_lasting())
-        self.assertEqual((self.checkpoint.read().confirmed, self.checkpoint.read().timeline), (0x900, 2))
+        self.assertEqual(
+            (self.checkpoint.read().confirmed, self.checkpoint.read().timeline), (0x900, 2)
+        )
         follower.disconnect()
         follower.filter.status = b"r" + 4 * (0x500).to_bytes(8, "big")
         follower.connect()
-        self.assertIn("START_REPLICATION SLOT \"pgsub\" LOGICAL 0/500", self.brain.told("START_REPLICATION")[0])
+        self.assertIn(
+            'START_REPLICATION SLOT "pgsub" LOGICAL 0/500', self.brain.told("START_REPLICATION")[0]
+        )
 
     def test_protocols(self) -> None:
         for version, asked, proto, streams in (
-            (130000, 2, 1, False), (130000, 1, 1, False), (150000, 2, 2, True), (150000, 1, 1, False), (180000, 1, 2, False),
+            (130000, 2, 1, False),
+            (130000, 1, 1, False),
+            (150000, 2, 2, True),
+            (150000, 1, 1, False),
+            (180000, 1, 2, False),
             (180000, 2, 2, True),
         ):
             follower = self.follower_alone()
@@ -693,9 +892,14 @@ class Errors(Case):
                 self.note(ServerError("x", sqlstate))
 
     def test_errors_of_connecting(self) -> None:
-        """A password that was just changed, or LDAP that is away, ends a start, and not a follower that was let in before."""
+        """A password that was just changed, or LDAP that is away, ends a start, and not a follower
+        that was let in before."""
         for error in (
-            ServerError("x", "28000"), Unconnected("x", "28P01"), Unconnected("x", "28000"), Unconnected("x", "55000"), Unconnected("x", "3D000"),
+            ServerError("x", "28000"),
+            Unconnected("x", "28P01"),
+            Unconnected("x", "28000"),
+            Unconnected("x", "55000"),
+            Unconnected("x", "3D000"),
         ):
             self.note(error)
             self.assertEqual(self.said, ["warning: x"])
@@ -706,13 +910,18 @@ class Errors(Case):
     def test_a_value_that_cant_be_sent(self) -> None:
         """It is tried some times at one LSN, and given up with its cure."""
         self.patch(Checkpoint, "lock", lambda *_: None)
-        follower, wrong = self.follower(), ServerError('invalid byte sequence for encoding "UTF8": 0xff', "22021")
+        follower, wrong = self.follower(), ServerError(
+            'invalid byte sequence for encoding "UTF8": 0xff', "22021"
+        )
         follower.was_connected = True
         for position in (0x100, 0x100, 0x100, 0x100, 0x108, 0x108, 0x108, 0x108):
             follower.confirming.position = position
             follower.note_error(wrong)
         follower.note_error(ServerError("terminating connection", "57P01"))
-        with self.assertRaisesRegex(ServerError, "0xff\nthe server can't send a change behind 0/108, in 5 attempts.*copies anew") as raised:
+        with self.assertRaisesRegex(
+            ServerError,
+            "0xff\nthe server can't send a change behind 0/108, in 5 attempts.*copies anew",
+        ) as raised:
             follower.note_error(wrong)
         self.assertTrue(raised.exception.is_lasting())
 
@@ -725,9 +934,13 @@ class Errors(Case):
 
 class Children(Case):
     def test_no_secrets(self) -> None:
-        with mock.patch.dict(os.environ, {"PGPASSWORD": "secret", "PGHOST": "h", "LANG": "C"}), mock.patch(
+        with mock.patch.dict(
+            os.environ, {"PGPASSWORD": "secret", "PGHOST": "h", "LANG": "C"}
+        ), mock.patch(
             "subprocess.Popen", side_effect=OSError(errno.ENOENT, "No such file")
-        ) as started, self.assertRaises(FilterFault):
+        ) as started, self.assertRaises(
+            FilterFault
+        ):
             Filter(["pgsub"], ()).launch()
         environment = started.call_args.kwargs["env"]
         self.assertEqual([it for it in environment if it.startswith("PG")], [])
@@ -735,7 +948,9 @@ class Children(Case):
 
     def test_no_process_to_be_had(self) -> None:
         for number in (errno.EAGAIN, errno.ENOMEM):
-            with mock.patch("subprocess.Popen", side_effect=OSError(number, "x")), self.assertRaises(Passing):
+            with mock.patch(
+                "subprocess.Popen", side_effect=OSError(number, "x")
+            ), self.assertRaises(Passing):
                 Filter(["pgsub"], ()).launch()
 
 

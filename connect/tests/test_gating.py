@@ -12,28 +12,30 @@ from collections.abc import Iterator
 from unittest import mock
 
 from pgsub_connect.add import addable, adder
-from pgsub_connect.follow import follower, gate
 from pgsub_connect.commands import verify
+from pgsub_connect.commands.options import Options
 from pgsub_connect.errors import Delayed, Passing, ServerError, Stopped, Unrepaired
+from pgsub_connect.follow import follower, gate
 from pgsub_connect.follow.filter import flushed
 from pgsub_connect.follow.gate import Gating, Making, is_shared, too_large_to_copy
 from pgsub_connect.follow.hold import Hold
-from pgsub_connect.verify.meeting_point import Request
-from pgsub_connect.commands.options import Options
 from pgsub_connect.server.connection import never
 from pgsub_connect.status.progress import Progress
 from pgsub_connect.store.at_rest import read_request
 from pgsub_connect.store.snapshot import Snapshots
+from pgsub_connect.verify.meeting_point import Request
 from pgsub_feed.texts import lsn_text
 
-from .adding_case import OTHER, Run, T
+from .adding_case import OTHER
 from .adding_case import Case as AddingCase
+from .adding_case import Run, T
 from .fake_server import FakeServer, Quiet, Row
 from .small_world import WorldSource, insert, table, wait_for
 from .stores import StoreCase
 from .test_repairing import Repairs as RepairsCase
-from .vectors import begin, commit, keepalive, logged
+from .vectors import begin, commit
 from .vectors import insert as change
+from .vectors import keepalive, logged
 
 
 class Gates(unittest.TestCase):
@@ -52,7 +54,7 @@ class Gates(unittest.TestCase):
         self.assertFalse(hold.stops())
         self.assertEqual(hold.passing(hold.take_kept(), False), payloads[3:])
         hold.passing([begin(0x300, 9)], False)
-        hold.go(0x2f0)
+        hold.go(0x2F0)
         self.assertEqual((hold.is_gated(), hold.stops()), (False, False))
         self.assertEqual(hold.passing(hold.take_kept(), False), [])
         self.assertEqual((hold.stops(), hold.is_due()), (True, True))

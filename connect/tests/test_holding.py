@@ -1,4 +1,5 @@
-"""What a follower holds back while a copy of the store is due, and up to where it goes on for one at an LSN."""
+"""What a follower holds back while a copy of the store is due, and up to where it goes on for one
+at an LSN."""
 
 from __future__ import annotations
 
@@ -12,18 +13,28 @@ import unittest
 from collections.abc import Callable, Iterator
 from unittest import mock
 
-from pgsub_connect.store import snapshot
-from pgsub_connect.follow.statuses import Confirming
 from pgsub_connect.errors import ServerError, Stopped
 from pgsub_connect.follow.follower import Follower
 from pgsub_connect.follow.hold import Hold, count_below
+from pgsub_connect.follow.statuses import Confirming
 from pgsub_connect.server.connection import never
 from pgsub_connect.status.progress import Progress
+from pgsub_connect.store import snapshot
 from pgsub_connect.store.at_rest import read_request
 from pgsub_connect.store.snapshot import Snapshots
 
 from .stores import StoreCase
-from .vectors import begin, commit, insert, keepalive, logged, start, stop, stream_abort, stream_commit
+from .vectors import (
+    begin,
+    commit,
+    insert,
+    keepalive,
+    logged,
+    start,
+    stop,
+    stream_abort,
+    stream_commit,
+)
 
 
 class Holds(unittest.TestCase):
@@ -31,11 +42,17 @@ class Holds(unittest.TestCase):
         # (all that the call looks at)
         self.follower = Follower.__new__(Follower)
         self.follower.stop_asked = False
-        self.follower.filter, self.follower.snapshots, self.follower.noting = mock.Mock(), mock.Mock(), mock.Mock()
+        self.follower.filter, self.follower.snapshots, self.follower.noting = (
+            mock.Mock(),
+            mock.Mock(),
+            mock.Mock(),
+        )
         self.follower.progress, self.follower.gating = Progress(), mock.Mock()
         self.follower.gating.is_over.return_value = False
         self.noting = self.follower.noting
-        self.follower.confirming = Confirming(mock.Mock(), self.follower.filter, self.follower.progress, self.noting, mock.Mock())
+        self.follower.confirming = Confirming(
+            mock.Mock(), self.follower.filter, self.follower.progress, self.noting, mock.Mock()
+        )
         self.follower.confirming.position = 0x100
         self.noting.ends = collections.deque([0x108, 0x120])
         self.noting.confirm.side_effect = self.confirm
@@ -98,7 +115,6 @@ class Holds(unittest.TestCase):
         self.assertFalse(self.holds())
         self.assertEqual(self.taken(), [0x100])
 
-
     def test_the_end_is_asked_for_while_it_is_copied(self) -> None:
         """Then the session ends as at any other time."""
 
@@ -116,7 +132,8 @@ class Holds(unittest.TestCase):
 
 
 class Below(unittest.TestCase):
-    """A commit is below the point 0x200 where its record, from its final LSN to its end LSN, ends there or before."""
+    """A commit is below the point 0x200 where its record, from its final LSN to its end LSN, ends
+    there or before."""
 
     def count(self, *payloads: bytes, is_inside: bool = False) -> int:
         return count_below(payloads, 0x200, is_inside)
@@ -135,7 +152,12 @@ class Below(unittest.TestCase):
 
     def test_keepalives(self) -> None:
         self.assertEqual(self.count(keepalive(0x1FF), keepalive(0x200), keepalive(0x201)), 1)
-        self.assertEqual(self.count(insert(1), keepalive(0x200), commit(0x1F0, 0x1F8), keepalive(0x200), is_inside=True), 3)
+        self.assertEqual(
+            self.count(
+                insert(1), keepalive(0x200), commit(0x1F0, 0x1F8), keepalive(0x200), is_inside=True
+            ),
+            3,
+        )
         self.assertEqual(self.count(begin(0x1F0, 7), keepalive(0x200), insert(1)), 3)
 
     def test_what_is_kept(self) -> None:
@@ -213,7 +235,9 @@ class Requests(StoreCase):
                     self.snapshots.is_due(0x130)
             with logged() as told:
                 self.assertFalse(self.snapshots.is_due(0x130))
-            self.assertEqual((self.snapshots.hold.into, os.path.exists(self.request)), (None, False))
+            self.assertEqual(
+                (self.snapshots.hold.into, os.path.exists(self.request)), (None, False)
+            )
             self.assertIn("is gone: following goes on", told[0])
 
     def copy_it(self) -> None:
@@ -227,7 +251,9 @@ class Requests(StoreCase):
     def test_who_asked_is_gone_while_the_file_is_made(self) -> None:
         """Nothing of it stays."""
         for is_taken_back in (False, True):
-            with contextlib.ExitStack() as going, logged(), mock.patch.object(snapshot, "fold", lambda _, going=going: going.close()):
+            with contextlib.ExitStack() as going, logged(), mock.patch.object(
+                snapshot, "fold", lambda _, going=going: going.close()
+            ):
                 going.enter_context(self.asked())
                 if is_taken_back:
                     going.callback(os.unlink, self.request)
@@ -236,7 +262,8 @@ class Requests(StoreCase):
                 self.assertEqual([it for it in os.listdir(self.folder) if it != "copy.db"], [])
 
     def cut(self, error: Exception, **more: object) -> str | None:
-        """Begins a copy that was asked for, in which an error comes. What the request says then of an error."""
+        """Begins a copy that was asked for, in which an error comes. What the request says then of
+        an error."""
         with contextlib.ExitStack() as going, mock.patch.object(snapshot, "CHUNK", 4096):
             if more:
                 going.enter_context(self.asked(**more))
@@ -271,7 +298,9 @@ class Requests(StoreCase):
         self.snapshots.path, self.snapshots.asked = self.copy, True
         for error, again in ((ServerError("lost"), True), (Stopped(), False)):
             self.assertTrue(self.snapshots.is_due(0x130))
-            with mock.patch.object(snapshot, "CHUNK", 4096), self.assertRaises(type(error)), logged():
+            with mock.patch.object(snapshot, "CHUNK", 4096), self.assertRaises(
+                type(error)
+            ), logged():
                 self.snapshots.take(0x130, mock.Mock(side_effect=[None, error]))
             self.assertEqual(os.listdir(self.folder), ["copy.db"])
             self.assertEqual(self.snapshots.is_due(0x130), again)
@@ -301,7 +330,9 @@ class Requests(StoreCase):
         for wrong in (0, -1, "x", None, 1e9):
             with self.asked(hold=wrong):
                 self.snapshots.is_due(0x130)
-                self.assertEqual((self.snapshots.hold.into, os.path.exists(self.request)), (None, False))
+                self.assertEqual(
+                    (self.snapshots.hold.into, os.path.exists(self.request)), (None, False)
+                )
 
     def test_a_file_that_is_being_written(self) -> None:
         with self.asked():

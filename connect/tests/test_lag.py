@@ -6,10 +6,10 @@ import json
 import unittest
 from unittest import mock
 
-from pgsub_connect.status.lag import Lag
-from pgsub_connect.follow.stream_log import EPOCH, Noting
-from pgsub_connect.status.progress import Progress, STATES
 from pgsub_connect.drift.remembered import Remembered
+from pgsub_connect.follow.stream_log import EPOCH, Noting
+from pgsub_connect.status.lag import Lag
+from pgsub_connect.status.progress import STATES, Progress
 
 from . import vectors
 
@@ -79,7 +79,11 @@ class Behind(unittest.TestCase):
 
 def at(payload: bytes, offset: int, seconds: float) -> bytes:
     """A Begin or Stream Commit with this time."""
-    return payload[:offset] + int((seconds - EPOCH) * 1000000).to_bytes(8, "big") + payload[offset + 8 :]
+    return (
+        payload[:offset]
+        + int((seconds - EPOCH) * 1000000).to_bytes(8, "big")
+        + payload[offset + 8 :]
+    )
 
 
 class Commits(unittest.TestCase):
@@ -97,7 +101,11 @@ class Commits(unittest.TestCase):
     def test_times(self) -> None:
         self.note(at(vectors.begin(500, 7), 34, 1e9), vectors.insert(1))
         self.assertEqual(self.waits_since(), 1e9)
-        self.note(vectors.commit(500, 508), at(vectors.begin(510, 8), 34, 1e9 + 5), vectors.commit(510, 518))
+        self.note(
+            vectors.commit(500, 508),
+            at(vectors.begin(510, 8), 34, 1e9 + 5),
+            vectors.commit(510, 518),
+        )
         self.assertEqual(self.waits_since(), 1e9)
         self.noting.confirm(508, 0)
         self.assertEqual((self.progress.lag.last_commit, self.waits_since()), (1e9, 1e9 + 5))
@@ -139,17 +147,39 @@ class Shown(unittest.TestCase):
         progress.found, progress.skipped = {"values": "x"}, "0/7"
         shown = json.loads(json.dumps(progress.shown(2.5, 1e9 + 2)))
         for name, value in {
-            "state": "following", "heartbeat": "2001-09-09T01:46:40Z", "updated": "2001-09-09T01:46:42Z", "position": "1/8",
-            "confirmed": "1/10", "server_end": "1/20", "lag_bytes": 16, "lag_seconds": 5.0, "last_message": "2001-09-09T01:46:39Z",
-            "last_commit": "2001-09-09T01:46:37Z", "wal_status": "reserved", "safe_wal_size": 77, "changes_per_second": 2.5,
-            "found": {"values": "x"}, "skipped": "0/7", "server_version": 150018, "timeline": 2, "program_version": "pgsub 0.1.0",
+            "state": "following",
+            "heartbeat": "2001-09-09T01:46:40Z",
+            "updated": "2001-09-09T01:46:42Z",
+            "position": "1/8",
+            "confirmed": "1/10",
+            "server_end": "1/20",
+            "lag_bytes": 16,
+            "lag_seconds": 5.0,
+            "last_message": "2001-09-09T01:46:39Z",
+            "last_commit": "2001-09-09T01:46:37Z",
+            "wal_status": "reserved",
+            "safe_wal_size": 77,
+            "changes_per_second": 2.5,
+            "found": {"values": "x"},
+            "skipped": "0/7",
+            "server_version": 150018,
+            "timeline": 2,
+            "program_version": "pgsub 0.1.0",
         }.items():
             self.assertEqual(shown[name], value, name)
         self.assertIn("connector_version", shown)
 
     def test_what_isnt_known_is_left_out(self) -> None:
         shown = Progress().shown(0.0, 1e9)
-        for name in ("server_end", "lag_bytes", "lag_seconds", "wal_status", "safe_wal_size", "last_commit", "found"):
+        for name in (
+            "server_end",
+            "lag_bytes",
+            "lag_seconds",
+            "wal_status",
+            "safe_wal_size",
+            "last_commit",
+            "found",
+        ):
             self.assertNotIn(name, shown)
         self.assertIn(shown["state"], STATES)
 

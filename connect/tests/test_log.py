@@ -26,7 +26,10 @@ class Lines(unittest.TestCase):
             self.assertRegex(stderr.getvalue(), f"^{head}{level}: a text\n$")
 
     def test_a_text_cant_look_like_one_of_this_program(self) -> None:
-        lines = said("info", "server: x\n2026-11-25T09:00:00Z pgsub-connect: error: forged\r\x1b[2J\x9b\u202e\x7f")
+        lines = said(
+            "info",
+            "server: x\n2026-11-25T09:00:00Z pgsub-connect: error: forged\r\x1b[2J\x9b\u202e\x7f",
+        )
         self.assertEqual(len(lines), 2)
         for it in lines:
             self.assertRegex(it, r"^\S+ pgsub-connect: info: ")

@@ -10,18 +10,18 @@ import unittest
 from collections.abc import Iterator
 from unittest import mock
 
-from pgsub_connect.verify import meeting_point
-from pgsub_connect.store.checkpoint import FOLLOWING, Known
+from pgsub_connect.commands.options import Options
+from pgsub_connect.commands.verify import meet
 from pgsub_connect.copy.copier import CHANGED
 from pgsub_connect.errors import NoSlot, Passing, ServerError, Stopped, Unfit
 from pgsub_connect.follow.hold import write_request
-from pgsub_connect.verify.meeting_point import Request, Source
-from pgsub_connect.commands.options import Options
 from pgsub_connect.server.connection import Check, never
 from pgsub_connect.server.publications import Table
+from pgsub_connect.store.checkpoint import FOLLOWING, Known
 from pgsub_connect.store.snapshot import Snapshots, position_in
+from pgsub_connect.verify import meeting_point
+from pgsub_connect.verify.meeting_point import Request, Source
 from pgsub_connect.verify.unchanged import ALTERED, LOCKED, MOVED
-from pgsub_connect.commands.verify import meet
 
 from .fake_server import FakeServer, Quiet, Row
 from .stores import StoreCase
@@ -33,7 +33,12 @@ KNOWN = Known(FOLLOWING, "77", "shop", "pgsub", 1)
 class Asks(StoreCase):
     def setUp(self) -> None:
         super().setUp()
-        for name in ("resting.LOOK", "meeting.LOOK", "snapshots.LOOK", "snapshots.SOON"):
+        for name in (
+            "store.at_rest.LOOK",
+            "verify.meeting_point.LOOK",
+            "store.snapshot.LOOK",
+            "store.snapshot.SOON",
+        ):
             self.patch(f"pgsub_connect.{name}", 0.005)
         self.ended = threading.Event()
         self.request = Request(self.path, 5.0, never)
@@ -139,7 +144,9 @@ class Asks(StoreCase):
         request = Request(self.path, 5.0, check)
         with open(self.path + ".connector", "w") as lock:
             fcntl.flock(lock, fcntl.LOCK_EX)
-            with contextlib.closing(request), self.assertRaisesRegex(Passing, "can't hold the stream: no"):
+            with contextlib.closing(request), self.assertRaisesRegex(
+                Passing, "can't hold the stream: no"
+            ):
                 request.hold()
 
     def test_ended_by_a_signal(self) -> None:
@@ -162,9 +169,11 @@ class Servers(Quiet):
         self.server.answer("CREATE_REPLICATION_SLOT", [["x", "0/200", "snap", "pgoutput"]])
         self.tables = [self.table]
         self.replace("pgsub_connect.verify.meeting_point.LOOK", 0.001)
-        for where in ("meeting", "copying", "waiting"):
+        for where in ("verify.meeting_point", "copy.copier", "server.waits"):
             self.replace(f"pgsub_connect.{where}.Connection", self.server.connect)
-        self.replace("pgsub_connect.verify.meeting_point.published_tables", lambda *_: list(self.tables))
+        self.replace(
+            "pgsub_connect.verify.meeting_point.published_tables", lambda *_: list(self.tables)
+        )
         self.replace("pgsub_connect.copy.copier.are_so_named", lambda *_: True)
 
     def replace(self, name: str, by: object) -> None:
@@ -183,21 +192,37 @@ class Servers(Quiet):
         request.hold = lambda maker, standbys: self.server.commands.append("hold")
         request.tell = lambda point: self.server.commands.append(f"tell {point:x}")
         self.assertEqual(meet(request, source, 1.0), 0x200)
-        steps = ("row_security", "hold", "TEMPORARY LOGICAL pgoutput EXPORT_SNAPSHOT", "tell 200", "SNAPSHOT 'snap'", "ACCESS SHARE MODE")
+        steps = (
+            "row_security",
+            "hold",
+            "TEMPORARY LOGICAL pgoutput EXPORT_SNAPSHOT",
+            "tell 200",
+            "SNAPSHOT 'snap'",
+            "ACCESS SHARE MODE",
+        )
         places = [self.server.index(it) for it in steps]
         self.assertEqual(places, sorted(places))
 
     def test_a_server_that_crashes_where_a_slot_is_made(self) -> None:
         """It is kept from that by what it may hold in memory."""
-        for version, expected in ((150018, []), (180006, ["SET logical_decoding_work_mem = '1GB'"])):
+        for version, expected in (
+            (150018, []),
+            (180006, ["SET logical_decoding_work_mem = '1GB'"]),
+        ):
             self.server.server_version = version
             self.source().make_slot(1.0)
             self.assertEqual(self.server.told("logical_decoding_work_mem"), expected)
 
     def test_another_server(self) -> None:
-        for identity in (["78", "1", "0/1", "shop"], ["77", "1", "0/1", "other"], ["77", "2", "0/1", "shop"]):
+        for identity in (
+            ["78", "1", "0/1", "shop"],
+            ["77", "1", "0/1", "other"],
+            ["77", "2", "0/1", "shop"],
+        ):
             self.identity = list(identity)
-            with self.assertRaisesRegex(Unfit, "the store follows the server 77, database shop, timeline 1, and this is"):
+            with self.assertRaisesRegex(
+                Unfit, "the store follows the server 77, database shop, timeline 1, and this is"
+            ):
                 self.source()
         self.assertEqual(self.server.open, [])
 
@@ -219,11 +244,16 @@ class Servers(Quiet):
         with self.assertRaisesRegex(NoSlot, "the server made no slot in 0.05 seconds"):
             source.make_slot(0.05)
         self.assertTrue(any("the slot waits for" in it for it in self.said))
-        self.server.answer("CREATE_REPLICATION_SLOT", ServerError("canceling statement due to lock timeout", "55P03"))
+        self.server.answer(
+            "CREATE_REPLICATION_SLOT",
+            ServerError("canceling statement due to lock timeout", "55P03"),
+        )
         with self.assertRaises(NoSlot):
             source.make_slot(2.0)
         self.assertIn("SET lock_timeout = 2000", self.server.commands)
-        self.server.answer("CREATE_REPLICATION_SLOT", ServerError("all replication slots are in use", "53400"))
+        self.server.answer(
+            "CREATE_REPLICATION_SLOT", ServerError("all replication slots are in use", "53400")
+        )
         with self.assertRaisesRegex(ServerError, "all replication slots"):
             source.make_slot(2.0)
 
@@ -248,7 +278,11 @@ class Servers(Quiet):
 
         self.server.answer("LOCK TABLE", locks)
         source.see("snap")
-        commands = [it.split()[0] for it in self.server.commands if it.startswith(("SAVEPOINT", "LOCK", "ROLLBACK"))]
+        commands = [
+            it.split()[0]
+            for it in self.server.commands
+            if it.startswith(("SAVEPOINT", "LOCK", "ROLLBACK"))
+        ]
         self.assertEqual(commands, ["SAVEPOINT", "LOCK", "ROLLBACK", "LOCK", "ROLLBACK", "LOCK"])
         self.assertTrue(all(it.endswith("NOWAIT") for it in self.server.told("LOCK TABLE")))
         self.server.answer("LOCK TABLE", ServerError("could not obtain lock", "55P03"))
@@ -280,13 +314,20 @@ class Servers(Quiet):
 
     def test_what_is_altered_meanwhile_is_left_out(self) -> None:
         source = self.two()
-        self.tables = [self.table, Table(2, "public", "u", "p", "f", None, None), Table(3, "public", "new", "r", "d", None, None)]
+        self.tables = [
+            self.table,
+            Table(2, "public", "u", "p", "f", None, None),
+            Table(3, "public", "new", "r", "d", None, None),
+        ]
         source.see("snap", leaves=True)
         self.assertEqual(([it.oid for it in source.tables], source.left), ([1], {2: ALTERED}))
 
     def test_what_is_renamed_behind_the_snapshot_is_left_out(self) -> None:
         source = self.two()
-        self.replace("pgsub_connect.copy.copier.are_so_named", lambda _, tables: 2 not in [it.oid for it in tables])
+        self.replace(
+            "pgsub_connect.copy.copier.are_so_named",
+            lambda _, tables: 2 not in [it.oid for it in tables],
+        )
         source.see("snap", leaves=True)
         self.assertEqual(([it.oid for it in source.tables], source.left), ([1], {2: ALTERED}))
 

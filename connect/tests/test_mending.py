@@ -1,4 +1,5 @@
-"""What is written so that the rows of a copy are those of the server, byte for byte, and what is left to be copied anew."""
+"""What is written so that the rows of a copy are those of the server, byte for byte, and what is
+left to be copied anew."""
 
 from __future__ import annotations
 
@@ -12,13 +13,13 @@ from types import SimpleNamespace
 from typing import cast
 from unittest import mock
 
+from pgsub_connect.copy.messages import relation
+from pgsub_connect.server.connection import never
+from pgsub_connect.server.publications import Column, Table
 from pgsub_connect.verify import sides
 from pgsub_connect.verify.digests import Plan, Queries, text_of
 from pgsub_connect.verify.meeting_point import Source
 from pgsub_connect.verify.repair_rows import Changes, Mender, NoChange, changes_of
-from pgsub_connect.copy.messages import relation
-from pgsub_connect.server.connection import never
-from pgsub_connect.server.publications import Column, Table
 from pgsub_connect.verify.sides import Copy, Sides
 
 from .fake_server import connection_to
@@ -28,14 +29,23 @@ from .vectors import begin, commit, data, logged
 
 NOTHING = Table(3, "public", "bare", "r", "n", None, None, [Column("a", 25, -1, False, 1)])
 # A key of two columns, of which the first isn't one.
-COLUMNS = [Column("n", 25, -1, False, 1), Column("a", 25, -1, True, 2), Column("b", 25, -1, True, 3)]
+COLUMNS = [
+    Column("n", 25, -1, False, 1),
+    Column("a", 25, -1, True, 2),
+    Column("b", 25, -1, True, 3),
+]
 TWO = Table(4, "public", "two", "r", "i", None, None, COLUMNS)
 TOO_MANY: Rows = [[f"too many {it}", None] for it in range(300)]
 Some = dict[tuple[str | None, ...], int]
 
 
 def group(rows: Some) -> collections.Counter[bytes]:
-    return collections.Counter({text_of([None if it is None else it.encode() for it in row]): count for row, count in rows.items()})
+    return collections.Counter(
+        {
+            text_of([None if it is None else it.encode() for it in row]): count
+            for row, count in rows.items()
+        }
+    )
 
 
 def made(table: Table, theirs: Some, ours: Some) -> list[bytes]:
@@ -52,22 +62,32 @@ class Bytes(unittest.TestCase):
         self.assertEqual(made(KEYED, {}, {row: 1}), [b"D\0\0\0\x01K\0\x02t\0\0\0\x017n"])
 
     def test_by_a_key_of_several_columns(self) -> None:
-        self.assertEqual(made(TWO, {}, {("x", "", "bb"): 1}), [b"D\0\0\0\x04K\0\x03nt\0\0\0\0t\0\0\0\x02bb"])
+        self.assertEqual(
+            made(TWO, {}, {("x", "", "bb"): 1}), [b"D\0\0\0\x04K\0\x03nt\0\0\0\0t\0\0\0\x02bb"]
+        )
 
     def test_by_the_whole_row(self) -> None:
         row, other = ("x", None), ("x", "")
         insert, delete = b"I\0\0\0\x02N\0\x02t\0\0\0\x01xn", b"D\0\0\0\x02O\0\x02t\0\0\0\x01xn"
         self.assertEqual(made(WHOLE, {row: 3}, {row: 1}), [insert, insert])
         self.assertEqual(made(WHOLE, {row: 1}, {row: 3}), [delete, delete])
-        self.assertEqual(made(WHOLE, {other: 1}, {row: 1}), [b"I\0\0\0\x02N\0\x02t\0\0\0\x01xt\0\0\0\0", delete])
+        self.assertEqual(
+            made(WHOLE, {other: 1}, {row: 1}), [b"I\0\0\0\x02N\0\x02t\0\0\0\x01xt\0\0\0\0", delete]
+        )
 
     def test_without_an_identity(self) -> None:
-        self.assertEqual(made(NOTHING, {("x",): 2}, {("x",): 1}), [b"I\0\0\0\x03N\0\x01t\0\0\0\x01x"])
+        self.assertEqual(
+            made(NOTHING, {("x",): 2}, {("x",): 1}), [b"I\0\0\0\x03N\0\x01t\0\0\0\x01x"]
+        )
         with self.assertRaisesRegex(NoChange, "which row goes"):
             made(NOTHING, {("x",): 1}, {("x",): 2})
 
     def test_several_rows_of_what_is_published_of_a_key(self) -> None:
-        for theirs, ours in (({("7", "a"): 1, ("7", "b"): 1}, {}), ({("7", "a"): 2}, {("7", "a"): 1}), ({("7", "a"): 1}, {("7", "a"): 2})):
+        for theirs, ours in (
+            ({("7", "a"): 1, ("7", "b"): 1}, {}),
+            ({("7", "a"): 2}, {("7", "a"): 1}),
+            ({("7", "a"): 1}, {("7", "a"): 2}),
+        ):
             with self.assertRaisesRegex(NoChange, "several rows"):
                 made(KEYED, cast(Some, theirs), cast(Some, ours))
 
@@ -84,19 +104,25 @@ class Written(Case):
 
     def mend(self, *tables: Table, is_fed: bool = False) -> Mender:
         self.store.move(0x130)
-        source = SimpleNamespace(plain=connection_to(self.server), encoding="UTF8", tables=list(self.tables))
+        source = SimpleNamespace(
+            plain=connection_to(self.server), encoding="UTF8", tables=list(self.tables)
+        )
 
         def sums(queries: Queries) -> str:
             self.server.answer("SUMS", self.server.sums(queries.plan))
             return "SUMS"
 
         def texts(queries: Queries, chunks: list[int]) -> str:
-            self.server.lines = self.server.texts(queries.plan, chunks or list(range(queries.plan.chunks)))
+            self.server.lines = self.server.texts(
+                queries.plan, chunks or list(range(queries.plan.chunks))
+            )
             return "TEXTS"
 
         with contextlib.ExitStack() as stack:
             self.said = stack.enter_context(logged())
-            stack.enter_context(mock.patch.multiple("pgsub_connect.verify.digests.Queries", sums=sums, texts=texts))
+            stack.enter_context(
+                mock.patch.multiple("pgsub_connect.verify.digests.Queries", sums=sums, texts=texts)
+            )
             copy = stack.enter_context(contextlib.closing(Copy(self.path, self.path, 0x130, never)))
             with contextlib.suppress(FileNotFoundError):
                 os.unlink(self.file)
@@ -119,19 +145,26 @@ class Written(Case):
             subscriber = Subscriber(store)
             for payload in (begin(0x1FF, 2), *map(data, self.messages()), commit(0x1FF, 0x200)):
                 subscriber.take(payload)
-            expected = {oid: collections.Counter(tuple(it) for it in rows) for oid, rows in self.server.tables.items() if rows}
+            expected = {
+                oid: collections.Counter(tuple(it) for it in rows)
+                for oid, rows in self.server.tables.items()
+                if rows
+            }
             self.assertEqual(store.rows(), expected)
 
     def test_nothing(self) -> None:
         self.assertEqual((self.mend().written, self.messages()), ({}, []))
 
     def test_what_differs_and_nothing_else(self) -> None:
-        self.keep({1: [*ROWS[:7], ["7", "other"], *ROWS[9:], ["x", "y"]], 2: [*EQUAL_ROWS[1:], ["x", ""]]})
+        self.keep(
+            {1: [*ROWS[:7], ["7", "other"], *ROWS[9:], ["x", "y"]], 2: [*EQUAL_ROWS[1:], ["x", ""]]}
+        )
         mender = self.mend()
         self.assertEqual(mender.written, {1: {b"I": 1, b"U": 1, b"D": 1}, 2: {b"I": 1, b"D": 1}})
         self.assertEqual((mender.left, mender.text()), ([], "5 rows of 2 tables"))
         first = [
-            b"U\0\0\0\x01N\0\x02t\0\0\0\x017t\0\0\0\x06name 7", b"I\0\0\0\x01N\0\x02t\0\0\0\x018t\0\0\0\x06name 8",
+            b"U\0\0\0\x01N\0\x02t\0\0\0\x017t\0\0\0\x06name 7",
+            b"I\0\0\0\x01N\0\x02t\0\0\0\x018t\0\0\0\x06name 8",
             b"D\0\0\0\x01K\0\x02t\0\0\0\x01xn",
         ]
         second = [b"D\0\0\0\x02O\0\x02t\0\0\0\x01xt\0\0\0\0", b"I\0\0\0\x02N\0\x02t\0\0\0\x01xn"]
@@ -140,7 +173,8 @@ class Written(Case):
         self.check()
 
     def test_without_a_key_where_a_feed_has_it_too(self) -> None:
-        """Its readers may have other rows than the copy, so no change tells them which of equal ones is meant."""
+        """Its readers may have other rows than the copy, so no change tells them which of equal
+        ones is meant."""
         self.keep({1: [*ROWS[:7], ["7", "other"], *ROWS[8:]], 2: EQUAL_ROWS[1:]})
         mender = self.mend(is_fed=True)
         self.assertEqual((mender.written, mender.left), ({1: {b"U": 1}}, [WHOLE]))
@@ -151,11 +185,14 @@ class Written(Case):
         self.assertEqual(os.stat(self.file).st_uid, os.stat(self.path).st_uid)
 
     def test_a_share(self) -> None:
-        """Up to a third of the rows, of whatever kind; all that is written of another table stays."""
+        """Up to a third of the rows, of whatever kind; all that is written of another table
+        stays."""
         more: Rows = [[f"more {it}", "x"] for it in range(300)]
         self.server.tables[1] = [*ROWS, *more]
         for mine in (
-            ROWS, [*ROWS[:450], *more], [*more, *([it[0], "other"] for it in ROWS[:300]), *ROWS[300:]],
+            ROWS,
+            [*ROWS[:450], *more],
+            [*more, *([it[0], "other"] for it in ROWS[:300]), *ROWS[300:]],
             [*more, *ROWS, *([it[0], "y"] for it in TOO_MANY)],
             [*more, *([it[0], "other"] for it in ROWS[:100]), *ROWS[200:], *TOO_MANY[:100]],
         ):
@@ -173,16 +210,27 @@ class Written(Case):
 
     def test_more_than_a_share(self) -> None:
         """It is copied anew, also where both sides have as many rows."""
-        for mine in (ROWS[:300], [[it[0], "other"] for it in ROWS], [[f"x{it}", "name"] for it in range(600)], []):
+        for mine in (
+            ROWS[:300],
+            [[it[0], "other"] for it in ROWS],
+            [[f"x{it}", "name"] for it in range(600)],
+            [],
+        ):
             self.keep({1: cast(Rows, mine), 2: EQUAL_ROWS[1:]})
             mender = self.mend()
             self.assertEqual(([it.oid for it in mender.left], list(mender.written)), ([1], [2]))
             self.assertEqual(self.messages()[0], relation(WHOLE))
-            self.assertIn("public.keyed: more than 256 of its rows differ: it is copied anew", self.said)
+            self.assertIn(
+                "public.keyed: more than 256 of its rows differ: it is copied anew", self.said
+            )
 
     def test_another_definition(self) -> None:
-        for columns, letter in ((((1, "id", 23, -1), (1, "name", 25, -1)), "d"), (((1, "id", 23, -1), (0, "name", 25, -1)), "f"),
-                                (((1, "id", 23, -1), (0, "title", 25, -1)), "d"), (((1, "id", 23, -1),), "d")):
+        for columns, letter in (
+            (((1, "id", 23, -1), (1, "name", 25, -1)), "d"),
+            (((1, "id", 23, -1), (0, "name", 25, -1)), "f"),
+            (((1, "id", 23, -1), (0, "title", 25, -1)), "d"),
+            (((1, "id", 23, -1),), "d"),
+        ):
             self.store.base.execute("DELETE FROM rel WHERE oid = 1")
             self.store.table(1, "keyed", columns, letter=letter)
             self.assertEqual([it.oid for it in self.mend(KEYED).left], [1], (columns, letter))
@@ -198,20 +246,26 @@ class Written(Case):
         self.check()
 
     def test_no_change_tells_which_row(self) -> None:
-        """All rows that the server sends are read all the same, and nothing stays of the table in the file."""
+        """All rows that the server sends are read all the same, and nothing stays of the table in
+        the file."""
         self.tables = (NOTHING, WHOLE)
         self.store.table(3, "bare", ((0, "a", 25, -1),), letter="n")
         self.server.tables[3] = [["a"], ["c"]]
         self.keep({3: [["b"], ["c"]], 2: EQUAL_ROWS[1:], 1: ROWS})
         mender = self.mend()
-        self.assertEqual(([it.oid for it in mender.left], list(mender.written), self.messages()[0]), ([3], [2], relation(WHOLE)))
+        self.assertEqual(
+            ([it.oid for it in mender.left], list(mender.written), self.messages()[0]),
+            ([3], [2], relation(WHOLE)),
+        )
 
     def test_more_chunks_than_a_query_names(self) -> None:
         """The server sends all rows then, and those of other chunks are passed over."""
         rng = random.Random(7)
         with mock.patch.object(sides, "NAMED", 1):
             for _ in range(5):
-                mine = [[it[0], "x"] if rng.random() < 0.1 else it for it in ROWS if rng.random() < 0.95]
+                mine = [
+                    [it[0], "x"] if rng.random() < 0.1 else it for it in ROWS if rng.random() < 0.95
+                ]
                 self.keep({1: cast(Rows, mine), 2: EQUAL_ROWS})
                 self.assertEqual(self.mend().left, [])
                 self.check()
@@ -221,13 +275,20 @@ class Written(Case):
         words = ["", None, "a", "b\t\\", "c\n", "\u00e4", "n", "1:", "\\N"]
         for _ in range(60):
             self.server.tables = {
-                1: [[str(it), rng.choice(words)] for it in rng.sample(range(40), rng.randrange(30))],
+                1: [
+                    [str(it), rng.choice(words)] for it in rng.sample(range(40), rng.randrange(30))
+                ],
                 2: [[rng.choice(words), rng.choice(words)] for _ in range(rng.randrange(30))],
             }
-            self.keep({
-                1: [[str(it), rng.choice(words)] for it in rng.sample(range(40), rng.randrange(30))],
-                2: [[rng.choice(words), rng.choice(words)] for _ in range(rng.randrange(30))],
-            })
+            self.keep(
+                {
+                    1: [
+                        [str(it), rng.choice(words)]
+                        for it in rng.sample(range(40), rng.randrange(30))
+                    ],
+                    2: [[rng.choice(words), rng.choice(words)] for _ in range(rng.randrange(30))],
+                }
+            )
             mender = self.mend()
             self.assertEqual(mender.left, [])
             self.check()

@@ -1,4 +1,5 @@
-"""The messages of the initial copy, byte for byte, and COPY's text format in blocks against one value at a time."""
+"""The messages of the initial copy, byte for byte, and COPY's text format in blocks against one
+value at a time."""
 
 from __future__ import annotations
 
@@ -7,15 +8,33 @@ import re
 import struct
 import unittest
 
+from pgsub_connect.copy.messages import (
+    InsertHeads,
+    begin,
+    cells_length,
+    commit,
+    frame,
+    inserts,
+    relation,
+    unescaped,
+)
 from pgsub_connect.errors import WrongAnswer
-from pgsub_connect.copy.messages import InsertHeads, begin, cells_length, commit, frame, inserts, relation, unescaped
 from pgsub_connect.server.publications import Column, Table
 
 ESCAPES = {b"b": b"\b", b"f": b"\f", b"n": b"\n", b"r": b"\r", b"t": b"\t", b"v": b"\v"}
 
 
 def table_of(width: int, oid: int = 16385) -> Table:
-    return Table(oid, "public", "t", "r", "d", None, None, [Column(f"c{it}", 25, -1, it == 0) for it in range(width)])
+    return Table(
+        oid,
+        "public",
+        "t",
+        "r",
+        "d",
+        None,
+        None,
+        [Column(f"c{it}", 25, -1, it == 0) for it in range(width)],
+    )
 
 
 def slow_cell(text: bytes) -> bytes:
@@ -39,7 +58,10 @@ def copy_text(value: bytes | None) -> bytes:
     """What a server sends for a value."""
     if value is None:
         return b"\\N"
-    for character, escape in ((b"\\", b"\\\\"), *((it, b"\\" + letter) for letter, it in ESCAPES.items())):
+    for character, escape in (
+        (b"\\", b"\\\\"),
+        *((it, b"\\" + letter) for letter, it in ESCAPES.items()),
+    ):
         value = value.replace(character, escape)
     return value
 
@@ -56,33 +78,86 @@ class Bytes(unittest.TestCase):
     """What the layout of PostgreSQL's documentation gives."""
 
     def test_frame(self) -> None:
-        self.assertEqual(frame(3, b"xyz").hex(), "64" "00000020" "77" "0000000000000003" "0000000000000003" "0000000000000000" "78797a")
+        self.assertEqual(
+            frame(3, b"xyz").hex(),
+            "64" "00000020" "77" "0000000000000003" "0000000000000003" "0000000000000000" "78797a",
+        )
 
     def test_begin(self) -> None:
         self.assertEqual(begin(7).hex(), "42" "0000000000000007" "0000000000000000" "00000007")
 
     def test_commit(self) -> None:
-        self.assertEqual(commit(7, 8).hex(), "43" "00" "0000000000000007" "0000000000000008" "0000000000000000")
+        self.assertEqual(
+            commit(7, 8).hex(), "43" "00" "0000000000000007" "0000000000000008" "0000000000000000"
+        )
 
     def test_relation(self) -> None:
-        table = Table(16385, "shop", "st\u00f6ck", "r", "f", None, None, [Column("id", 23, -1, True), Column("q", 1043, 24, False)])
+        table = Table(
+            16385,
+            "shop",
+            "st\u00f6ck",
+            "r",
+            "f",
+            None,
+            None,
+            [Column("id", 23, -1, True), Column("q", 1043, 24, False)],
+        )
         self.assertEqual(
             relation(table).hex(),
-            "52" "00004001" "73686f7000" "7374c3b6636b00" "66" "0002"
-            "01" "696400" "00000017" "ffffffff" "00" "7100" "00000413" "00000018",
+            "52"
+            "00004001"
+            "73686f7000"
+            "7374c3b6636b00"
+            "66"
+            "0002"
+            "01"
+            "696400"
+            "00000017"
+            "ffffffff"
+            "00"
+            "7100"
+            "00000413"
+            "00000018",
         )
 
     def test_relation_of_the_catalog_has_no_schema(self) -> None:
-        self.assertEqual(relation(Table(1, "pg_catalog", "t", "r", "d", None, None)).hex(), "52" "00000001" "00" "7400" "64" "0000")
+        self.assertEqual(
+            relation(Table(1, "pg_catalog", "t", "r", "d", None, None)).hex(),
+            "52" "00000001" "00" "7400" "64" "0000",
+        )
 
     def test_rows(self) -> None:
         table = table_of(3, 2)
         sent = inserts([b"1\ta\\tb\t\\N\n", b"22\t\t\\\\N\n"], InsertHeads(table, 5))
-        head = "77" "0000000000000005" "0000000000000005" "0000000000000000" "49" "00000002" "4e" "0003"
+        head = (
+            "77"
+            "0000000000000005"
+            "0000000000000005"
+            "0000000000000000"
+            "49"
+            "00000002"
+            "4e"
+            "0003"
+        )
         self.assertEqual(
             sent.hex(),
-            "64" "00000034" + head + "74" "00000001" "31" "74" "00000003" "610962" "6e"
-            "64" "00000038" + head + "74" "00000002" "3232" "74" "00000000" "74" "00000002" "5c4e",
+            "64"
+            "00000034" + head + "74"
+            "00000001"
+            "31"
+            "74"
+            "00000003"
+            "610962"
+            "6e"
+            "64"
+            "00000038" + head + "74"
+            "00000002"
+            "3232"
+            "74"
+            "00000000"
+            "74"
+            "00000002"
+            "5c4e",
         )
 
     def test_each_escape(self) -> None:
@@ -93,7 +168,9 @@ class Bytes(unittest.TestCase):
 
     def test_table_without_columns(self) -> None:
         table = table_of(0)
-        self.assertEqual(inserts([b"\n", b"\n"], InsertHeads(table, 1)), slow_inserts([b"\n", b"\n"], table, 1))
+        self.assertEqual(
+            inserts([b"\n", b"\n"], InsertHeads(table, 1)), slow_inserts([b"\n", b"\n"], table, 1)
+        )
 
 
 class Fuzz(unittest.TestCase):
@@ -103,23 +180,37 @@ class Fuzz(unittest.TestCase):
         choice = random_.random()
         if wild and choice < 0.2:
             return None
-        letters = b"ab\\N\\\tn\n\r\x08\x0c\x0btx\xc3\xa4" if wild and choice < 0.6 else b"abcxyz 0123N"
-        return bytes(random_.choice(letters) for _ in range(random_.choice((0, 0, 1, 2, 3, 5, 9, 40))))
+        letters = (
+            b"ab\\N\\\tn\n\r\x08\x0c\x0btx\xc3\xa4" if wild and choice < 0.6 else b"abcxyz 0123N"
+        )
+        return bytes(
+            random_.choice(letters) for _ in range(random_.choice((0, 0, 1, 2, 3, 5, 9, 40)))
+        )
 
     def test_rows(self) -> None:
         random_ = random.Random(32)
         for number in range(800):
             width, wild = random_.randrange(1, 6), number % 3 > 0
-            rows = [[self.value(random_, wild) for _ in range(width)] for _ in range(random_.randrange(1, 7))]
+            rows = [
+                [self.value(random_, wild) for _ in range(width)]
+                for _ in range(random_.randrange(1, 7))
+            ]
             lines = [b"\t".join(map(copy_text, row)) + b"\n" for row in rows]
             table = table_of(width)
             sent = inserts(lines, InsertHeads(table, number))
             self.assertEqual(sent, slow_inserts(lines, table, number), lines)
             for row, line in zip(rows, lines, strict=True):
-                self.assertEqual(cells_length(line, width), sum(1 if it is None else 5 + len(it) for it in row), line)
+                self.assertEqual(
+                    cells_length(line, width),
+                    sum(1 if it is None else 5 + len(it) for it in row),
+                    line,
+                )
 
     def test_long_values(self) -> None:
-        lines = [b"x" * length + b"\t" + b"\\\\" * length + b"\n" for length in (4000, 4095, 4096, 5000, 70000)]
+        lines = [
+            b"x" * length + b"\t" + b"\\\\" * length + b"\n"
+            for length in (4000, 4095, 4096, 5000, 70000)
+        ]
         table = table_of(2)
         self.assertEqual(inserts(lines, InsertHeads(table, 9)), slow_inserts(lines, table, 9))
 

@@ -1,4 +1,5 @@
-"""Changes that found no row: that they are counted before anything of them is confirmed, told, and kept until they are accepted."""
+"""Changes that found no row: that they are counted before anything of them is confirmed, told, and
+kept until they are accepted."""
 
 from __future__ import annotations
 
@@ -11,18 +12,18 @@ from pathlib import Path
 from unittest import mock
 
 from pgsub_connect import cli
-from pgsub_connect.follow.awake import Awake
-from pgsub_connect.store.checkpoint import Checkpoint, Counted, Known
 from pgsub_connect.cli import MISSED, UNFIT
+from pgsub_connect.commands.options import Options
+from pgsub_connect.commands.words import ENDS, KINDS
+from pgsub_connect.drift.missed_rows import Misses, texts_of
+from pgsub_connect.drift.remembered import Remembered
 from pgsub_connect.errors import Passing, ServerError, Unfit
+from pgsub_connect.follow.awake import Awake
 from pgsub_connect.follow.filter import FilterEnded, Missing, flushed
 from pgsub_connect.follow.follower import Follower
-from pgsub_connect.drift.missed_rows import Misses, texts_of
-from pgsub_connect.commands.options import Options
 from pgsub_connect.server.connection import Connection
 from pgsub_connect.status.progress import Progress
-from pgsub_connect.drift.remembered import Remembered
-from pgsub_connect.commands.words import ENDS, KINDS
+from pgsub_connect.store.checkpoint import Checkpoint, Counted, Known
 
 from .test_following import FAKE, Case
 from .vectors import a_catalog, a_table, begin, commit, delete, insert, keepalive
@@ -79,13 +80,20 @@ class Order(FollowCase):
     """What is on the disk before the server is told."""
 
     def events(self, follower: Follower) -> list[tuple[str, int, int]]:
-        """What happens from now on: `sent` with what is confirmed, `wrote` and `synced` with the count and the position of the checkpoint."""
+        """What happens from now on: `sent` with what is confirmed, `wrote` and `synced` with the
+        count and the position of the checkpoint."""
         happened: list[tuple[str, int, int]] = []
         send, write, sync = Connection.send, os.pwrite, os.fdatasync
 
         def note(what: str) -> None:
             counted = follower.confirming.checkpoint.read_counted()
-            happened.append((what, counted.count if counted else 0, follower.confirming.checkpoint.read().position))
+            happened.append(
+                (
+                    what,
+                    counted.count if counted else 0,
+                    follower.confirming.checkpoint.read().position,
+                )
+            )
 
         def sends(connection: Connection, payload: bytes) -> None:
             happened.append(("sent", flushed(payload), 0))
@@ -129,35 +137,58 @@ class Order(FollowCase):
                     os.unlink(self.store)
                     os.unlink(self.store + ".connector")
                     self.server.forget()
-                happened = self.run_with([*ONE, *missing_commit(0x110, 2), *missing_commit(0x120)], 0x128)
+                happened = self.run_with(
+                    [*ONE, *missing_commit(0x110, 2), *missing_commit(0x120)], 0x128
+                )
                 for lsn, count in ((0x118, 2), (0x128, 3)):
-                    first = next(index for index, it in enumerate(happened) if it[0] == "sent" and it[1] >= lsn)
-                    self.assertTrue(any(what == "synced" and noted >= count for what, noted, _ in happened[:first]), happened)
+                    first = next(
+                        index
+                        for index, it in enumerate(happened)
+                        if it[0] == "sent" and it[1] >= lsn
+                    )
+                    self.assertTrue(
+                        any(
+                            what == "synced" and noted >= count
+                            for what, noted, _ in happened[:first]
+                        ),
+                        happened,
+                    )
                 self.assertEqual(self.counted(), Counted(0, 0x128, 3, 0x118, 1))
 
     def test_any_other_commit_is_confirmed_first(self) -> None:
         """And nothing is synced for it."""
         happened = self.run_with(ONE, 0x108)
         sent = happened.index(("sent", 0x108, 0))
-        self.assertNotIn(0x108, [position for what, _, position in happened[:sent] if what != "sent"])
+        self.assertNotIn(
+            0x108, [position for what, _, position in happened[:sent] if what != "sent"]
+        )
         self.assertIn(("wrote", 0, 0x108), happened[sent:])
         self.assertNotIn(0x108, [position for what, _, position in happened if what == "synced"])
         self.assertEqual(self.counted(), Counted(0, 0x108))
 
     def test_what_only_a_keepalive_confirms_is_noted_first(self) -> None:
         happened = self.run_with([*ONE, keepalive(0x200, asks=True)], 0x200)
-        sent = next(index for index, it in enumerate(happened) if it[0] == "sent" and it[1] >= 0x200)
+        sent = next(
+            index for index, it in enumerate(happened) if it[0] == "sent" and it[1] >= 0x200
+        )
         self.assertEqual(happened[sent - 1][0], "synced")
-        self.assertEqual((self.checkpoint.read().confirmed, self.counted()), (0x200, Counted(0, 0x108)))
+        self.assertEqual(
+            (self.checkpoint.read().confirmed, self.counted()), (0x200, Counted(0, 0x108))
+        )
 
     def test_what_a_keepalive_confirms_beside_a_commit_waits(self) -> None:
-        """The commit is confirmed at once, without a sync; the rest a second later, or at once where the server asks."""
+        """The commit is confirmed at once, without a sync; the rest a second later, or at once
+        where the server asks."""
         for asked in (None, 0x200):
             with self.subTest(asked=asked):
                 follower, happened = self.follower(), list[int | str]()
                 follower.noting.note_all(ONE)
                 self.checkpoint.begin_counting(0, False)
-                self.patch(follower.confirming, "connection", mock.Mock(send=lambda it: happened.append(flushed(it))))
+                self.patch(
+                    follower.confirming,
+                    "connection",
+                    mock.Mock(send=lambda it: happened.append(flushed(it))),
+                )
                 self.patch(os, "fdatasync", lambda _: happened.append("synced"))
                 follower.confirming.last_moved, follower.noting.asked = float("inf"), asked
                 happened.clear()
@@ -177,7 +208,9 @@ class Order(FollowCase):
         follower.noting.note_all(ONE)
         self.checkpoint.write(False, confirmed=0x180)
         self.checkpoint.begin_counting(0, False)
-        self.patch(follower.confirming, "connection", mock.Mock(send=lambda it: sent.append(flushed(it))))
+        self.patch(
+            follower.confirming, "connection", mock.Mock(send=lambda it: sent.append(flushed(it)))
+        )
         follower.confirming.last_moved = float("inf")
         follower.confirming.forward([status(0x108)])
         follower.noting.note_all([begin(0x110, 7), commit(0x110, 0x118)])
@@ -198,7 +231,9 @@ class Order(FollowCase):
 
         self.patch(follower.filter, "serve", serve)
         self.patch(follower.filter, "runs", True)
-        self.patch(follower.confirming, "connection", mock.Mock(send=lambda it: sent.append(flushed(it))))
+        self.patch(
+            follower.confirming, "connection", mock.Mock(send=lambda it: sent.append(flushed(it)))
+        )
         with mock.patch("os.fdatasync", side_effect=OSError(28, "No space left on device")):
             with self.assertRaisesRegex(Passing, "No space"):
                 follower.attend()
@@ -206,33 +241,47 @@ class Order(FollowCase):
             follower.keep_alive(0.0)
         self.assertEqual(sent, [0x100])
         follower.attend()
-        self.assertEqual((sent[-1], self.checkpoint.counted), (0x108, Counted(0x100, 0x108, 1, 0x108, 1)))
+        self.assertEqual(
+            (sent[-1], self.checkpoint.counted), (0x108, Counted(0x100, 0x108, 1, 0x108, 1))
+        )
 
     def test_a_status_that_cant_be_sent_is_noted(self) -> None:
         follower = self.follower()
         follower.noting.note_all(ONE)
         self.checkpoint.begin_counting(0, False)
-        self.patch(follower.confirming, "connection", mock.Mock(send=mock.Mock(side_effect=ServerError("lost"))))
+        self.patch(
+            follower.confirming,
+            "connection",
+            mock.Mock(send=mock.Mock(side_effect=ServerError("lost"))),
+        )
         with self.assertRaises(ServerError):
             follower.confirming.forward([status(0x108)])
-        self.assertEqual((self.counted(), self.checkpoint.read().position), (Counted(0, 0x108), 0x108))
+        self.assertEqual(
+            (self.counted(), self.checkpoint.read().position), (Counted(0, 0x108), 0x108)
+        )
 
 
 class Calls(FollowCase):
     """What a commit takes of the system's calls."""
 
     def calls(self, is_wrapped: bool) -> tuple[list[int], list[bool]]:
-        """What waits for the filter each time that it is looked what is ready, and of each read of the server whether it was told of."""
+        """What waits for the filter each time that it is looked what is ready, and of each read of
+        the server whether it was told of."""
         follower = self.follower()
         waiting, told, is_ready = list[int](), list[bool](), list[bool]()
         serve, consume = follower.filter.serve, Connection.consume
 
         def serves(
-            timeout: float, reads: Sequence[int] = (), writes: Sequence[int] = (), awake: Awake | None = None
+            timeout: float,
+            reads: Sequence[int] = (),
+            writes: Sequence[int] = (),
+            awake: Awake | None = None,
         ) -> tuple[list[int], list[int], list[bytes]]:
             waiting.append(follower.filter.waiting)
             readable, writable, statuses = serve(timeout, reads, writes, awake)
-            is_ready.append(not (readable or writable) or any(it in (*readable, *writable) for it in reads))
+            is_ready.append(
+                not (readable or writable) or any(it in (*readable, *writable) for it in reads)
+            )
             return readable, writable, statuses
 
         def consumes(connection: Connection) -> None:
@@ -248,7 +297,14 @@ class Calls(FollowCase):
                     real()
 
             self.patch(follower, "session", session)
-            self.server.to_send = [*ONE, *[it for lsn in range(0x200, 0x300, 16) for it in (begin(lsn, 7), insert(1), commit(lsn, lsn + 8))]]
+            self.server.to_send = [
+                *ONE,
+                *[
+                    it
+                    for lsn in range(0x200, 0x300, 16)
+                    for it in (begin(lsn, 7), insert(1), commit(lsn, lsn + 8))
+                ],
+            ]
             self.server.forget()
             self.run_until(follower, lambda: self.confirmed() == 0x2F8)
         return waiting, told
@@ -272,9 +328,14 @@ class Calls(FollowCase):
             self.patch(where, name, call)
 
         for where, names in (
-            (Connection, ("consume", "send")), (follower.filter, ("serve", "written_of")), (follower.noting, ("note_all", "show")),
-            (follower.watch, ("tend",)), (follower.adder, ("wants_session", "step")), (follower.misses, ("tell",)),
-            (follower.confirming.checkpoint, ("note",)), (follower.snapshots, ("is_due",)),
+            (Connection, ("consume", "send")),
+            (follower.filter, ("serve", "written_of")),
+            (follower.noting, ("note_all", "show")),
+            (follower.watch, ("tend",)),
+            (follower.adder, ("wants_session", "step")),
+            (follower.misses, ("tell",)),
+            (follower.confirming.checkpoint, ("note",)),
+            (follower.snapshots, ("is_due",)),
         ):
             for name in names:
                 noted(where, name)
@@ -292,7 +353,8 @@ class Calls(FollowCase):
 
 class Killed(FollowCase):
     def test_between_the_store_and_the_note(self) -> None:
-        """The filter is lost with what it had to say; the next one of the same run finds the store further."""
+        """The filter is lost with what it had to say; the next one of the same run finds the store
+        further."""
         self.says(f"dies {0x108}")
         follower = self.follower()
         self.server.to_send = [*missing_commit(0x100), *missing_commit(0x110)]
@@ -301,7 +363,10 @@ class Killed(FollowCase):
         self.assertEqual(self.checkpoint.read_counted(), Counted(0, 0x108, gap=(0, 0x108)))
         self.assertEqual(self.progress.found, {"missing": GAP})
         shown = self.progress.shown(0.0, 0.0)
-        self.assertEqual((shown["not_counted"], shown["counted_upto"], shown["missing"]), (["0/0", "0/108"], "0/108", 0))
+        self.assertEqual(
+            (shown["not_counted"], shown["counted_upto"], shown["missing"]),
+            (["0/0", "0/108"], "0/108", 0),
+        )
 
     def test_a_connector_that_was_killed(self) -> None:
         """The store is further than it had noted: it isn't known what its commits found."""
@@ -311,12 +376,17 @@ class Killed(FollowCase):
             file.write(str(0x108))
         self.checkpoint.write(True, phase="following", position=0x100, confirmed=0x108)
         self.run_until(follower, lambda: self.server.sessions == 1)
-        self.assertEqual((self.counted(), len(self.lines())), (Counted(0, 0x108, gap=(0x100, 0x108)), 1))
+        self.assertEqual(
+            (self.counted(), len(self.lines())), (Counted(0, 0x108, gap=(0x100, 0x108)), 1)
+        )
         for strict in (False, True):
             self.said.clear()
             follower = self.follower(strict=strict)
             if strict:
-                with self.assertRaisesRegex(Unfit, "missing: not counted in the commits that end behind 0/100 and up to 0/108"):
+                with self.assertRaisesRegex(
+                    Unfit,
+                    "missing: not counted in the commits that end behind 0/100 and up to 0/108",
+                ):
                     follower.run()
             else:
                 self.run_until(follower, lambda: self.server.sessions == 2)
@@ -356,7 +426,13 @@ class Rejected(FollowCase):
     def follow(self, status: int, said: str) -> Follower:
         self.says(f"rejects {0x128} {status} {said}")
         follower = self.follower()
-        self.server.to_send = [*ONE, *missing_commit(0x110, 2), begin(0x120, 8), insert(1), commit(0x120, 0x128)]
+        self.server.to_send = [
+            *ONE,
+            *missing_commit(0x110, 2),
+            begin(0x120, 8),
+            insert(1),
+            commit(0x120, 0x128),
+        ]
         return follower
 
     def check(self) -> None:
@@ -380,7 +456,9 @@ class Rejected(FollowCase):
 
     def test_in_the_same_run(self) -> None:
         """Where it goes on with whole transactions."""
-        self.run_until(self.follow(10, "pgsub: spool 1 SpoolFull"), lambda: self.server.sessions == 2)
+        self.run_until(
+            self.follow(10, "pgsub: spool 1 SpoolFull"), lambda: self.server.sessions == 2
+        )
         self.check()
 
     def test_where_the_store_failed(self) -> None:
@@ -417,7 +495,15 @@ class Told(FollowCase):
         misses.begin_filter(0, False)
         with mock.patch("time.monotonic") as clock:
             for now, count, told in (
-                (100.0, 0, 0), (100.1, 1, 1), (101.0, 3, 1), (109.9, 4, 1), (110.1, 4, 2), (115.0, 4, 2), (125.0, 4, 2), (126.0, 5, 3), (127.0, 9, 3),
+                (100.0, 0, 0),
+                (100.1, 1, 1),
+                (101.0, 3, 1),
+                (109.9, 4, 1),
+                (110.1, 4, 2),
+                (115.0, 4, 2),
+                (125.0, 4, 2),
+                (126.0, 5, 3),
+                (127.0, 9, 3),
             ):
                 clock.return_value = now
                 if misses.is_news(it := Missing(count, 0x108, 1)):
@@ -426,10 +512,18 @@ class Told(FollowCase):
                 self.assertEqual(len(self.lines()), told, now)
             misses.tell(is_last=True)
             misses.tell(is_last=True)
-        self.assertEqual(self.lines(), [
-            f"warning: found: missing at 0/108: {text}, {FIRST_OF_T}"
-            for text in ("1 change found no row", "4 changes found no row", "5 changes found no row", "9 changes found no row")
-        ])
+        self.assertEqual(
+            self.lines(),
+            [
+                f"warning: found: missing at 0/108: {text}, {FIRST_OF_T}"
+                for text in (
+                    "1 change found no row",
+                    "4 changes found no row",
+                    "5 changes found no row",
+                    "9 changes found no row",
+                )
+            ],
+        )
         self.assertEqual((misses.count, self.progress.missing_in), (9, "public.t (1)"))
 
     def test_those_of_several_filters(self) -> None:
@@ -457,19 +551,27 @@ class Told(FollowCase):
         text = f"3 changes found no row, {FIRST_OF_T}"
         self.assertEqual(self.lines(), [f"warning: found: missing at 0/108: {text}"])
         fields = {
-            "missing": 3, "missing_first": "0/108", "missing_in": "public.t (1)", "counted_since": "0/0", "counted_upto": "0/108",
+            "missing": 3,
+            "missing_first": "0/108",
+            "missing_in": "public.t (1)",
+            "counted_since": "0/0",
+            "counted_upto": "0/108",
             "found": {"missing": text},
         }
         self.assertEqual({name: shown[0].get(name) for name in fields}, fields)
         self.assertNotIn("not_counted", shown[0])
-        self.assertEqual([it for it in self.said if "rows not found" in it or "status 16" in it], [])
+        self.assertEqual(
+            [it for it in self.said if "rows not found" in it or "status 16" in it], []
+        )
 
     def test_what_comes_at_the_very_end(self) -> None:
         """The filter may store a commit after the end was asked for."""
         follower = self.follower()
         self.takes_late(follower)
         self.server.to_send = missing_commit(0x100)
-        self.run_until(follower, lambda: follower.noting.commits == 1 and not follower.filter.waiting)
+        self.run_until(
+            follower, lambda: follower.noting.commits == 1 and not follower.filter.waiting
+        )
         self.assertEqual((self.counted(), len(self.lines())), (Counted(0, 0x108, 1, 0x108, 1), 1))
         self.assertIn("missing", self.progress.found)
 
@@ -479,23 +581,39 @@ class Told(FollowCase):
         for sessions in (2, 3):
             self.said.clear()
             self.run_until(self.follower(), lambda sessions=sessions: self.server.sessions == sessions)  # type: ignore[misc]
-            self.assertEqual(self.lines(), [f"warning: found: missing at 0/108: 1 change found no row, {FIRST_OF_T}"])
+            self.assertEqual(
+                self.lines(),
+                [f"warning: found: missing at 0/108: 1 change found no row, {FIRST_OF_T}"],
+            )
 
     def test_a_filter_that_is_to_end(self) -> None:
         """With this status it has ended well."""
         follower = self.follower()
         ended = FilterEnded(16, "")
         for end in (follower.finish_filter, follower.end_session_by_ourselves):
-            with mock.patch.multiple(follower.filter, create=True, runs=True, takes=False, serve=mock.Mock(side_effect=ended)):
+            with mock.patch.multiple(
+                follower.filter,
+                create=True,
+                runs=True,
+                takes=False,
+                serve=mock.Mock(side_effect=ended),
+            ):
                 end()
         self.assertEqual(self.said, [])
 
 
 class Strict(FollowCase):
     def test_ends_at_the_first(self) -> None:
-        self.server.to_send = [*ONE, *missing_commit(0x110), *[it for lsn in range(0x200, 0x300, 16) for it in missing_commit(lsn)]]
+        self.server.to_send = [
+            *ONE,
+            *missing_commit(0x110),
+            *[it for lsn in range(0x200, 0x300, 16) for it in missing_commit(lsn)],
+        ]
         follower = self.follower(strict=True)
-        with self.assertRaisesRegex(Unfit, "--accept KIND.*\nmissing: .* found no row, the first one of public.t .1. in the commit that ends at 0/118"):
+        with self.assertRaisesRegex(
+            Unfit,
+            "--accept KIND.*\nmissing: .* found no row, the first one of public.t .1. in the commit that ends at 0/118",
+        ):
             follower.run()
         counted = self.counted()
         assert counted
@@ -509,13 +627,19 @@ class Strict(FollowCase):
                 self.follower(strict=True, accept=accept).run()
         self.assertEqual(self.server.sessions, 1)
         self.said.clear()
-        self.run_until(self.follower(strict=True, accept=["missing"]), lambda: self.server.sessions == 2)
-        self.assertEqual((self.counted(), self.lines(), self.progress.found), (Counted(0, 0x108), [], {}))
+        self.run_until(
+            self.follower(strict=True, accept=["missing"]), lambda: self.server.sessions == 2
+        )
+        self.assertEqual(
+            (self.counted(), self.lines(), self.progress.found), (Counted(0, 0x108), [], {})
+        )
         self.run_until(self.follower(strict=True), lambda: self.server.sessions == 3)
 
     def test_what_is_found_at_the_start_that_accepts_it(self) -> None:
         follower = self.follower(strict=True, accept=["missing"])
-        self.checkpoint.put(True, Known("following", position=0x100, confirmed=0x108), Counted(0, 0x100))
+        self.checkpoint.put(
+            True, Known("following", position=0x100, confirmed=0x108), Counted(0, 0x100)
+        )
         with open(self.store, "w", encoding="ascii") as file:
             file.write(str(0x108))
         self.run_until(follower, lambda: self.server.sessions == 1)
@@ -536,12 +660,24 @@ class Strict(FollowCase):
 
 
 class Statuses(FollowCase):
-    """Of the command, which the tests call in its own process: signals come to the main thread alone."""
+    """Of the command, which the tests call in its own process: signals come to the main thread
+    alone."""
 
     def command(self, *words: str) -> int:
-        return cli.main([
-            "follow", "--store", self.store, "--dsn", self.server.dsn(), "--pgsub", FAKE, "--status-file", self.folder + "/status", *words,
-        ])
+        return cli.main(
+            [
+                "follow",
+                "--store",
+                self.store,
+                "--dsn",
+                self.server.dsn(),
+                "--pgsub",
+                FAKE,
+                "--status-file",
+                self.folder + "/status",
+                *words,
+            ]
+        )
 
     def test_of_the_command(self) -> None:
         self.patch(cli, "Asker", mock.Mock())
@@ -550,12 +686,18 @@ class Statuses(FollowCase):
             self.addCleanup(signal.signal, number, signal.getsignal(number))
         with open(self.store, "w", encoding="ascii") as file:
             file.write("0")
-        for payloads, end, code in ((ONE, "0/108", 0), (missing_commit(0x110), "0/118", MISSED), (missing_commit(0x120)[:1], "0/118", 0)):
+        for payloads, end, code in (
+            (ONE, "0/108", 0),
+            (missing_commit(0x110), "0/118", MISSED),
+            (missing_commit(0x120)[:1], "0/118", 0),
+        ):
             self.server.to_send = list(payloads)
             self.assertEqual(self.command("--until", end), code, end)
         with open(self.folder + "/status", encoding="utf-8") as file:
             shown = json.load(file)
-        self.assertEqual((shown["missing"], shown["state"], list(shown["found"])), (1, "stopped", ["missing"]))
+        self.assertEqual(
+            (shown["missing"], shown["state"], list(shown["found"])), (1, "stopped", ["missing"])
+        )
         self.assertEqual(self.command("--strict", "--until", "0/118"), UNFIT)
         self.assertEqual(self.command("--strict", "--accept", "missing", "--until", "0/118"), 0)
 

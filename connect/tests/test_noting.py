@@ -6,19 +6,33 @@ import dataclasses
 import tempfile
 import unittest
 
-from pgsub_connect.server.catalog import Partition
-from pgsub_connect.follow.stream_log import Noting, changes_text, relation_of
-from pgsub_connect.status.progress import Progress
 from pgsub_connect.drift.remembered import Remembered
+from pgsub_connect.follow.stream_log import Noting, changes_text, relation_of
+from pgsub_connect.server.catalog import Partition
+from pgsub_connect.status.progress import Progress
 
 from . import vectors
-from .vectors import ID, NAME, a_catalog, a_shape, a_table, begin, commit, delete, insert, keepalive, relation, update
+from .vectors import (
+    ID,
+    NAME,
+    a_catalog,
+    a_shape,
+    a_table,
+    begin,
+    commit,
+    delete,
+    insert,
+    keepalive,
+    relation,
+    update,
+)
 
 MORE = (0, "more", 23, -1)
 
 
 class Case(unittest.TestCase):
-    """A store whose tables t (1) and u (2) were copied at 100, and the root (10) with its partition p1 (11)."""
+    """A store whose tables t (1) and u (2) were copied at 100, and the root (10) with its partition
+    p1 (11)."""
 
     def setUp(self) -> None:
         folder = tempfile.TemporaryDirectory()
@@ -47,14 +61,25 @@ class Counts(Case):
         self.assertEqual(list(self.noting.ends), [508])
 
     def test_blocks(self) -> None:
-        self.note(vectors.start(7, True), relation(1, "t", xid=7), insert(1, 7), insert(1, 8), vectors.stop())
+        self.note(
+            vectors.start(7, True),
+            relation(1, "t", xid=7),
+            insert(1, 7),
+            insert(1, 8),
+            vectors.stop(),
+        )
         self.note(vectors.start(9, True), insert(2, 9), vectors.stop(), vectors.stream_abort(9, 9))
         self.note(vectors.start(7, False), update(1, 7), vectors.truncate(2, xid=7), vectors.stop())
         self.assertEqual(list(self.noting.ends), [])
         self.note(vectors.stream_commit(7, 600, 608))
-        self.assertEqual((self.progress.passed_changes, self.progress.passed_commits, list(self.noting.ends)), (5, 1, [608]))
-        self.assertIn("transaction 7, final LSN 0/258, 3 changes of public.t (1), 1 change of public.u (2): --skip 0/258",
-            self.noting.rejected_text(0))
+        self.assertEqual(
+            (self.progress.passed_changes, self.progress.passed_commits, list(self.noting.ends)),
+            (5, 1, [608]),
+        )
+        self.assertIn(
+            "transaction 7, final LSN 0/258, 3 changes of public.t (1), 1 change of public.u (2): --skip 0/258",
+            self.noting.rejected_text(0),
+        )
         self.assertEqual(self.noting.open, {})
 
     def test_where_the_server_is(self) -> None:
@@ -75,15 +100,45 @@ class Counts(Case):
         self.assertEqual((list(self.noting.ends), list(self.noting.passed)), ([], []))
 
     def test_what_isnt_in_order_is_left_to_the_filter(self) -> None:
-        self.note(insert(1), commit(5, 6), vectors.stop(), vectors.stream_commit(3, 4, 5), vectors.stream_abort(1, 2), b"w" + bytes(24))
-        self.note(begin(1, 1), vectors.data(b"R"), vectors.data(b"R\0\0\0\1pub"), insert(1), commit(1, 2), vectors.data(b"T"), b"x", b"k")
+        self.note(
+            insert(1),
+            commit(5, 6),
+            vectors.stop(),
+            vectors.stream_commit(3, 4, 5),
+            vectors.stream_abort(1, 2),
+            b"w" + bytes(24),
+        )
+        self.note(
+            begin(1, 1),
+            vectors.data(b"R"),
+            vectors.data(b"R\0\0\0\1pub"),
+            insert(1),
+            commit(1, 2),
+            vectors.data(b"T"),
+            b"x",
+            b"k",
+        )
         self.assertEqual(self.found(), {})
 
 
 class Rejected(Case):
     def test_the_first_above_the_store(self) -> None:
-        self.note(begin(500, 76), insert(1), commit(500, 508), begin(0x1_0000_0210, 77), relation(1, "t"), insert(1), insert(1), delete(2))
-        self.note(commit(0x1_0000_0210, 0x1_0000_0218), begin(0x1_0000_0300, 78), insert(2), commit(0x1_0000_0300, 0x1_0000_0308))
+        self.note(
+            begin(500, 76),
+            insert(1),
+            commit(500, 508),
+            begin(0x1_0000_0210, 77),
+            relation(1, "t"),
+            insert(1),
+            insert(1),
+            delete(2),
+        )
+        self.note(
+            commit(0x1_0000_0210, 0x1_0000_0218),
+            begin(0x1_0000_0300, 78),
+            insert(2),
+            commit(0x1_0000_0300, 0x1_0000_0308),
+        )
         self.assertEqual(
             self.noting.rejected_text(508),
             "rejected: transaction 77, final LSN 1/210, 2 changes of public.t (1), 1 change of public.u (2): --skip 1/210 passes over it",
@@ -91,7 +146,13 @@ class Rejected(Case):
         self.assertEqual(self.noting.rejected_text(0x1_0000_0308), "")
 
     def test_of_what_was_rolled_back_nothing_is_sure(self) -> None:
-        self.note(vectors.start(7, True), insert(1, 7), insert(1, 8), vectors.stop(), vectors.stream_abort(7, 8))
+        self.note(
+            vectors.start(7, True),
+            insert(1, 7),
+            insert(1, 8),
+            vectors.stop(),
+            vectors.stream_abort(7, 8),
+        )
         self.note(vectors.stream_commit(7, 600, 608))
         self.assertIn("at most 2 changes of public.t (1)", self.noting.rejected_text(0))
 
@@ -108,17 +169,30 @@ class Rejected(Case):
         self.note(insert(1), insert(1))
         self.assertEqual(self.noting.largest(), (77, 3 * len(insert(1))))
         self.note(commit(500, 508), vectors.start(8, True), insert(1, 8))
-        self.assertEqual(self.noting.largest(), (77, 3 * len(insert(1)) + len(commit(500, 508))), "it may be what is stored now")
+        self.assertEqual(
+            self.noting.largest(),
+            (77, 3 * len(insert(1)) + len(commit(500, 508))),
+            "it may be what is stored now",
+        )
         self.noting.confirm(508, 0)
         self.assertEqual(self.noting.largest(), (8, len(insert(1, 8))))
-        self.note(vectors.stop(), vectors.start(9, True), insert(1, 9), vectors.stop(), vectors.start(8, False), insert(1, 8))
+        self.note(
+            vectors.stop(),
+            vectors.start(9, True),
+            insert(1, 9),
+            vectors.stop(),
+            vectors.start(8, False),
+            insert(1, 8),
+        )
         self.assertEqual(self.noting.largest(), (8, 2 * len(insert(1, 8)) + len(vectors.stop())))
 
 
 class Relations(Case):
     def test_the_same(self) -> None:
         self.note(begin(500, 7), relation(1, "t"), insert(1), commit(500, 508))
-        self.assertEqual((self.found(), self.remembered.last_sent(1), self.noting.wants_look), ({}, 500, False))
+        self.assertEqual(
+            (self.found(), self.remembered.last_sent(1), self.noting.wants_look), ({}, 500, False)
+        )
         self.assertFalse(self.remembered.is_urgent and self.remembered.news)
 
     def test_a_column(self) -> None:
@@ -131,7 +205,14 @@ class Relations(Case):
         self.assertEqual(len(self.found()["values"]), 1)
 
     def test_each_of_one_commit(self) -> None:
-        self.note(begin(500, 7), relation(1, "t", [ID, NAME, MORE]), insert(1), relation(1, "t"), insert(1), commit(500, 508))
+        self.note(
+            begin(500, 7),
+            relation(1, "t", [ID, NAME, MORE]),
+            insert(1),
+            relation(1, "t"),
+            insert(1),
+            commit(500, 508),
+        )
         self.assertEqual(len(self.found()["values"]), 1)
         self.assertEqual(self.remembered.sent[1].shape, a_shape(numbers=[0, 0]))
 
@@ -150,22 +231,46 @@ class Relations(Case):
         self.assertEqual(self.remembered.last_sent(1), 500)
 
     def test_in_blocks(self) -> None:
-        self.note(vectors.start(7, True), relation(1, "t", [ID, NAME, MORE], xid=7), insert(1, 7), vectors.stop())
+        self.note(
+            vectors.start(7, True),
+            relation(1, "t", [ID, NAME, MORE], xid=7),
+            insert(1, 7),
+            vectors.stop(),
+        )
         self.note(begin(500, 8), insert(2), commit(500, 508))
         self.assertEqual(self.found(), {})
         self.note(vectors.stream_commit(7, 600, 608))
         self.assertEqual(self.remembered.found["values"].lsn, 600)
 
     def test_of_an_aborted_transaction(self) -> None:
-        self.note(vectors.start(7, True), relation(1, "t", [ID, MORE], xid=7), insert(1, 7), vectors.stop(), vectors.stream_abort(7, 7))
+        self.note(
+            vectors.start(7, True),
+            relation(1, "t", [ID, MORE], xid=7),
+            insert(1, 7),
+            vectors.stop(),
+            vectors.stream_abort(7, 7),
+        )
         self.note(begin(500, 8), relation(1, "t"), insert(1), commit(500, 508))
         self.assertEqual(self.found(), {})
 
     def test_of_an_aborted_subtransaction(self) -> None:
-        self.note(vectors.start(7, True), relation(2, "u", [ID, NAME, MORE], xid=7), insert(2, 7), relation(1, "t", [ID, MORE], xid=8))
+        self.note(
+            vectors.start(7, True),
+            relation(2, "u", [ID, NAME, MORE], xid=7),
+            insert(2, 7),
+            relation(1, "t", [ID, MORE], xid=8),
+        )
         self.note(insert(1, 8), vectors.stop(), vectors.stream_abort(7, 8))
-        self.note(vectors.start(7, False), relation(1, "t", xid=9), insert(1, 9), vectors.stop(), vectors.stream_commit(7, 600, 608))
-        self.assertEqual([it for texts in self.found().values() for it in texts if "public.t" in it], [])
+        self.note(
+            vectors.start(7, False),
+            relation(1, "t", xid=9),
+            insert(1, 9),
+            vectors.stop(),
+            vectors.stream_commit(7, 600, 608),
+        )
+        self.assertEqual(
+            [it for texts in self.found().values() for it in texts if "public.t" in it], []
+        )
         self.assertEqual(len(self.found()["values"]), 1)
 
     def test_a_table_of_the_same_name(self) -> None:
@@ -179,23 +284,38 @@ class Relations(Case):
         self.assertFalse(self.noting.wants_look)
 
     def test_a_partition_has_no_changes(self) -> None:
-        self.note(begin(500, 7), relation(10, "root"), relation(11, "p1", [ID, MORE]), insert(10), commit(500, 508))
+        self.note(
+            begin(500, 7),
+            relation(10, "root"),
+            relation(11, "p1", [ID, MORE]),
+            insert(10),
+            commit(500, 508),
+        )
         self.assertEqual((self.found(), self.noting.wants_look), ({}, False))
         self.assertEqual(self.noting.described, {})
 
     def test_a_new_partition_asks_for_a_look(self) -> None:
-        self.note(begin(500, 7), relation(10, "root"), relation(12, "p2"), insert(10), commit(500, 508))
+        self.note(
+            begin(500, 7), relation(10, "root"), relation(12, "p2"), insert(10), commit(500, 508)
+        )
         self.assertEqual((self.found(), self.noting.wants_look), ({}, True))
         self.note(begin(510, 7), insert(10), commit(510, 518))
         self.assertNotIn(12, self.remembered.sent)
 
     def test_changes_under_the_name_of_a_root_that_was_not_published(self) -> None:
-        """It is known by its partitions, whose rows came under their own names: from now on the copy has two of them."""
+        """It is known by its partitions, whose rows came under their own names: from now on the
+        copy has two of them."""
         assert self.remembered.catalog
-        self.remembered.catalog.partitions.update({20: Partition(20, 0, "public.parted", False), 2: Partition(2, 20, "public.u", True)})
-        self.note(begin(500, 7), relation(20, "parted"), relation(2, "u"), insert(2), commit(500, 508))
+        self.remembered.catalog.partitions.update(
+            {20: Partition(20, 0, "public.parted", False), 2: Partition(2, 20, "public.u", True)}
+        )
+        self.note(
+            begin(500, 7), relation(20, "parted"), relation(2, "u"), insert(2), commit(500, 508)
+        )
         self.assertFalse(self.noting.wants_look)
-        self.note(begin(510, 7), relation(20, "parted"), relation(2, "u"), insert(20), commit(510, 518))
+        self.note(
+            begin(510, 7), relation(20, "parted"), relation(2, "u"), insert(20), commit(510, 518)
+        )
         self.assertTrue(self.noting.wants_look)
         self.assertEqual(self.remembered.text_of(20), "public.parted (20)")
 
@@ -227,11 +347,22 @@ class Relations(Case):
 
 class Bodies(unittest.TestCase):
     def test_fields(self) -> None:
-        body = vectors.relation_body(0xFFFFFFFF, "odd name", "f", [(1, "a\u00e4", 0xFFFFFFFE, -5), (0, "", 1, 2**31 - 1)], "")
+        body = vectors.relation_body(
+            0xFFFFFFFF,
+            "odd name",
+            "f",
+            [(1, "a\u00e4", 0xFFFFFFFE, -5), (0, "", 1, 2**31 - 1)],
+            "",
+        )
         found = relation_of(body)
         assert found
-        self.assertEqual((found.oid, found.namespace, found.name), (0xFFFFFFFF, "pg_catalog", "odd name"))
-        self.assertEqual(found.shape, a_shape([(1, "a\u00e4", 0xFFFFFFFE, -5), (0, "", 1, 2**31 - 1)], "f", [0, 0]))
+        self.assertEqual(
+            (found.oid, found.namespace, found.name), (0xFFFFFFFF, "pg_catalog", "odd name")
+        )
+        self.assertEqual(
+            found.shape,
+            a_shape([(1, "a\u00e4", 0xFFFFFFFE, -5), (0, "", 1, 2**31 - 1)], "f", [0, 0]),
+        )
         self.assertEqual(found.text(), "pg_catalog.odd name (4294967295)")
 
     def test_no_columns(self) -> None:

@@ -11,9 +11,9 @@ import tracemalloc
 import unittest
 from collections.abc import Iterable, Iterator
 
+from pgsub_connect.drift.remembered import Remembered
 from pgsub_connect.follow.stream_log import Noting, relation_of
 from pgsub_connect.status.progress import Progress
-from pgsub_connect.drift.remembered import Remembered
 
 from . import vectors
 from .vectors import a_catalog, a_table, begin, commit, data, insert, relation
@@ -196,8 +196,8 @@ class Blocks(Case):
 
 class Times(Case):
     def test_a_relation_with_many_columns(self) -> None:
-        """Twenty times as many columns take about twenty times as long, and not four hundred times.
-        """
+        """Twenty times as many columns take about twenty times as long, and not four hundred
+        times."""
         few, many = (
             vectors.relation_body(
                 5, "t", "d", [(0, f"column{it:060}", 25, -1) for it in range(count)]

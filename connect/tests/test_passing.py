@@ -1,4 +1,5 @@
-"""What a follower passes on of what comes, what it records, and what it says of a commit that was rejected."""
+"""What a follower passes on of what comes, what it records, and what it says of a commit that was
+rejected."""
 
 from __future__ import annotations
 
@@ -10,14 +11,14 @@ import unittest
 from collections.abc import Sequence
 from unittest import mock
 
-from pgsub_connect.store.checkpoint import Checkpoint
-from pgsub_connect.errors import ServerError
-from pgsub_connect.follow.filter import Filter, FilterEnded, PIECE, REJECTED, ROOM
-from pgsub_connect.follow.follower import Follower
 from pgsub_connect.commands.options import Options
-from pgsub_connect.status.progress import Progress
 from pgsub_connect.commands.record import Aside, Recording
 from pgsub_connect.drift.remembered import Remembered
+from pgsub_connect.errors import ServerError
+from pgsub_connect.follow.filter import PIECE, REJECTED, ROOM, Filter, FilterEnded
+from pgsub_connect.follow.follower import Follower
+from pgsub_connect.status.progress import Progress
+from pgsub_connect.store.checkpoint import Checkpoint
 from pgsub_connect.store.snapshot import Snapshots
 
 from .vectors import a_catalog, a_table, begin, commit, insert, keepalive, logged, relation
@@ -63,7 +64,13 @@ class Case(unittest.TestCase):
         self.addCleanup(self.recording.out.close)
         options = Options(store=self.store, publication=["pgsub"], skip=0x210)
         self.follower = Follower(
-            options, Checkpoint(self.store), self.child, Progress(), Aside(self.recording), Snapshots(self.store, None, 0.0), remembered
+            options,
+            Checkpoint(self.store),
+            self.child,
+            Progress(),
+            Aside(self.recording),
+            Snapshots(self.store, None, 0.0),
+            remembered,
         )
 
     def take(self, source: Source) -> bool | None:
@@ -83,7 +90,13 @@ class Case(unittest.TestCase):
 
 class Passes(Case):
     def test_all_in_order(self) -> None:
-        payloads = [begin(0x100, 7), relation(1, "t"), *[insert(1)] * 3, keepalive(0x90), commit(0x100, 0x108)]
+        payloads = [
+            begin(0x100, 7),
+            relation(1, "t"),
+            *[insert(1)] * 3,
+            keepalive(0x90),
+            commit(0x100, 0x108),
+        ]
         for then, result in ((b"", False), (None, None)):
             self.child.pending.clear()
             self.assertIs(self.take(Source(payloads, then)), result)
@@ -125,7 +138,9 @@ class Passes(Case):
         follower = self.follower
         follower.proto, follower.streams = 1, False
         self.assertIn("proto_version '1', publication_names", follower.command(0))
-        chosen = dataclasses.replace(follower.options, proto=follower.proto, streaming=follower.is_streaming())
+        chosen = dataclasses.replace(
+            follower.options, proto=follower.proto, streaming=follower.is_streaming()
+        )
         connection = mock.Mock()
         connection.parameter.return_value = "13.9"
         self.recording.begin_session(connection, chosen, 0x100)
@@ -143,7 +158,11 @@ class Passes(Case):
     def test_up_to_an_lsn(self) -> None:
         """What comes behind it waits until the copy is taken, in the recording too."""
         hold = self.follower.snapshots.hold
-        below, above = [begin(0x100, 7), insert(1), commit(0x100, 0x108)], [begin(0x110, 8), insert(1), commit(0x110, 0x118)]
+        below, above = [begin(0x100, 7), insert(1), commit(0x100, 0x108)], [
+            begin(0x110, 8),
+            insert(1),
+            commit(0x110, 0x118),
+        ]
         hold.begin("copy", 10.0)
         hold.go(0x110)
         self.assertIs(self.follower.take_payloads(Source([*below, *above])), True)  # type: ignore[arg-type]
@@ -179,7 +198,18 @@ class Rejects(Case):
         """Passes two commits on, of which the store has the first, and has the filter end."""
         with open(self.store, "w", encoding="ascii") as file:
             file.write(str(0x108))
-        self.take(Source([begin(0x100, 7), insert(1), commit(0x100, 0x108), begin(0x110, 8), insert(1), commit(0x110, 0x118)]))
+        self.take(
+            Source(
+                [
+                    begin(0x100, 7),
+                    insert(1),
+                    commit(0x100, 0x108),
+                    begin(0x110, 8),
+                    insert(1),
+                    commit(0x110, 0x118),
+                ]
+            )
+        )
         with logged() as lines, self.assertRaises(FilterEnded):
             self.follower.note_end(FilterEnded(REJECTED, said))
         return lines
@@ -196,7 +226,9 @@ class Rejects(Case):
             self.assertEqual(self.end(said), [])
 
     def test_the_store_cant_be_opened_then(self) -> None:
-        with mock.patch.object(self.child, "start", side_effect=FilterEnded(12, "pgsub: store 8 Refused")):
+        with mock.patch.object(
+            self.child, "start", side_effect=FilterEnded(12, "pgsub: store 8 Refused")
+        ):
             self.assertEqual(self.end("pgsub: store 1 Clash"), [])
 
 

@@ -12,10 +12,17 @@ from unittest import mock
 
 from psycopg import pq
 
-from pgsub_connect.server import connection as connection_module
 from pgsub_connect.errors import ServerError, Stopped, Unconnected
+from pgsub_connect.server import connection as connection_module
+from pgsub_connect.server.connection import (
+    COPY_BOTH,
+    Connection,
+    addresses_of,
+    connect_limit,
+    hosts_of,
+    parameters,
+)
 from pgsub_connect.server.libpq import LIBPQ
-from pgsub_connect.server.connection import COPY_BOTH, Connection, addresses_of, connect_limit, hosts_of, parameters
 
 from . import small_server
 from .fake_server import FakeServer, Quiet
@@ -50,12 +57,16 @@ class Case(Quiet):
         others.start()
         self.addCleanup(others.stop)
 
-    def start(self, port: int = 5432, *, standby: bool = False, refusal: bytes = b"") -> SmallServer:
+    def start(
+        self, port: int = 5432, *, standby: bool = False, refusal: bytes = b""
+    ) -> SmallServer:
         server = SmallServer(self.folder, self.brain, port=port, standby=standby, refusal=refusal)
         self.addCleanup(server.close)
         return server
 
-    def connect(self, dsn: str = "", check: object = connection_module.never, limit: float = 10.0) -> Connection:
+    def connect(
+        self, dsn: str = "", check: object = connection_module.never, limit: float = 10.0
+    ) -> Connection:
         with mock.patch.object(connection_module, "CONNECT_LIMIT", limit):
             connection = Connection(dsn or self.server.dsn(), check=check)  # type: ignore[arg-type]
         self.addCleanup(connection.close)
@@ -67,14 +78,19 @@ class Queries(Case):
         self.brain.answer("SELECT", [["a", None, "\u00e4"], ["", "b", "c"]])
         connection = self.connect()
         self.assertEqual(connection.rows("SELECT"), [["a", None, "\u00e4"], ["", "b", "c"]])
-        self.assertEqual((connection.value("SELECT"), connection.value("OTHER"), connection.version()), ("a", None, 150018))
+        self.assertEqual(
+            (connection.value("SELECT"), connection.value("OTHER"), connection.version()),
+            ("a", None, 150018),
+        )
 
     def test_error(self) -> None:
         self.brain.answer("SELECT", ServerError("denied", "42501"))
         connection = self.connect()
         with self.assertRaisesRegex(ServerError, "denied") as raised:
             connection.rows("SELECT")
-        self.assertEqual((raised.exception.sqlstate, raised.exception.is_lasting()), ("42501", True))
+        self.assertEqual(
+            (raised.exception.sqlstate, raised.exception.is_lasting()), ("42501", True)
+        )
         self.brain.answer("SELECT", [["1"]])
         self.assertEqual(connection.value("SELECT"), "1")
 
@@ -115,27 +131,45 @@ class Connects(Case):
             connection.connect_to(parameters(self.server.dsn()))
 
     def test_refused(self) -> None:
-        for port, sqlstate, lasts in ((5433, "28P01", True), (5434, "57P03", False), (5435, "3D000", True), (5436, "53300", False)):
+        for port, sqlstate, lasts in (
+            (5433, "28P01", True),
+            (5434, "57P03", False),
+            (5435, "3D000", True),
+            (5436, "53300", False),
+        ):
             server = self.start(port, refusal=error("no", sqlstate))
             with self.assertRaises(ServerError) as raised:
                 self.connect(server.dsn())
-            self.assertEqual((raised.exception.sqlstate, raised.exception.is_lasting()), (sqlstate, lasts))
+            self.assertEqual(
+                (raised.exception.sqlstate, raised.exception.is_lasting()), (sqlstate, lasts)
+            )
         with self.assertRaises(ServerError) as raised:
             self.connect(f"host={self.folder} port=5444 user=u")
         self.assertEqual((raised.exception.sqlstate, raised.exception.is_lasting()), ("", False))
 
     def test_a_lasting_error_of_one_address_of_a_host(self) -> None:
-        """It is the host's: no other address is tried, and none that can't be reached takes its SQLSTATE away."""
+        """It is the host's: no other address is tried, and none that can't be reached takes its
+        SQLSTATE away."""
         self.start(5433, refusal=error("password authentication failed", "28P01"))
         settings = parameters(self.server.dsn())
 
         def at(*ports: int) -> object:
-            return mock.patch.object(connection_module, "addresses_of", lambda *_: [{**settings, "port": str(it)} for it in ports])
+            return mock.patch.object(
+                connection_module,
+                "addresses_of",
+                lambda *_: [{**settings, "port": str(it)} for it in ports],
+            )
 
-        for ports, sqlstate in (((5444, 5433, 5432), "28P01"), ((5433, 5444), "28P01"), ((5444, 5445), "")):
+        for ports, sqlstate in (
+            ((5444, 5433, 5432), "28P01"),
+            ((5433, 5444), "28P01"),
+            ((5444, 5445), ""),
+        ):
             with at(*ports), self.assertRaises(ServerError) as raised:  # type: ignore[attr-defined]
                 self.connect()
-            self.assertEqual((raised.exception.sqlstate, type(raised.exception)), (sqlstate, Unconnected))
+            self.assertEqual(
+                (raised.exception.sqlstate, type(raised.exception)), (sqlstate, Unconnected)
+            )
         with at(5444, 5432):  # type: ignore[attr-defined]
             self.assertEqual(self.connect().raw.port, b"5432")
         # (another host may let in whom this one doesn't)
@@ -175,49 +209,87 @@ class Connects(Case):
 
     def test_what_the_user_said_goes_before(self) -> None:
         self.start(5433, standby=True)
-        self.assertEqual(self.connect(self.hosts(5433, 5432) + " target_session_attrs=any").raw.port, b"5433")
+        self.assertEqual(
+            self.connect(self.hosts(5433, 5432) + " target_session_attrs=any").raw.port, b"5433"
+        )
         # (libpq 14 knows a primary from a standby, also one whose transactions are read-only)
         for version, primary in ((140000, "primary"), (130011, "read-write")):
             with mock.patch("psycopg.pq.version", return_value=version):
-                self.assertEqual([it["target_session_attrs"] for it in hosts_of(parameters("host=a,b"))], [primary] * 2)
+                self.assertEqual(
+                    [it["target_session_attrs"] for it in hosts_of(parameters("host=a,b"))],
+                    [primary] * 2,
+                )
         for dsn, wanted in (
-            ("host=a,b target_session_attrs=standby", "standby"), ("host=a,b target_session_attrs=any", "any"),
+            ("host=a,b target_session_attrs=standby", "standby"),
+            ("host=a,b target_session_attrs=any", "any"),
         ):
-            self.assertEqual([it["target_session_attrs"] for it in hosts_of(parameters(dsn))], [wanted] * 2)
+            self.assertEqual(
+                [it["target_session_attrs"] for it in hosts_of(parameters(dsn))], [wanted] * 2
+            )
         self.assertEqual(hosts_of(parameters("host=a")), [{"host": "a"}])
 
     def test_several_hosts_of_which_libpq_chooses(self) -> None:
-        """Of a list no name is looked up here: libpq tries one host after the other, and may begin anew."""
+        """Of a list no name is looked up here: libpq tries one host after the other, and may begin
+        anew."""
         dsn = "host=localhost,nowhere.invalid port=5444,5445 target_session_attrs=prefer-standby"
         settings = parameters(dsn)
-        self.assertEqual((hosts_of(settings), addresses_of(settings, connection_module.never)), ([settings], [settings]))
+        self.assertEqual(
+            (hosts_of(settings), addresses_of(settings, connection_module.never)),
+            ([settings], [settings]),
+        )
 
     def test_names_are_looked_up(self) -> None:
-        """Each address is tried, and keeps the name: for TLS, and for ~/.pgpass. A signal is heard meanwhile."""
+        """Each address is tried, and keeps the name: for TLS, and for ~/.pgpass. A signal is heard
+        meanwhile."""
         settings, ended = parameters("host=db.example port=5444"), threading.Event()
         self.addCleanup(ended.set)
         found = [(0, 0, 0, "", (address, 0)) for address in ("::1", "127.0.0.1", "::1")]
         with mock.patch("socket.getaddrinfo", return_value=found):
             attempts = addresses_of(settings, connection_module.never)
-        self.assertEqual([(it["host"], it["hostaddr"]) for it in attempts], [("db.example", "::1"), ("db.example", "127.0.0.1")])
-        for text in ("host=127.0.0.1", "host=::1", "host=/tmp", "hostaddr=10.0.0.1 host=db.example", "service=shop", ""):
-            self.assertEqual(addresses_of(parameters(text), connection_module.never), [parameters(text)])
-        with mock.patch("socket.getaddrinfo", side_effect=socket.gaierror(-2, "Name or service not known")):
-            with self.assertRaisesRegex(ServerError, "db.example can't be looked up: Name or service") as raised:
+        self.assertEqual(
+            [(it["host"], it["hostaddr"]) for it in attempts],
+            [("db.example", "::1"), ("db.example", "127.0.0.1")],
+        )
+        for text in (
+            "host=127.0.0.1",
+            "host=::1",
+            "host=/tmp",
+            "hostaddr=10.0.0.1 host=db.example",
+            "service=shop",
+            "",
+        ):
+            self.assertEqual(
+                addresses_of(parameters(text), connection_module.never), [parameters(text)]
+            )
+        with mock.patch(
+            "socket.getaddrinfo", side_effect=socket.gaierror(-2, "Name or service not known")
+        ):
+            with self.assertRaisesRegex(
+                ServerError, "db.example can't be looked up: Name or service"
+            ) as raised:
                 addresses_of(settings, connection_module.never)
         self.assertFalse(raised.exception.is_lasting())
         began = time.monotonic()
         with mock.patch("socket.getaddrinfo", side_effect=lambda *_, **__: [][: ended.wait(20)]):
             with self.assertRaises(Stopped):
                 addresses_of(settings, StopsLater(3))
-            with mock.patch.object(connection_module, "CONNECT_LIMIT", 0.1), self.assertRaisesRegex(ServerError, "no answer within"):
+            with mock.patch.object(connection_module, "CONNECT_LIMIT", 0.1), self.assertRaisesRegex(
+                ServerError, "no answer within"
+            ):
                 addresses_of(settings, connection_module.never)
         self.assertLess(time.monotonic() - began, 2.0)
 
     def test_limits_of_connecting(self) -> None:
-        """As libpq has them: two seconds at least, 0 for none, and the environment's where the DSN says nothing."""
+        """As libpq has them: two seconds at least, 0 for none, and the environment's where the DSN
+        says nothing."""
         for said, variable, limit in (
-            ("", None, 10.0), ("5", None, 5.0), ("1", None, 2.0), ("0", None, 3600.0), ("-1", "5", 3600.0), ("", "7", 7.0), ("3", "7", 3.0),
+            ("", None, 10.0),
+            ("5", None, 5.0),
+            ("1", None, 2.0),
+            ("0", None, 3600.0),
+            ("-1", "5", 3600.0),
+            ("", "7", 7.0),
+            ("3", "7", 3.0),
         ):
             with self.subTest(said=said, variable=variable), mock.patch.dict(
                 os.environ, {} if variable is None else {"PGCONNECT_TIMEOUT": variable}
@@ -239,7 +311,8 @@ class Connects(Case):
         self.brain.answer("SELECT", [["1"]])
         connection = self.connect()
         with mock.patch.object(self.server.brain, "rows_for", return_value=[]), mock.patch(
-            "tests.small_server.answered", return_value=error("careful", "01000", b"N") + message(b"C", b"SET\0")
+            "tests.small_server.answered",
+            return_value=error("careful", "01000", b"N") + message(b"C", b"SET\0"),
         ):
             connection.run("SET x")
         self.assertEqual(self.said, ["server: ERROR:  careful"])
@@ -268,13 +341,18 @@ class Copies(Case):
         self.assertIsNone(payload)
 
     def test_lots(self) -> None:
-        """By both ways to take them: up to the room, to the first long one, what is there, and then the end."""
+        """By both ways to take them: up to the room, to the first long one, what is there, and then
+        the end."""
         sent = [b"%d" % it for it in range(100)] + [b"x" * 1000] + [b"y"] * 3
         for quick in (True, False):
             server = self.start(5433 + quick)
             server.to_send = list(sent)
             lots, more, until = list[list[bytes]](), True, time.monotonic() + 20
-            with mock.patch.object(connection_module, "GET_COPY_DATA", connection_module.GET_COPY_DATA if quick else None):
+            with mock.patch.object(
+                connection_module,
+                "GET_COPY_DATA",
+                connection_module.GET_COPY_DATA if quick else None,
+            ):
                 connection = self.connect(server.dsn())
                 connection.run("START_REPLICATION", COPY_BOTH, 5.0)
                 while sum(map(len, lots)) < len(sent) and time.monotonic() < until:
@@ -291,10 +369,17 @@ class Copies(Case):
             self.assertIsNone(more)
 
     def test_what_came_before_the_session_broke(self) -> None:
-        body = small_server.COPY_BOTH + message(b"d", b"one") + message(b"d", b"two") + error("terminating", "57P01")
+        body = (
+            small_server.COPY_BOTH
+            + message(b"d", b"one")
+            + message(b"d", b"two")
+            + error("terminating", "57P01")
+        )
         for quick in (True, False):
             with mock.patch.object(small_server, "COPY_BOTH", body), mock.patch.object(
-                connection_module, "GET_COPY_DATA", connection_module.GET_COPY_DATA if quick else None
+                connection_module,
+                "GET_COPY_DATA",
+                connection_module.GET_COPY_DATA if quick else None,
             ):
                 connection, found, until = self.connect(), list[bytes](), time.monotonic() + 20
                 connection.run("START_REPLICATION", COPY_BOTH, 5.0)
@@ -306,7 +391,11 @@ class Copies(Case):
 
     def test_why_the_stream_broke_is_said_to_whoever_sends_first(self) -> None:
         """Its SQLSTATE tells whether another try makes sense."""
-        body = small_server.COPY_BOTH + message(b"d", b"one") + error('publication "pgsub" does not exist', "42704")
+        body = (
+            small_server.COPY_BOTH
+            + message(b"d", b"one")
+            + error('publication "pgsub" does not exist', "42704")
+        )
         for call in ("send", "flush"):
             with mock.patch.object(small_server, "COPY_BOTH", body):
                 connection, found, until = self.connect(), list[bytes](), time.monotonic() + 20
@@ -322,19 +411,25 @@ class Copies(Case):
                     for _ in range(3):
                         connection.send(b"status")
                 said = raised.exception
-                self.assertEqual((found, said.sqlstate, said.is_lasting()), ([b"one"], "42704", True))
+                self.assertEqual(
+                    (found, said.sqlstate, said.is_lasting()), ([b"one"], "42704", True)
+                )
 
     def test_rows(self) -> None:
         copied = b"".join(message(b"d", b"%d\tx\n" % it) for it in range(100))
         body = message(b"H", bytes(3)) + copied + message(b"c", b"") + message(b"C", b"COPY 100\0")
         with mock.patch("tests.small_server.answered", return_value=body):
             blocks = list(self.connect().copied_blocks("COPY", 200))
-        self.assertEqual(b"".join(b"".join(it) for it in blocks), b"".join(b"%d\tx\n" % it for it in range(100)))
+        self.assertEqual(
+            b"".join(b"".join(it) for it in blocks), b"".join(b"%d\tx\n" % it for it in range(100))
+        )
         self.assertGreater(len(blocks), 1)
 
     def test_an_error_in_the_midst(self) -> None:
         body = message(b"H", bytes(3)) + message(b"d", b"1\tx\n") + error("bad bytes", "22021")
-        with mock.patch("tests.small_server.answered", return_value=body), self.assertRaisesRegex(ServerError, "bad bytes") as raised:
+        with mock.patch("tests.small_server.answered", return_value=body), self.assertRaisesRegex(
+            ServerError, "bad bytes"
+        ) as raised:
             list(self.connect().copied_blocks("COPY", 200))
         self.assertEqual(raised.exception.sqlstate, "22021")
 
@@ -354,8 +449,14 @@ class Wrapped(unittest.TestCase):
         connection = Connection.__new__(Connection)
         call = mock.Mock()
         for tls, host, gss, wrapped in (
-            (True, b"db.example", 0, True), (False, b"db.example", 0, False), (False, b"db.example", 1, True), (False, b"db.example", None, True),
-            (False, b"/run/postgresql", None, False), (False, b"@socket", None, False), (True, b"", None, True), (False, b"", 0, False),
+            (True, b"db.example", 0, True),
+            (False, b"db.example", 0, False),
+            (False, b"db.example", 1, True),
+            (False, b"db.example", None, True),
+            (False, b"/run/postgresql", None, False),
+            (False, b"@socket", None, False),
+            (True, b"", None, True),
+            (False, b"", 0, False),
         ):
             connection.raw = mock.Mock(ssl_in_use=tls, host=host, pgconn_ptr=77)
             call.return_value = gss

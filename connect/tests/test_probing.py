@@ -22,7 +22,11 @@ class Probes(unittest.TestCase):
         progress = Progress()
         progress.state = "following"
         progress.note_confirmed(0x500, 0x500)
-        self.status: dict[str, object] = {**progress.shown(0.0, time.time()), "lag_bytes": 5000, "lag_seconds": 12.5}
+        self.status: dict[str, object] = {
+            **progress.shown(0.0, time.time()),
+            "lag_bytes": 5000,
+            "lag_seconds": 12.5,
+        }
 
     def probe(self, *words: str, status: object = None) -> tuple[int, str]:
         with open(self.path, "w", encoding="utf-8") as file:
@@ -37,14 +41,28 @@ class Probes(unittest.TestCase):
     def test_fine(self) -> None:
         code, text = self.probe("--max-lag", "60s", "--max-lag", "10MB", "--strict")
         self.assertEqual(code, 0)
-        self.assertRegex(text, r"^ok \(following, 5000 bytes and 12.5 s behind, at 0/500, heartbeat \d+ s ago\)\n$")
+        self.assertRegex(
+            text,
+            r"^ok \(following, 5000 bytes and 12.5 s behind, at 0/500, heartbeat \d+ s ago\)\n$",
+        )
 
     def test_lag(self) -> None:
         for limit, code in (
-            ("12s", 1), ("13s", 0), ("0.2min", 1), ("1h", 0), ("4999B", 1), ("5000B", 0), ("4kB", 1), ("5kB", 0), ("1MB", 0), ("12.5s", 0),
+            ("12s", 1),
+            ("13s", 0),
+            ("0.2min", 1),
+            ("1h", 0),
+            ("4999B", 1),
+            ("5000B", 0),
+            ("4kB", 1),
+            ("5kB", 0),
+            ("1MB", 0),
+            ("12.5s", 0),
         ):
             found, text = self.probe("--max-lag", limit)
-            self.assertEqual((found, f"more than {limit} behind" in text), (code, bool(code)), limit)
+            self.assertEqual(
+                (found, f"more than {limit} behind" in text), (code, bool(code)), limit
+            )
 
     def test_a_lag_that_isnt_known(self) -> None:
         del self.status["lag_seconds"]
@@ -54,13 +72,23 @@ class Probes(unittest.TestCase):
 
     def test_no_sign_of_life(self) -> None:
         self.status["heartbeat"] = time_text(time.time() - 31)
-        for words, code in ((), 1), (("--max-age", "1min"), 0), (("--max-age", "40"), 0), (("--max-age", "30s"), 1):
+        for words, code in (
+            ((), 1),
+            (("--max-age", "1min"), 0),
+            (("--max-age", "40"), 0),
+            (("--max-age", "30s"), 1),
+        ):
             found, text = self.probe(*words)
             self.assertEqual((found, "no sign of life for 3" in text), (code, bool(code)), words)
 
     def test_states(self) -> None:
         self.status["last_error"] = "a\x1b[2J\nb"
-        for state, code in (("copying", 0), ("waiting to connect again", 0), ("stopped", 1), ("failed", 1)):
+        for state, code in (
+            ("copying", 0),
+            ("waiting to connect again", 0),
+            ("stopped", 1),
+            ("failed", 1),
+        ):
             self.status["state"] = state
             found, text = self.probe()
             self.assertEqual(found, code, state)
@@ -75,7 +103,10 @@ class Probes(unittest.TestCase):
     def test_tables_that_are_set_aside(self) -> None:
         self.status["tables_aside"] = {"public.t": "since 0/500: why", "s.u": "since 0/400: why"}
         code, text = self.probe()
-        self.assertEqual((code, "set aside in the tables, `pgsub-connect add` them: public.t, s.u" in text), (1, True))
+        self.assertEqual(
+            (code, "set aside in the tables, `pgsub-connect add` them: public.t, s.u" in text),
+            (1, True),
+        )
 
     def test_a_lost_slot(self) -> None:
         for status, code in (("extended", 0), ("unreserved", 0), ("lost", 1)):
@@ -83,8 +114,18 @@ class Probes(unittest.TestCase):
             self.assertEqual(self.probe()[0], code)
 
     def test_no_such_file(self) -> None:
-        self.assertEqual(self.run_it("--status-file", self.path), (3, f"{self.path}: No such file or directory\n"))
-        for it in ([], "x", {}, {"state": "following"}, {"state": 5, "heartbeat": 7}, {"state": "following", "heartbeat": "x"}):
+        self.assertEqual(
+            self.run_it("--status-file", self.path),
+            (3, f"{self.path}: No such file or directory\n"),
+        )
+        for it in (
+            [],
+            "x",
+            {},
+            {"state": "following"},
+            {"state": 5, "heartbeat": 7},
+            {"state": "following", "heartbeat": "x"},
+        ):
             self.assertEqual(self.probe(status=it), (3, f"{self.path}: not a status file\n"), it)
 
     def test_a_path_that_is_no_utf_8(self) -> None:
@@ -94,8 +135,13 @@ class Probes(unittest.TestCase):
             self.assertEqual(out.read(), "/none\\udcff: No such file or directory\n")
 
     def test_usage(self) -> None:
-        for words in ("", "--status-file x --max-lag 60", "--status-file x --max-lag -1s", "--status-file x --max-lag 1sB",
-            "--status-file x --max-age soon"):
+        for words in (
+            "",
+            "--status-file x --max-lag 60",
+            "--status-file x --max-lag -1s",
+            "--status-file x --max-lag 1sB",
+            "--status-file x --max-age soon",
+        ):
             with contextlib.redirect_stderr(io.StringIO()), self.assertRaises(SystemExit) as ended:
                 cli.main(["status", *words.split()])
             self.assertEqual(ended.exception.code, 2)

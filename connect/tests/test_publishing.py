@@ -1,4 +1,5 @@
-"""What is published: queries, several publications, identities, and how a publication is made or rejected."""
+"""What is published: queries, several publications, identities, and how a publication is made or
+rejected."""
 
 from __future__ import annotations
 
@@ -6,37 +7,72 @@ import re
 import unittest
 from unittest import mock
 
-from pgsub_connect.server import publication_setup
 from pgsub_connect.errors import ServerError, Stopped
-from pgsub_connect.server.publication_setup import Maker, Wanted, identity, names_of, publishable_tables
-from pgsub_connect.server.publications import Column, Leaves, Table, published_tables, put_columns, united, with_cure
+from pgsub_connect.server import publication_setup
+from pgsub_connect.server.publication_setup import (
+    Maker,
+    Wanted,
+    identity,
+    names_of,
+    publishable_tables,
+)
+from pgsub_connect.server.publications import (
+    Column,
+    Leaves,
+    Table,
+    published_tables,
+    put_columns,
+    united,
+    with_cure,
+)
 from tests.fake_server import FakeServer, Quiet, Row, connection_to
 
-KEY, OTHER = Column("id", 23, -1, True), Column("Q\"x", 25, -1, False)
+KEY, OTHER = Column("id", 23, -1, True), Column('Q"x', 25, -1, False)
 
 
-def table(oid: int = 16385, row_filter: str | None = None, kind: str = "r", columns: list[Column] | None = None) -> Table:
-    return Table(oid, "public", "st\"k", kind, "d", row_filter, None, [KEY, OTHER] if columns is None else columns)
+def table(
+    oid: int = 16385,
+    row_filter: str | None = None,
+    kind: str = "r",
+    columns: list[Column] | None = None,
+) -> Table:
+    return Table(
+        oid,
+        "public",
+        'st"k',
+        kind,
+        "d",
+        row_filter,
+        None,
+        [KEY, OTHER] if columns is None else columns,
+    )
 
 
 class Query(unittest.TestCase):
     def test_rows_of_a_table_are_its_own(self) -> None:
-        self.assertEqual(table().query(), 'COPY (SELECT "id", "Q""x" FROM ONLY "public"."st""k") TO STDOUT')
+        self.assertEqual(
+            table().query(), 'COPY (SELECT "id", "Q""x" FROM ONLY "public"."st""k") TO STDOUT'
+        )
 
     def test_rows_of_a_partitioned_table_are_those_of_its_partitions(self) -> None:
-        self.assertEqual(table(kind="p").query(), 'COPY (SELECT "id", "Q""x" FROM "public"."st""k") TO STDOUT')
+        self.assertEqual(
+            table(kind="p").query(), 'COPY (SELECT "id", "Q""x" FROM "public"."st""k") TO STDOUT'
+        )
 
     def test_filter(self) -> None:
         query = 'COPY (SELECT "id", "Q""x" FROM ONLY "public"."st""k" WHERE (id > 3)) TO STDOUT'
         self.assertEqual(table(row_filter="(id > 3)").query(), query)
 
     def test_no_columns(self) -> None:
-        self.assertEqual(table(columns=[]).query(), 'COPY (SELECT  FROM ONLY "public"."st""k") TO STDOUT')
+        self.assertEqual(
+            table(columns=[]).query(), 'COPY (SELECT  FROM ONLY "public"."st""k") TO STDOUT'
+        )
 
 
 class Cure(unittest.TestCase):
     def test_of_different_column_lists(self) -> None:
-        """Where the server ended a session by them, what goes on is told; another error stays as it is."""
+        """Where the server ended a session by them, what goes on is told; another error stays as it
+        is."""
         error = ServerError("cannot use different column lists", "0A000")
         cured = with_cure(error, ["few", "more"])
         self.assertIn("--publication few --until now", str(cured))
@@ -52,27 +88,48 @@ class Unlogged(unittest.TestCase):
     def test_unlogged_ones_are_left_out(self) -> None:
         some = table(kind="p", row_filter="a OR b")
         some.leaves = Leaves(['"public"."p1"'], [7, 8], [])
-        self.assertEqual(some.source(), 'FROM "public"."st""k" WHERE (a OR b) AND tableoid NOT IN (7, 8)')
+        self.assertEqual(
+            some.source(), 'FROM "public"."st""k" WHERE (a OR b) AND tableoid NOT IN (7, 8)'
+        )
         some.row_filter = None
         self.assertEqual(some.source(), 'FROM "public"."st""k" WHERE tableoid NOT IN (7, 8)')
 
     def test_foreign_ones_are_not_touched(self) -> None:
         some = table(kind="p", row_filter="(id > 3)")
         some.leaves = Leaves(['"public"."p1"', '"x"."p2"'], [7], [9])
-        each = ('SELECT "id", "Q""x" FROM ONLY "public"."p1" WHERE (id > 3)', 'SELECT "id", "Q""x" FROM ONLY "x"."p2" WHERE (id > 3)')
+        each = (
+            'SELECT "id", "Q""x" FROM ONLY "public"."p1" WHERE (id > 3)',
+            'SELECT "id", "Q""x" FROM ONLY "x"."p2" WHERE (id > 3)',
+        )
         self.assertEqual(some.source(), f"FROM ({' UNION ALL '.join(each)}) AS logged")
         some.leaves = Leaves([], [], [9])
-        self.assertEqual(some.source(), 'FROM (SELECT "id", "Q""x" FROM ONLY "public"."st""k" WHERE (id > 3)) AS logged', "it has no rows itself")
+        self.assertEqual(
+            some.source(),
+            'FROM (SELECT "id", "Q""x" FROM ONLY "public"."st""k" WHERE (id > 3)) AS logged',
+            "it has no rows itself",
+        )
 
     def test_which_they_are(self) -> None:
         server = FakeServer()
-        server.answer("pg_get_publication_tables", [row(5, "root", "p"), row(6, "other", "p"), row(7, "plain"), row(8, "last", "p")])
-        server.answer("RECURSIVE", [
-            ["5", "11", "public", "p1", "r", "p"], ["5", "12", "public", "p2", "r", "u"], ["5", "13", "public", "p3", "f", "p"],
-            ["6", "14", "public", "p4", "r", "p"], ["8", "15", "public", "p5", "r", "u"],
-        ])
+        server.answer(
+            "pg_get_publication_tables",
+            [row(5, "root", "p"), row(6, "other", "p"), row(7, "plain"), row(8, "last", "p")],
+        )
+        server.answer(
+            "RECURSIVE",
+            [
+                ["5", "11", "public", "p1", "r", "p"],
+                ["5", "12", "public", "p2", "r", "u"],
+                ["5", "13", "public", "p3", "f", "p"],
+                ["6", "14", "public", "p4", "r", "p"],
+                ["8", "15", "public", "p5", "r", "u"],
+            ],
+        )
         found = published_tables(connection_to(server), ["a"])
-        self.assertEqual([it.leaves for it in found], [Leaves(['"public"."p1"'], [12], [13]), None, None, Leaves([], [15], [])])
+        self.assertEqual(
+            [it.leaves for it in found],
+            [Leaves(['"public"."p1"'], [12], [13]), None, None, Leaves([], [15], [])],
+        )
         self.assertIn("IN (5, 6, 8)", server.told("RECURSIVE")[0])
 
 
@@ -80,7 +137,11 @@ class United(unittest.TestCase):
     """A table of several publications."""
 
     def test_filters_are_joined_by_or(self) -> None:
-        tables = [table(row_filter="(id > 3)"), table(row_filter="(id < 0)"), table(row_filter="(id > 3)")]
+        tables = [
+            table(row_filter="(id > 3)"),
+            table(row_filter="(id < 0)"),
+            table(row_filter="(id > 3)"),
+        ]
         self.assertEqual(united(tables).row_filter, "((id > 3)) OR ((id < 0))")
 
     def test_one_filter_stays_as_it_is(self) -> None:
@@ -90,16 +151,25 @@ class United(unittest.TestCase):
         self.assertIsNone(united([table(row_filter="(id > 3)"), table()]).row_filter)
 
     def test_other_columns_are_rejected(self) -> None:
-        with self.assertRaisesRegex(ServerError, "different column lists for table public.st") as raised:
+        with self.assertRaisesRegex(
+            ServerError, "different column lists for table public.st"
+        ) as raised:
             united([table(), table(columns=[KEY])])
         self.assertTrue(raised.exception.is_lasting())
 
 
-def row(oid: int, name: str, kind: str = "r", row_filter: str | None = None, listed: str | None = None) -> list[str | None]:
+def row(
+    oid: int, name: str, kind: str = "r", row_filter: str | None = None, listed: str | None = None
+) -> list[str | None]:
     return [str(oid), "public", name, kind, "d", row_filter, listed]
 
 
-ATTRIBUTES = (("id", "23", "-1", "1", "f", "t"), ("v", "25", "-1", "2", "f", "f"), ("g", "25", "-1", "3", "t", "f"), ("w", "25", "-1", "4", "f", "f"))
+ATTRIBUTES = (
+    ("id", "23", "-1", "1", "f", "t"),
+    ("v", "25", "-1", "2", "f", "f"),
+    ("g", "25", "-1", "3", "t", "f"),
+    ("w", "25", "-1", "4", "f", "f"),
+)
 
 
 def attributes(command: str) -> list[Row]:
@@ -127,18 +197,24 @@ class Published(unittest.TestCase):
         self.server.answer("('a')", [row(9, "x"), row(5, "y")])
         self.server.answer("('b')", [row(5, "y", row_filter="(v)"), row(7, "z")])
         found = published_tables(connection_to(self.server), ["a", "b"])
-        self.assertEqual([(it.oid, it.row_filter) for it in found], [(5, None), (7, None), (9, None)])
+        self.assertEqual(
+            [(it.oid, it.row_filter) for it in found], [(5, None), (7, None), (9, None)]
+        )
 
     def test_partitions_that_are_sent_as_their_root(self) -> None:
         self.server.answer("('a')", [row(5, "p1")])
         self.server.answer("('b')", [row(4, "p", kind="p")])
         self.server.answer("pg_partition_ancestors", [["5", "4"], ["5", "3"]])
-        self.assertEqual([it.oid for it in published_tables(connection_to(self.server), ["a", "b"])], [4])
+        self.assertEqual(
+            [it.oid for it in published_tables(connection_to(self.server), ["a", "b"])], [4]
+        )
 
     def test_a_list_of_all_columns_is_none(self) -> None:
         self.server.answer("('a')", [row(5, "t")])
         self.server.answer("('b')", [row(5, "t", listed="1,2,4")])
-        self.assertEqual(len(published_tables(connection_to(self.server), ["a", "b"])[0].columns), 3)
+        self.assertEqual(
+            len(published_tables(connection_to(self.server), ["a", "b"])[0].columns), 3
+        )
 
     def test_lists_before_15(self) -> None:
         server = FakeServer(130010)
@@ -149,7 +225,10 @@ class Published(unittest.TestCase):
     def columns(self, version: int, listed: list[int] | None) -> tuple[list[str], str]:
         server = FakeServer(version)
         server.answer("FROM pg_catalog.pg_attribute", attributes)
-        tables = [Table(5, "public", "t", "r", "d", None, listed), Table(6, "public", "u", "r", "d", None, [2])]
+        tables = [
+            Table(5, "public", "t", "r", "d", None, listed),
+            Table(6, "public", "u", "r", "d", None, [2]),
+        ]
         put_columns(connection_to(server), tables)
         self.assertEqual([it.name for it in tables[1].columns], ["v"])
         self.assertEqual(len(server.commands), 1)
@@ -158,14 +237,20 @@ class Published(unittest.TestCase):
     def test_generated_columns(self) -> None:
         """From 18 on what the server says is exact."""
         for version, listed, wanted in (
-            (150018, None, ["id", "v", "w"]), (150018, [1, 3], ["id"]), (180006, [1, 3], ["id", "g"]), (180006, None, ["id", "v", "w"]),
+            (150018, None, ["id", "v", "w"]),
+            (150018, [1, 3], ["id"]),
+            (180006, [1, 3], ["id", "g"]),
+            (180006, None, ["id", "v", "w"]),
         ):
             self.assertEqual(self.columns(version, listed)[0], wanted, (version, listed))
         self.assertNotIn("attgenerated", self.columns(110000, None)[1])
 
     def test_one_query_reads_the_columns_of_all(self) -> None:
         self.server.answer("('a')", [row(9, "x"), row(5, "y"), row(7, "z")])
-        self.assertEqual([len(it.columns) for it in published_tables(connection_to(self.server), ["a"])], [3, 3, 3])
+        self.assertEqual(
+            [len(it.columns) for it in published_tables(connection_to(self.server), ["a"])],
+            [3, 3, 3],
+        )
         self.assertEqual(len(self.server.told("pg_attribute")), 1)
 
     def test_tables_that_may_be_listed(self) -> None:
@@ -194,16 +279,24 @@ class Making(Quiet):
     def keyless(self, *lists: list[list[str | None]]) -> None:
         """What the queries for tables without an identity give, one after the other."""
         left = list(lists)
-        self.server.answer("AND NOT (c.relkind = 'r' AND c.relreplident = 'f'", lambda _: left.pop(0) if left else [])
+        self.server.answer(
+            "AND NOT (c.relkind = 'r' AND c.relreplident = 'f'",
+            lambda _: left.pop(0) if left else [],
+        )
 
     def oid(self, command: str) -> list[Row]:
         """The OID of a publication that is there, or that was made."""
         name = command.rpartition("= '")[2].rstrip("'")
-        return [["777"]] if name in self.theirs or any(f'"{name}"' in it for it in self.made()) else []
+        return (
+            [["777"]] if name in self.theirs or any(f'"{name}"' in it for it in self.made()) else []
+        )
 
     def there(self, *names: str) -> None:
         self.theirs = names
-        self.server.answer("SELECT FROM pg_catalog.pg_publication", lambda it: [[]] if any(f"'{name}'" in it for name in names) else [])
+        self.server.answer(
+            "SELECT FROM pg_catalog.pg_publication",
+            lambda it: [[]] if any(f"'{name}'" in it for name in names) else [],
+        )
 
     def maker(self, **wanted: object) -> Maker:
         return Maker("", Wanted(["pgsub"], **wanted), "pgsub", lambda: None)  # type: ignore[arg-type]
@@ -214,7 +307,10 @@ class Making(Quiet):
     def test_a_list_of_what_is_there(self) -> None:
         maker = self.maker()
         maker.make()
-        self.assertEqual(self.made(), ['CREATE PUBLICATION "pgsub" FOR TABLE ONLY "public"."stock", ONLY "public"."audit"'])
+        self.assertEqual(
+            self.made(),
+            ['CREATE PUBLICATION "pgsub" FOR TABLE ONLY "public"."stock", ONLY "public"."audit"'],
+        )
         self.assertEqual(self.server.commands[-1], "COMMIT")
         self.assertEqual((maker.made, maker.publications), ({"pgsub": 777}, ["pgsub"]))
 
@@ -222,7 +318,9 @@ class Making(Quiet):
         self.maker().make()
         self.assertLess(self.server.index("BEGIN"), self.server.index("CREATE"))
         # (whatever default_transaction_read_only says)
-        self.assertEqual(len(self.server.told("BEGIN READ WRITE; SET LOCAL synchronous_commit = local")), 1)
+        self.assertEqual(
+            len(self.server.told("BEGIN READ WRITE; SET LOCAL synchronous_commit = local")), 1
+        )
         self.assertLess(self.server.index("CREATE"), self.server.index("AND NOT (c.relkind"))
         self.assertLess(self.server.index("AND NOT (c.relkind"), self.server.index("COMMIT"))
 
@@ -231,7 +329,9 @@ class Making(Quiet):
         self.assertEqual(self.made(), ['CREATE PUBLICATION "pgsub" FOR TABLE stock, ONLY x (a, b)'])
         before = self.server.commands[self.server.index("CREATE") - 1]
         self.assertIn("set_config('search_path', '\"$user\", public', true)", before)
-        self.assertEqual(self.server.commands[self.server.index("CREATE") + 1], "SET LOCAL search_path = ''")
+        self.assertEqual(
+            self.server.commands[self.server.index("CREATE") + 1], "SET LOCAL search_path = ''"
+        )
 
     def test_all_tables_only_where_asked_for(self) -> None:
         self.maker(all_tables=True).make()
@@ -252,19 +352,35 @@ class Making(Quiet):
         self.server.commands.clear()
 
     def test_keyless_tables_are_refused(self) -> None:
-        wanteds: list[dict[str, object]] = [{}, {"tables": ["audit"]}, {"all_tables": True}, {"all_tables": True, "keyless": "leave-out"}]
+        wanteds: list[dict[str, object]] = [
+            {},
+            {"tables": ["audit"]},
+            {"all_tables": True},
+            {"all_tables": True, "keyless": "leave-out"},
+        ]
         for wanted in wanteds:
             self.keyless([["5", "public", "audit"]])
-            self.refused(self.maker(**wanted), "1 table without a usable replica identity: public.audit")
+            self.refused(
+                self.maker(**wanted), "1 table without a usable replica identity: public.audit"
+            )
 
     def test_what_the_server_rejects(self) -> None:
         """As where a column list leaves out the key."""
         text = 'ERROR:  cannot delete from table "stock"\nDETAIL:  Column list used by the publication does not cover the replica identity.'
-        self.server.answer("WHERE c.relkind = 'r' ORDER BY 2, 3", [["5", "public", "stock"], ["6", "public", "x"]])
+        self.server.answer(
+            "WHERE c.relkind = 'r' ORDER BY 2, 3", [["5", "public", "stock"], ["6", "public", "x"]]
+        )
         for sqlstate in ("42P10", "55000"):
-            self.server.answer('EXPLAIN DELETE FROM ONLY "public"."stock"', ServerError(text, sqlstate))
-            self.refused(self.maker(), r"public\.stock \(Column list used by the publication does not cover the replica identity\)\.")
-        self.server.answer('EXPLAIN DELETE FROM ONLY "public"."stock"', ServerError("denied", "42501"))
+            self.server.answer(
+                'EXPLAIN DELETE FROM ONLY "public"."stock"', ServerError(text, sqlstate)
+            )
+            self.refused(
+                self.maker(),
+                r"public\.stock \(Column list used by the publication does not cover the replica identity\)\.",
+            )
+        self.server.answer(
+            'EXPLAIN DELETE FROM ONLY "public"."stock"', ServerError("denied", "42501")
+        )
         self.maker().make()
 
     def test_what_says_nothing_of_a_table_ends_it(self) -> None:
@@ -273,7 +389,9 @@ class Making(Quiet):
             self.server.answer("EXPLAIN DELETE", ServerError("no", sqlstate))
             with self.assertRaises(ServerError) as raised:
                 self.maker().make()
-            self.assertEqual((raised.exception.sqlstate, self.server.told("COMMIT")), (sqlstate, []))
+            self.assertEqual(
+                (raised.exception.sqlstate, self.server.told("COMMIT")), (sqlstate, [])
+            )
             self.server.commands.clear()
 
     def test_generated_columns_of_an_identity(self) -> None:
@@ -282,15 +400,22 @@ class Making(Quiet):
         self.assertEqual(identity(180000, True).count("NOT IN ('', 's')"), 2)
 
     def listed(self) -> None:
-        self.server.answer("SELECT DISTINCT r.prrelid", [["5", "public", "audit", "a, b", "(a > 1)"]])
-        self.server.answer("SELECT n.nspname || '.' || c.relname", [["public.audit"], ["public.stock"]])
+        self.server.answer(
+            "SELECT DISTINCT r.prrelid", [["5", "public", "audit", "a, b", "(a > 1)"]]
+        )
+        self.server.answer(
+            "SELECT n.nspname || '.' || c.relname", [["public.audit"], ["public.stock"]]
+        )
 
     def test_keyless_tables_are_left_out(self) -> None:
         self.keyless([["5", "public", "audit"]], [])
         self.listed()
         maker = self.maker(keyless="leave-out")
         maker.make()
-        self.assertEqual(self.server.told("ALTER PUBLICATION"), ['ALTER PUBLICATION "pgsub" DROP TABLE "public"."audit"'])
+        self.assertEqual(
+            self.server.told("ALTER PUBLICATION"),
+            ['ALTER PUBLICATION "pgsub" DROP TABLE "public"."audit"'],
+        )
         self.assertEqual((len(self.made()), maker.publications), (1, ["pgsub"]))
 
     def test_keyless_tables_get_a_publication_of_their_own(self) -> None:
@@ -300,7 +425,7 @@ class Making(Quiet):
         maker.make()
         self.assertEqual(
             self.made()[1],
-            "CREATE PUBLICATION \"pgsub_inserts\" FOR TABLE ONLY \"public\".\"audit\" (a, b) WHERE ((a > 1))"
+            'CREATE PUBLICATION "pgsub_inserts" FOR TABLE ONLY "public"."audit" (a, b) WHERE ((a > 1))'
             " WITH (publish = 'insert, truncate')",
         )
         self.assertEqual(maker.publications, ["pgsub", "pgsub_inserts"])
@@ -327,7 +452,9 @@ class Making(Quiet):
     def contents(self, there: list[str], asked: list[str]) -> None:
         """What the publication lists, and what one of --table would."""
         left = [there, asked]
-        self.server.answer("SELECT n.nspname || '.' || c.relname", lambda _: [[it] for it in left.pop(0)])
+        self.server.answer(
+            "SELECT n.nspname || '.' || c.relname", lambda _: [[it] for it in left.pop(0)]
+        )
 
     def test_a_publication_that_is_there_stays(self) -> None:
         self.there("pgsub")
@@ -351,7 +478,10 @@ class Making(Quiet):
         self.there("pgsub")
         self.contents(["public.a"], [])
         self.server.answer("CREATE PUBLICATION", ServerError("must be owner of table a", "42501"))
-        self.refused(self.maker(tables=["a"]), "--table can't be compared with it: must be owner.* Leave --table out")
+        self.refused(
+            self.maker(tables=["a"]),
+            "--table can't be compared with it: must be owner.* Leave --table out",
+        )
 
     def test_a_stop_before_the_end_leaves_nothing(self) -> None:
         def stop(_: str) -> list[list[str | None]]:
@@ -402,7 +532,10 @@ class Making(Quiet):
 
     def test_keyless_tables_of_a_publication_that_is_there_are_told(self) -> None:
         self.there("pgsub")
-        self.server.answer("SELECT p.pubinsert, p.pubupdate, p.pubdelete, p.pubtruncate FROM", [["t", "t", "f", "t"]])
+        self.server.answer(
+            "SELECT p.pubinsert, p.pubupdate, p.pubdelete, p.pubtruncate FROM",
+            [["t", "t", "f", "t"]],
+        )
         self.keyless([["5", "public", "audit"]])
         self.maker().make()
         self.assertEqual(self.said[0], "warning: the publication pgsub leaves out: delete")

@@ -9,12 +9,12 @@ import unittest
 from unittest import mock
 
 from pgsub_connect import cli
-from pgsub_connect.server import transport
+from pgsub_connect.commands.options import Options
+from pgsub_connect.commands.record import Recorder, Recording
 from pgsub_connect.errors import FileError, UsageError
 from pgsub_connect.follow.filter import COPY_DONE, flushed
-from pgsub_connect.commands.options import Options
+from pgsub_connect.server import transport
 from pgsub_connect.server.connection import Connection
-from pgsub_connect.commands.record import Recorder, Recording
 
 from .fake_server import FakeServer, Quiet
 from .small_server import SmallServer
@@ -46,13 +46,24 @@ class Files(Quiet):
             return file.read()
 
     def test_another_file_stays(self) -> None:
-        for content in (b"root:x:0:0\n", b"#", b"# recorded by somebody else at noon\n", b"\0" * 100, b"42\n"):
+        for content in (
+            b"root:x:0:0\n",
+            b"#",
+            b"# recorded by somebody else at noon\n",
+            b"\0" * 100,
+            b"42\n",
+        ):
             for append in (False, True):
-                with self.assertRaisesRegex(FileError, "isn't a recording of pgsub-connect: name another file, or say --overwrite"):
+                with self.assertRaisesRegex(
+                    FileError,
+                    "isn't a recording of pgsub-connect: name another file, or say --overwrite",
+                ):
                     self.after(content, append)
                 with open(self.path, "rb") as file:
                     self.assertEqual(file.read(), content)
-                self.assertEqual(self.after(content, append, True), (content if append else b"") + b"42\n")
+                self.assertEqual(
+                    self.after(content, append, True), (content if append else b"") + b"42\n"
+                )
 
     def test_a_recording_or_nothing(self) -> None:
         for content in (b"", b"# recorded by pgsub-connect at 2026-11-28 13:00:00 UTC\n"):
@@ -149,7 +160,9 @@ class Sessions(Case):
         self.record(size=400)
         self.assertLess(os.stat(self.path).st_size, 401)
         self.assertTrue(framed(*PAIR, *NEXT).startswith(self.frames()))
-        self.assertIn("warning: the recording ends here: 400 bytes are not to be passed (--bytes)", self.said)
+        self.assertIn(
+            "warning: the recording ends here: 400 bytes are not to be passed (--bytes)", self.said
+        )
 
     def test_the_server_ends_it(self) -> None:
         with mock.patch.object(Connection, "next_payload", side_effect=[PAIR[0], None]):
@@ -173,12 +186,19 @@ class Sessions(Case):
 
 class Versions(Case):
     def test_of_the_protocol(self) -> None:
-        for version, asked, taken in (("13.9", 2, 1), ("13.9", 1, 1), ("15.18", 2, 2), ("15.18", 1, 1)):
+        for version, asked, taken in (
+            ("13.9", 2, 1),
+            ("13.9", 1, 1),
+            ("15.18", 2, 2),
+            ("15.18", 1, 1),
+        ):
             self.server.version = version
             self.record(proto=asked, seconds=0.01)
             self.assertIn(f"proto_version '{taken}'", self.started())
             self.assertIn(f"# protocol version {taken}", self.lines()[2])
-            self.assertEqual(any("version 1 of the protocol alone" in it for it in self.said), asked != taken)
+            self.assertEqual(
+                any("version 1 of the protocol alone" in it for it in self.said), asked != taken
+            )
             self.said.clear()
 
     def test_what_a_server_hasnt_got_is_told_before_anything_is_made(self) -> None:
@@ -187,8 +207,12 @@ class Versions(Case):
             options = Options(
                 command="record", dsn=self.server.dsn(), publication=["pgsub"], create="permanent", record=self.path, **{name: True}  # type: ignore[arg-type]
             )
-            with mock.patch.object(cli, "create_slot") as made, mock.patch.object(cli, "stop_by_signals"):
-                with self.assertRaisesRegex(UsageError, f"--{name} needs PostgreSQL 14, and this is 13.9"):
+            with mock.patch.object(cli, "create_slot") as made, mock.patch.object(
+                cli, "stop_by_signals"
+            ):
+                with self.assertRaisesRegex(
+                    UsageError, f"--{name} needs PostgreSQL 14, and this is 13.9"
+                ):
                     cli.record(options)
             made.assert_not_called()
         self.assertEqual(self.brain.told("START_REPLICATION"), [])
@@ -202,7 +226,9 @@ class Versions(Case):
 
     def test_plain_text_is_warned_of(self) -> None:
         plain = transport.Protection("plain", (), False)
-        with mock.patch.object(transport, "protection_of", return_value=plain), mock.patch.object(transport, "OWN", transport.Trust()):
+        with mock.patch.object(transport, "protection_of", return_value=plain), mock.patch.object(
+            transport, "OWN", transport.Trust()
+        ):
             self.record(seconds=0.01)
         self.assertIn("warning: the connection isn't encrypted", self.said[0])
 

@@ -14,17 +14,18 @@ from collections.abc import Iterator
 from typing import Any
 from unittest import mock
 
-from pgsub_connect.commands import add, refresh as refresh_module
-from pgsub_connect.store import at_rest, snapshot
-from pgsub_connect.server.catalog import Catalog, Part, Partition
-from pgsub_connect.errors import FileError, Passing, ServerError, Stopped, Unfit
-from pgsub_connect.drift.findings import About, NOTHING
+from pgsub_connect.commands import add
+from pgsub_connect.commands import refresh as refresh_module
 from pgsub_connect.commands.options import Options
-from pgsub_connect.server.connection import Check, never
 from pgsub_connect.commands.refresh import CHANGED, EXTRA, MISSING, OTHER, Told, compared
-from pgsub_connect.drift.remembered import Remembered
-from pgsub_connect.store.snapshot import Snapshots
 from pgsub_connect.commands.words import arguments
+from pgsub_connect.drift.findings import NOTHING, About
+from pgsub_connect.drift.remembered import Remembered
+from pgsub_connect.errors import FileError, Passing, ServerError, Stopped, Unfit
+from pgsub_connect.server.catalog import Catalog, Part, Partition
+from pgsub_connect.server.connection import Check, never
+from pgsub_connect.store import at_rest, snapshot
+from pgsub_connect.store.snapshot import Snapshots
 
 from .fake_server import FakeServer, Quiet
 from .small_world import table
@@ -34,8 +35,11 @@ ONE, TWO, THREE = a_table(1, "one"), a_table(2, "two"), a_table(3, "three")
 
 
 class Compared(unittest.TestCase):
-    def told(self, before: Catalog, now: Catalog, *found: tuple[str, str, About]) -> list[tuple[str, int, int]]:
-        """What is told of which table, and in how many words, of two readings and what was found before."""
+    def told(
+        self, before: Catalog, now: Catalog, *found: tuple[str, str, About]
+    ) -> list[tuple[str, int, int]]:
+        """What is told of which table, and in how many words, of two readings and what was found
+        before."""
         remembered = Remembered("/nonexistent/s")
         remembered.begin_copy(before, 100)
         for kind, text, about in found:
@@ -48,7 +52,11 @@ class Compared(unittest.TestCase):
         other = a_table(1, "one", a_shape(((1, "id", 20, -1), NAME)))
         filtered = a_table(2, "two", part=Part("id > 5", None, False))
         joined = ("publication", "it joined", About((2,), is_missing=True))
-        refused = ("publication", "its rows are missing, and public.two (2) can't be read", About((1,)))
+        refused = (
+            "publication",
+            "its rows are missing, and public.two (2) can't be read",
+            About((1,)),
+        )
         anew = ("publication", "it was made anew", About(publication="pgsub", is_missing=True))
         gone = ("publication", "publication pgsub2 is gone", About(publication="pgsub2"))
         enum = ("values", "a became b", About(type_oid=25))
@@ -57,7 +65,12 @@ class Compared(unittest.TestCase):
             (one, both, (), [(MISSING, 2, 1)]),
             (both, both, (joined,), [(MISSING, 2, 1)]),
             (both, a_catalog(wide, TWO, lsn=200), (), [(CHANGED, 1, 1)]),
-            (both, a_catalog(other, filtered, lsn=200), (joined,), [(CHANGED, 1, 1), (MISSING, 2, 2)]),
+            (
+                both,
+                a_catalog(other, filtered, lsn=200),
+                (joined,),
+                [(CHANGED, 1, 1), (MISSING, 2, 2)],
+            ),
             (both, one, (), [(EXTRA, 2, 1)]),
             (both, one, (joined,), [(OTHER, 0, 1), (EXTRA, 2, 1)]),
             (both, both, (anew,), [(MISSING, 1, 1), (MISSING, 2, 1)]),
@@ -71,7 +84,11 @@ class Compared(unittest.TestCase):
 
     def test_a_table_that_was_renamed_since(self) -> None:
         now = a_catalog(a_table(1, "uno"), a_table(2, "one"), lsn=200)
-        text = ("values", f"column c of {ONE.text()} was added or renamed: rows that were there have nulls in it", About((1,)))
+        text = (
+            "values",
+            f"column c of {ONE.text()} was added or renamed: rows that were there have nulls in it",
+            About((1,)),
+        )
         self.assertEqual(self.told(a_catalog(ONE, TWO), now, text), [(CHANGED, 1, 1)])
 
     def test_a_table_that_left_after_it_was_renamed(self) -> None:
@@ -93,12 +110,18 @@ class Compared(unittest.TestCase):
         self.assertIn((EXTRA, 2, "public.part"), [(it.what, it.oid, it.table) for it in told])
 
     def test_lines(self) -> None:
-        self.assertEqual(json.loads(Told(MISSING, 2, "public.two", ["why"]).line()), {"is": MISSING, "table": "public.two", "oid": 2, "why": ["why"]})
-        self.assertEqual(json.loads(Told(OTHER, 0, "", ["why"]).line()), {"is": OTHER, "why": ["why"]})
+        self.assertEqual(
+            json.loads(Told(MISSING, 2, "public.two", ["why"]).line()),
+            {"is": MISSING, "table": "public.two", "oid": 2, "why": ["why"]},
+        )
+        self.assertEqual(
+            json.loads(Told(OTHER, 0, "", ["why"]).line()), {"is": OTHER, "why": ["why"]}
+        )
 
 
 class Case(Quiet):
-    """A store's files, of which nobody follows into; and a follower in a thread, where one is wanted."""
+    """A store's files, of which nobody follows into; and a follower in a thread, where one is
+    wanted."""
 
     def setUp(self) -> None:
         super().setUp()
@@ -111,9 +134,18 @@ class Case(Quiet):
         self.server = FakeServer()
         self.now = a_catalog(ONE, TWO, THREE)
         for where, what, by in (
-            (add, "Connection", self.server.connect), (refresh_module, "Connection", self.server.connect), (add, "LOOK", 0.005), (add, "WAIT", 0.005),
-            (refresh_module, "read_catalog", lambda *_: self.now), (at_rest, "LOOK", 0.005), (snapshot, "LOOK", 0.005),
-            (add, "published_tables", lambda *_: [table(it.oid, it.name) for it in self.now.tables.values()]),
+            (add, "Connection", self.server.connect),
+            (refresh_module, "Connection", self.server.connect),
+            (add, "LOOK", 0.005),
+            (add, "WAIT", 0.005),
+            (refresh_module, "read_catalog", lambda *_: self.now),
+            (at_rest, "LOOK", 0.005),
+            (snapshot, "LOOK", 0.005),
+            (
+                add,
+                "published_tables",
+                lambda *_: [table(it.oid, it.name) for it in self.now.tables.values()],
+            ),
         ):
             patch = mock.patch.object(where, what, by)
             patch.start()
@@ -122,8 +154,12 @@ class Case(Quiet):
     def options(self, *names: str, yes: bool = True) -> Options:
         return Options(store=self.store, publication=["pgsub"], table=list(names), yes=yes)
 
-    def refresh(self, status: int, yes: bool = True, answer: bool = False, check: Check = never) -> list[dict[str, object]]:
-        with contextlib.redirect_stdout(io.StringIO()) as out, mock.patch.object(refresh_module, "ask_terminal", lambda *_: answer):
+    def refresh(
+        self, status: int, yes: bool = True, answer: bool = False, check: Check = never
+    ) -> list[dict[str, object]]:
+        with contextlib.redirect_stdout(io.StringIO()) as out, mock.patch.object(
+            refresh_module, "ask_terminal", lambda *_: answer
+        ):
             self.assertEqual(refresh_module.run(self.options(yes=yes), check), status)
         return [json.loads(it) for it in out.getvalue().splitlines()]
 
@@ -132,7 +168,8 @@ class Case(Quiet):
 
     @contextlib.contextmanager
     def followed(self, answer: str | None = None, why: str | None = "") -> Iterator[list[object]]:
-        """As while a follower runs that answers requests so, and adds tables, or refuses them where there is a `why`."""
+        """As while a follower runs that answers requests so, and adds tables, or refuses them where
+        there is a `why`."""
         followed, ended, asked = Snapshots(self.store, None, 0.0), threading.Event(), list[object]()
 
         def adds(words: dict[str, Any]) -> str | None:
@@ -166,7 +203,10 @@ class Adds(Case):
         with self.followed() as asked:
             self.assertEqual(add.run(self.options("one", "public.two", "one"), never), 0)
         self.assertEqual((asked, self.wanted()), ([[1, 2]], {}))
-        self.assertEqual(sorted(os.listdir(os.path.dirname(self.store))), ["copy.db", "copy.db.connector", "copy.db.tables"])
+        self.assertEqual(
+            sorted(os.listdir(os.path.dirname(self.store))),
+            ["copy.db", "copy.db.connector", "copy.db.tables"],
+        )
 
     def test_by_the_next_start(self) -> None:
         self.assertEqual(add.run(self.options("two"), never), 0)
@@ -177,7 +217,9 @@ class Adds(Case):
         with self.followed(why="public.one can't be read"):
             self.assertEqual(add.run(self.options("one"), never), 1)
         self.assertIn("error: public.one can't be read", self.said)
-        with self.followed("it is too large"), self.assertRaisesRegex(ServerError, "adds none: it is too large") as raised:
+        with self.followed("it is too large"), self.assertRaisesRegex(
+            ServerError, "adds none: it is too large"
+        ) as raised:
             add.run(self.options("one"), never)
         self.assertTrue(raised.exception.is_lasting())
         self.assertFalse(os.path.exists(self.store + ".request"))
@@ -208,7 +250,9 @@ class Adds(Case):
         options = arguments("add --store s --table one --table two".split())
         self.assertEqual((options.command, options.table), ("add", ["one", "two"]))
         options = arguments("refresh --store s --yes --publication p".split())
-        self.assertEqual((options.command, options.yes, options.publication), ("refresh", True, ["p"]))
+        self.assertEqual(
+            (options.command, options.yes, options.publication), ("refresh", True, ["p"])
+        )
         for words in ("add --store s", "add --table t", "refresh", "refresh --store s --table t"):
             with contextlib.redirect_stderr(io.StringIO()), self.assertRaises(SystemExit):
                 arguments(words.split())
@@ -221,7 +265,10 @@ class Mended(Case):
         remembered = self.remembered
         now = a_catalog(ONE, TWO)
         remembered.begin_copy(now, 100)
-        for kind, about in (("publication", About(publication="pgsub")), ("values", About(type_oid=25))):
+        for kind, about in (
+            ("publication", About(publication="pgsub")),
+            ("values", About(type_oid=25)),
+        ):
             remembered.find(kind, 50, f"it is of several {kind}", about)
         for oid, left, kinds in ((1, [2], []), (2, [], ["publication", "values"])):
             self.assertEqual(remembered.added(oid, remembered.found_of(oid)), kinds)
@@ -242,7 +289,11 @@ class Mended(Case):
     def test_what_a_publication_lacks_stays_found(self) -> None:
         """Nothing is copied again and again because of it."""
         remembered = self.remembered
-        lacks = a_catalog(ONE, publication=dataclasses.replace(PGSUB, actions=("insert", "delete", "truncate")), lsn=200)
+        lacks = a_catalog(
+            ONE,
+            publication=dataclasses.replace(PGSUB, actions=("insert", "delete", "truncate")),
+            lsn=200,
+        )
         remembered.begin_copy(a_catalog(ONE), 100)
         self.assertEqual([it.what for it in compared(remembered, lacks)], [CHANGED])
         self.assertEqual(remembered.added(1, remembered.found_of(1)), [])
@@ -258,13 +309,18 @@ class Mended(Case):
 
         def now(lsn: int, *names: str) -> Catalog:
             table = dataclasses.replace(ONE, parts=dict.fromkeys(names, part))
-            return dataclasses.replace(a_catalog(table, lsn=lsn, names=["pgsub", "few"]), publications={"pgsub": PGSUB, "few": few})
+            return dataclasses.replace(
+                a_catalog(table, lsn=lsn, names=["pgsub", "few"]),
+                publications={"pgsub": PGSUB, "few": few},
+            )
 
         remembered.begin_copy(now(100, "pgsub", "few"), 100)
         self.assertEqual([it.what for it in compared(remembered, now(200, "few"))], [CHANGED])
         self.assertEqual(remembered.added(1, remembered.found_of(1)), [])
         self.assertEqual(compared(remembered, now(200, "few")), [])
-        self.assertEqual([it.what for it in compared(remembered, now(300, "pgsub", "few"))], [CHANGED])
+        self.assertEqual(
+            [it.what for it in compared(remembered, now(300, "pgsub", "few"))], [CHANGED]
+        )
         self.assertEqual(remembered.added(1, remembered.found_of(1)), ["publication"])
 
 
@@ -296,7 +352,9 @@ class Refreshes(Case):
             lines = self.refresh(0)
         self.assertEqual(([it["is"] for it in lines], asked), (["missing", "extra"], [[3, -2]]))
         remembered = Remembered(self.store)
-        self.assertEqual((remembered.unwanted, remembered.wanted, sorted(remembered.sent)), (set(), {}, [1]))
+        self.assertEqual(
+            (remembered.unwanted, remembered.wanted, sorted(remembered.sent)), (set(), {}, [1])
+        )
 
     def test_the_file_stays(self) -> None:
         """What is found here is found by the follower too, and noted by it alone."""
@@ -312,7 +370,9 @@ class Refreshes(Case):
             self.refresh(0)
 
     def test_it_needs_a_terminal(self) -> None:
-        with contextlib.redirect_stdout(io.StringIO()), mock.patch("sys.stdin.isatty", lambda: False), self.assertRaisesRegex(Unfit, "refresh asks on"):
+        with contextlib.redirect_stdout(io.StringIO()), mock.patch(
+            "sys.stdin.isatty", lambda: False
+        ), self.assertRaisesRegex(Unfit, "refresh asks on"):
             refresh_module.run(self.options(yes=False), never)
 
 

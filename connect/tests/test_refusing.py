@@ -5,11 +5,11 @@ from __future__ import annotations
 import unittest
 
 from pgsub_connect.add import adder
-from pgsub_connect.store.checkpoint import Checkpoint
 from pgsub_connect.commands.drop import read_known
-from pgsub_connect.errors import NoSlot, Passing, ServerError, Unconnected, Unfit
 from pgsub_connect.drift.findings import About
 from pgsub_connect.drift.remembered import Remembered
+from pgsub_connect.errors import NoSlot, Passing, ServerError, Unconnected, Unfit
+from pgsub_connect.store.checkpoint import Checkpoint
 
 from .adding_case import OTHER, THIRD, Case, Run, T
 from .small_world import WorldSource, insert
@@ -37,8 +37,17 @@ class InTheWay(Case):
 
     def test_for_a_while(self) -> None:
         for moment, errors in (
-            ("Source", (ServerError("lost"), Unfit("another server"), Unconnected("another password", "28P01"))), ("make_slot", (NoSlot("late"), ServerError("lost", "08006"))),
-            ("see", (Passing("changed: nothing was compared"),)), ("COPY", (ServerError("gone", "42P01"), ServerError("lost"))),
+            (
+                "Source",
+                (
+                    ServerError("lost"),
+                    Unfit("another server"),
+                    Unconnected("another password", "28P01"),
+                ),
+            ),
+            ("make_slot", (NoSlot("late"), ServerError("lost", "08006"))),
+            ("see", (Passing("changed: nothing was compared"),)),
+            ("COPY", (ServerError("gone", "42P01"), ServerError("lost"))),
             ("block", (ServerError("ended", "57P01"),)),
         ):
             with self.subTest(moment):
@@ -47,15 +56,22 @@ class InTheWay(Case):
                 self.change()
                 self.fails(moment, *errors)
                 self.goes_on()
-                self.assertEqual(sum("it is added later" in it for it in self.said), len(errors), self.said)
+                self.assertEqual(
+                    sum("it is added later" in it for it in self.said), len(errors), self.said
+                )
 
     def test_following_goes_on_without_a_slot(self) -> None:
         self.want(T)
         self.patch(adder, "LONGEST_DELAY", 0.02)
         self.fails("make_slot", *[NoSlot("late")] * 10000)
         run = Run(self)
-        self.assertTrue(run.until(lambda: len([it for it in self.said if "made no slot" in it]) > 3), self.said)
-        self.assertTrue(run.until(lambda: "made no slot" in run.progress.adding["public.t (16385)"]), run.progress.adding)
+        self.assertTrue(
+            run.until(lambda: len([it for it in self.said if "made no slot" in it]) > 3), self.said
+        )
+        self.assertTrue(
+            run.until(lambda: "made no slot" in run.progress.adding["public.t (16385)"]),
+            run.progress.adding,
+        )
         self.world.commit(insert(THIRD, (1, "x")))
         end = self.world.end
         self.assertTrue(run.until(lambda: run.filter.confirmed() >= end))
@@ -83,7 +99,9 @@ class InTheWay(Case):
     def refused(self, text: str, **options: object) -> Run:
         """Follows until the table is refused, and others are followed on."""
         run = Run(self, **options)
-        self.assertTrue(run.until(lambda: any(run.remembered.wanted.values())), (self.said, run.raised))
+        self.assertTrue(
+            run.until(lambda: any(run.remembered.wanted.values())), (self.said, run.raised)
+        )
         self.assertIn(text, run.remembered.wanted[T])
         self.change()
         self.assertTrue(run.until(lambda: self.is_stored(run)), (self.said, run.raised))
@@ -94,9 +112,11 @@ class InTheWay(Case):
         return run
 
     def test_for_good(self) -> None:
-        """A table that can't be read is refused, and the next start tries it again; what was found of it goes then."""
+        """A table that can't be read is refused, and the next start tries it again; what was found
+        of it goes then."""
         for moment, errors in (
-            ("see", [ServerError("permission denied", "42501")]), ("COPY", [ServerError("bad bytes", "22021")] * adder.ATTEMPTS),
+            ("see", [ServerError("permission denied", "42501")]),
+            ("COPY", [ServerError("bad bytes", "22021")] * adder.ATTEMPTS),
         ):
             self.want(T)
             self.patch(adder, "LONGEST_DELAY", 0.02)
@@ -116,7 +136,9 @@ class InTheWay(Case):
         self.want(T, OTHER)
         self.fails("see", ServerError("permission denied", "42501"))
         run = Run(self)
-        self.assertTrue(run.until(lambda: list(run.remembered.wanted) == [T]), (self.said, run.raised))
+        self.assertTrue(
+            run.until(lambda: list(run.remembered.wanted) == [T]), (self.said, run.raised)
+        )
         self.assertIn("permission denied", run.remembered.wanted[T])
         run.end()
 

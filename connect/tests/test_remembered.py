@@ -12,10 +12,10 @@ import tempfile
 import unittest
 from unittest import mock
 
-from pgsub_connect.server.catalog import Part, Partition
-from pgsub_connect.errors import FileError, Passing
-from pgsub_connect.drift.findings import About, Found, MOST, NOTHING
+from pgsub_connect.drift.findings import MOST, NOTHING, About, Found
 from pgsub_connect.drift.remembered import Relation, Remembered, print_names
+from pgsub_connect.errors import FileError, Passing
+from pgsub_connect.server.catalog import Part, Partition
 
 from .vectors import ID, NAME, PGSUB, a_catalog, a_shape, a_table
 
@@ -36,27 +36,57 @@ class Case(unittest.TestCase):
         self.remembered = Remembered(self.store)
         return self.remembered
 
-    def note(self, oid: int, name: str, lsn: int, columns: list[tuple[int, str, int, int]] | None = None, identity: str = "d") -> None:
+    def note(
+        self,
+        oid: int,
+        name: str,
+        lsn: int,
+        columns: list[tuple[int, str, int, int]] | None = None,
+        identity: str = "d",
+    ) -> None:
         shape = a_shape(columns or [ID, NAME], identity, [0] * len(columns or [ID, NAME]))
-        self.remembered.note(Relation(oid, "public", name, shape), lsn, self.remembered.last_sent(oid))
+        self.remembered.note(
+            Relation(oid, "public", name, shape), lsn, self.remembered.last_sent(oid)
+        )
 
     def found(self, kind: str) -> list[str]:
         return list(self.remembered.found[kind].texts) if kind in self.remembered.found else []
 
     def names(self) -> dict[str, tuple[int | None, list[int]]]:
-        return {f"{schema}.{name}": (it.oid, it.before) for (schema, name), it in self.remembered.names.items()}
+        return {
+            f"{schema}.{name}": (it.oid, it.before)
+            for (schema, name), it in self.remembered.names.items()
+        }
 
 
 class File(Case):
     def test_as_it_was(self) -> None:
-        shape, part = a_shape([(1, "\u20ac", 4_000_000_001, -1)], "i"), Part("(a > 'x')", (1, 3), True, ("16401", "16388/741"))
+        shape, part = a_shape([(1, "\u20ac", 4_000_000_001, -1)], "i"), Part(
+            "(a > 'x')", (1, 3), True, ("16401", "16388/741")
+        )
         odd = a_table(4_000_000_000, 'we"ird \u00e4\n', shape, schema="s.x", part=part)
-        tree = (Partition(10, 0, "public.root", False), Partition(11, 10, "public.p", True, node=77, since="741"))
+        tree = (
+            Partition(10, 0, "public.root", False),
+            Partition(11, 10, "public.p", True, node=77, since="741"),
+        )
         types = {5: {"name": "mood", "6": "sad"}}
         publication = dataclasses.replace(PGSUB, owner=10, since="742")
-        first = a_catalog(T, odd, lsn=1 << 40, highest=7, publication=publication, partitions=tree, types=types, names=["pgsub", "other"])
+        first = a_catalog(
+            T,
+            odd,
+            lsn=1 << 40,
+            highest=7,
+            publication=publication,
+            partitions=tree,
+            types=types,
+            names=["pgsub", "other"],
+        )
         self.remembered.begin_copy(first, 1 << 41)
-        self.remembered.look(dataclasses.replace(first, tables={T.oid: dataclasses.replace(T, shape=WIDER)}, lsn=1 << 42))
+        self.remembered.look(
+            dataclasses.replace(
+                first, tables={T.oid: dataclasses.replace(T, shape=WIDER)}, lsn=1 << 42
+            )
+        )
         self.note(3, "t", 1 << 43)
         self.remembered.note_made({"pgsub": 900})
         before = self.remembered
@@ -69,21 +99,50 @@ class File(Case):
         self.assertFalse(after.is_urgent or after.is_changed)
 
     def test_of_an_earlier_version(self) -> None:
-        """What it didn't keep is taken as it is found then; and it reads the file, too, which has what it knows where that was."""
-        part, publication = Part(None, None, False, ("16401",)), dataclasses.replace(PGSUB, owner=10, since="742")
-        root, leaf = a_table(10, "root", kind="p", part=part), Partition(11, 10, "public.p", True, since="741")
-        now = a_catalog(root, publication=publication, partitions=[Partition(10, 0, "public.root", False), leaf])
+        """What it didn't keep is taken as it is found then; and it reads the file, too, which has
+        what it knows where that was."""
+        part, publication = Part(None, None, False, ("16401",)), dataclasses.replace(
+            PGSUB, owner=10, since="742"
+        )
+        root, leaf = a_table(10, "root", kind="p", part=part), Partition(
+            11, 10, "public.p", True, since="741"
+        )
+        now = a_catalog(
+            root, publication=publication, partitions=[Partition(10, 0, "public.root", False), leaf]
+        )
         self.remembered.begin_copy(now, 100)
         written = json.loads(json.dumps(self.remembered.written()))
-        self.assertEqual((written["tables"][0]["parts"], written["partitions"][1]), ({"pgsub": [None, None, False]}, [11, 10, "public.p", True, 0]))
-        del written["attached"], written["unlogged"], written["toast"], written["tables"][0]["since"], written["publications"]["pgsub"]["since"], written["publications"]["pgsub"]["owner"]
+        self.assertEqual(
+            (written["tables"][0]["parts"], written["partitions"][1]),
+            ({"pgsub": [None, None, False]}, [11, 10, "public.p", True, 0]),
+        )
+        del (
+            written["attached"],
+            written["unlogged"],
+            written["toast"],
+            written["tables"][0]["since"],
+            written["publications"]["pgsub"]["since"],
+            written["publications"]["pgsub"]["owner"],
+        )
         self.remembered.restore(written)
         self.remembered.look(dataclasses.replace(now, lsn=200))
         self.assertEqual(self.remembered.found, {})
         for later in (
-            dataclasses.replace(now, lsn=300, tables={10: dataclasses.replace(root, parts={"pgsub": part._replace(since=("16402",))})}),
-            dataclasses.replace(now, lsn=300, partitions={**now.partitions, 11: dataclasses.replace(leaf, since="743")}),
-            dataclasses.replace(now, lsn=300, publications={"pgsub": dataclasses.replace(publication, since="743")}),
+            dataclasses.replace(
+                now,
+                lsn=300,
+                tables={
+                    10: dataclasses.replace(root, parts={"pgsub": part._replace(since=("16402",))})
+                },
+            ),
+            dataclasses.replace(
+                now,
+                lsn=300,
+                partitions={**now.partitions, 11: dataclasses.replace(leaf, since="743")},
+            ),
+            dataclasses.replace(
+                now, lsn=300, publications={"pgsub": dataclasses.replace(publication, since="743")}
+            ),
         ):
             self.remembered.begin_copy(now, 100)
             self.again().look(later)
@@ -92,8 +151,13 @@ class File(Case):
     def test_what_is_in_no_log(self) -> None:
         """It is kept, with the places of long values and what ran: the next look compares them."""
         table = dataclasses.replace(a_table(1, "t"), toast=7)
-        tree = (Partition(10, 0, "public.root", False), Partition(11, 10, "public.p", True, logged=False, toast=8))
-        now = dataclasses.replace(a_catalog(table, dataclasses.replace(U, logged=False), partitions=tree), running=1 << 40)
+        tree = (
+            Partition(10, 0, "public.root", False),
+            Partition(11, 10, "public.p", True, logged=False, toast=8),
+        )
+        now = dataclasses.replace(
+            a_catalog(table, dataclasses.replace(U, logged=False), partitions=tree), running=1 << 40
+        )
         self.remembered.begin_copy(now, 100)
         self.assertEqual(self.again().catalog, now)
         assert self.remembered.catalog
@@ -163,13 +227,26 @@ class File(Case):
             whole = file.read()
         said = json.loads(whole)
         pieces = [whole[:length] for length in range(0, len(whole) - 1, 7)]
-        others = [b"null", b"[]", b"{}", b"17", b'"text"', b"\xff\xfe", b'{"format": 1}', *(
-            json.dumps({**said, name: 5}).encode() for name in said if name not in ("format", "highest", "running")
-        )]
+        others = [
+            b"null",
+            b"[]",
+            b"{}",
+            b"17",
+            b'"text"',
+            b"\xff\xfe",
+            b'{"format": 1}',
+            *(
+                json.dumps({**said, name: 5}).encode()
+                for name in said
+                if name not in ("format", "highest", "running")
+            ),
+        ]
         for content in (*pieces, *others):
             with open(self.store + ".tables", "wb") as file:
                 file.write(content)
-            with self.subTest(content[:40]), self.assertRaisesRegex(FileError, "copy.db.tables: not a file of tables"):
+            with self.subTest(content[:40]), self.assertRaisesRegex(
+                FileError, "copy.db.tables: not a file of tables"
+            ):
                 Remembered(self.store)
 
     def test_of_a_later_version(self) -> None:
@@ -187,7 +264,9 @@ class File(Case):
         self.remembered.begin(a_catalog(T))
         self.remembered.save()
         self.remembered.begin(a_catalog(T, U))
-        with mock.patch("os.fsync", side_effect=OSError(28, "No space left on device")), self.assertRaisesRegex(Passing, "No space"):
+        with mock.patch(
+            "os.fsync", side_effect=OSError(28, "No space left on device")
+        ), self.assertRaisesRegex(Passing, "No space"):
             self.remembered.save()
         self.assertTrue(self.remembered.is_urgent)
         self.assertEqual(os.listdir(os.path.dirname(self.store)), ["copy.db.tables"])
@@ -199,7 +278,9 @@ class File(Case):
         self.remembered.save()
         self.remembered.remove()
         self.remembered.save()
-        self.assertEqual((os.listdir(os.path.dirname(self.store)), self.remembered.publications()), ([], []))
+        self.assertEqual(
+            (os.listdir(os.path.dirname(self.store)), self.remembered.publications()), ([], [])
+        )
 
 
 class Looks(Case):
@@ -207,16 +288,22 @@ class Looks(Case):
         self.remembered.begin_copy(a_catalog(T), 100)
         self.assertEqual(self.remembered.look(a_catalog(T, U, lsn=200)), [])
         self.assertEqual(len(self.found("publication")), 1)
-        self.assertEqual(self.remembered.take_news(), ["publication at 0/C8: " + self.found("publication")[0]])
+        self.assertEqual(
+            self.remembered.take_news(), ["publication at 0/C8: " + self.found("publication")[0]]
+        )
         self.again().look(a_catalog(T, U, lsn=300))
         self.assertEqual(self.remembered.take_news(), [])
-        self.assertEqual((len(self.found("publication")), self.remembered.found["publication"].lsn), (1, 200))
+        self.assertEqual(
+            (len(self.found("publication")), self.remembered.found["publication"].lsn), (1, 200)
+        )
 
     def test_nothing_new_is_not_urgent(self) -> None:
         root = Partition(10, 0, "public.root", False)
         self.remembered.begin_copy(a_catalog(T, partitions=[root]), 100)
         made = dataclasses.replace(root, made=True)
-        self.again().look(a_catalog(a_table(1, "t", fresh=True), lsn=200, highest=5000, partitions=[made]))
+        self.again().look(
+            a_catalog(a_table(1, "t", fresh=True), lsn=200, highest=5000, partitions=[made])
+        )
         self.assertFalse(self.remembered.is_urgent)
 
     def test_harmless(self) -> None:
@@ -256,7 +343,10 @@ class Looks(Case):
             self.remembered.want([], [oid])
             self.remembered.added(oid, self.remembered.found_of(oid))
         again = self.again()
-        self.assertEqual((again.left, list(again.sent), again.wanted, again.unwanted, again.found), (set(), [1], {}, set(), {}))
+        self.assertEqual(
+            (again.left, list(again.sent), again.wanted, again.unwanted, again.found),
+            (set(), [1], {}, set(), {}),
+        )
         self.assertEqual((self.names(), again.held), ({"public.t": (1, [])}, {1: ("public", "t")}))
         # (one whose rows stay is told)
         for oid in (30, 31):
@@ -264,7 +354,9 @@ class Looks(Case):
             again.look(a_catalog(T, lsn=1000 * oid + 1))
         again.want([], [31])
         again.added(31)
-        self.assertEqual((len(self.found("names")), self.names()["public.staging"]), (1, (None, [30])))
+        self.assertEqual(
+            (len(self.found("names")), self.names()["public.staging"]), (1, (None, [30]))
+        )
 
     def test_many_tables(self) -> None:
         """Each of them is told and can be mended, and then nothing is left."""
@@ -279,37 +371,55 @@ class Looks(Case):
         self.assertEqual(self.again().found, {})
 
     def test_many_texts(self) -> None:
-        """Those of one table are no more than fit, and of those of no table it is counted how many aren't there."""
+        """Those of one table are no more than fit, and of those of no table it is counted how many
+        aren't there."""
         t, u = About((16385,)), About((16386,))
         found = Found(1, {})
         for it in range(MOST):
             found.add(f"column c{it} of public.t was added", t)
         for text, about in (
-            ("column d of public.t was added", t), ("type mood: a became b", About(type_oid=17000)), ("column d of public.u was added", u),
+            ("column d of public.t was added", t),
+            ("type mood: a became b", About(type_oid=17000)),
+            ("column d of public.u was added", u),
         ):
             found.add(text, about)
-        self.assertEqual((list(found.texts)[MOST:], found.more), (["column d of public.u was added"], 1))
+        self.assertEqual(
+            (list(found.texts)[MOST:], found.more), (["column d of public.u was added"], 1)
+        )
         found.drop([text for text, about in found.texts.items() if about == t])
         found.add("column e of public.t was added", t)
         self.assertEqual((len(found.texts), found.more, found.tables), (2, 1, {16385, 16386}))
 
     def test_what_they_are_about_is_kept(self) -> None:
-        """Whatever the texts say: an OID in one is no more than a word. Those of an earlier version are about nothing that is known."""
+        """Whatever the texts say: an OID in one is no more than a word. Those of an earlier version
+        are about nothing that is known."""
         about = About((1,), "p (2)", 3, "update", True, "public.t (2)")
         self.remembered.begin_copy(a_catalog(T, U), 100)
-        for text, it in (("all", about), ("public.u (2) can't be read", About((1,))), ("type x (25): a became b", NOTHING)):
+        for text, it in (
+            ("all", about),
+            ("public.u (2) can't be read", About((1,))),
+            ("type x (25): a became b", NOTHING),
+        ):
             self.remembered.find("publication", 150, text, it)
         again = self.again()
-        self.assertEqual(list(again.found["publication"].texts.values()), [about, About((1,)), NOTHING])
-        self.assertEqual((again.found_of(1), again.found_of(2)), (["all", "public.u (2) can't be read"], []))
+        self.assertEqual(
+            list(again.found["publication"].texts.values()), [about, About((1,)), NOTHING]
+        )
+        self.assertEqual(
+            (again.found_of(1), again.found_of(2)), (["all", "public.u (2) can't be read"], [])
+        )
         written = again.written()
         written["found"] = {"values": ["0/7", ["column c of public.t (1) was added"], 0]}
         again.restore(written)
-        self.assertEqual((list(again.found["values"].texts.items()), again.found_of(1)), ([("column c of public.t (1) was added", NOTHING)], []))
+        self.assertEqual(
+            (list(again.found["values"].texts.items()), again.found_of(1)),
+            ([("column c of public.t (1) was added", NOTHING)], []),
+        )
 
 
 class LooksAndMessages(Case):
-    """The same command shows in a look at the server and in a Relation message, and the one that comes first is told."""
+    """The same command shows in a look at the server and in a Relation message, and the one that
+    comes first is told."""
 
     def test_look_first(self) -> None:
         self.remembered.begin_copy(a_catalog(T), 100)
@@ -328,7 +438,8 @@ class LooksAndMessages(Case):
         self.assertEqual(self.remembered.found, {})
 
     def test_values_computed_anew(self) -> None:
-        """ALTER TABLE .. TYPE .. USING shows in a look alone where the type is the same, and else is told by the message."""
+        """ALTER TABLE .. TYPE .. USING shows in a look alone where the type is the same, and else
+        is told by the message."""
         before = dataclasses.replace(T, node=1, altered="700")
         self.remembered.begin_copy(a_catalog(before), 100)
         self.again().look(a_catalog(dataclasses.replace(T, node=2, altered="700 800"), lsn=200))
@@ -337,9 +448,13 @@ class LooksAndMessages(Case):
         self.note(1, "t", 200, [ID, (0, "name", 1043, 24)])
         self.again().accept(["values"])
         shape = a_shape([ID, (0, "name", 1043, 24)])
-        self.remembered.look(a_catalog(dataclasses.replace(T, shape=shape, node=2, altered="700 800"), lsn=300))
+        self.remembered.look(
+            a_catalog(dataclasses.replace(T, shape=shape, node=2, altered="700 800"), lsn=300)
+        )
         self.assertEqual(self.remembered.found, {})
-        self.remembered.look(a_catalog(dataclasses.replace(T, shape=shape, node=3, altered="700 900"), lsn=400))
+        self.remembered.look(
+            a_catalog(dataclasses.replace(T, shape=shape, node=3, altered="700 900"), lsn=400)
+        )
         self.assertEqual(len(self.found("values")), 1)
 
     def test_there_and_back_between_two_looks(self) -> None:
@@ -412,7 +527,9 @@ class Names(Case):
     def test_renamed(self) -> None:
         self.note(1, "t2", 200)
         self.assertEqual(self.remembered.found, {})
-        self.assertEqual(self.names(), {"public.t": (None, [1]), "public.t2": (1, []), "public.u": (2, [])})
+        self.assertEqual(
+            self.names(), {"public.t": (None, [1]), "public.t2": (1, []), "public.u": (2, [])}
+        )
         self.note(1, "t", 210)
         self.assertEqual((self.remembered.found, self.names()["public.t"]), ({}, (1, [])))
 
@@ -426,7 +543,9 @@ class Names(Case):
         self.note(2, "t", 200)
         self.note(1, "t_old", 210)
         self.assertEqual(len(self.found("names")), 1)
-        self.assertEqual(self.names(), {"public.t": (2, [1]), "public.u": (None, [2]), "public.t_old": (1, [])})
+        self.assertEqual(
+            self.names(), {"public.t": (2, [1]), "public.u": (None, [2]), "public.t_old": (1, [])}
+        )
 
     def test_printed(self) -> None:
         self.note(3, "t", 0x1_0000_0200)

@@ -1,4 +1,5 @@
-"""Rows that are repaired within a running stream: what the store has in the end, and what is passed on, wherever it is cut."""
+"""Rows that are repaired within a running stream: what the store has in the end, and what is passed
+on, wherever it is cut."""
 
 from __future__ import annotations
 
@@ -11,23 +12,23 @@ import unittest
 from collections.abc import Callable, Iterator
 from unittest import mock
 
-from pgsub_connect.store import snapshot
-from pgsub_connect.verify.digests import Plan, text_of
-from pgsub_connect.errors import Passing, Unrepaired
-from pgsub_connect.drift.findings import About
-from pgsub_connect.follow.hold import Hold
-from pgsub_connect.verify.meeting_point import Request
-from pgsub_connect.verify.repair_rows import Changes, changes_of
+from pgsub_connect.add.replacement import XID
 from pgsub_connect.copy.messages import relation as relation_body
+from pgsub_connect.drift.findings import About
+from pgsub_connect.drift.remembered import Remembered
+from pgsub_connect.drift.watch import Watch
+from pgsub_connect.errors import Passing, Unrepaired
+from pgsub_connect.follow.hold import Hold
+from pgsub_connect.follow.repair import Repairing, Unusable, messages_in
 from pgsub_connect.server.connection import never
 from pgsub_connect.server.publications import Table
-from pgsub_connect.drift.remembered import Remembered
-from pgsub_connect.follow.repair import Repairing, Unusable, messages_in
-from pgsub_connect.add.replacement import XID
+from pgsub_connect.store import snapshot
 from pgsub_connect.store.snapshot import Snapshots
-from pgsub_connect.drift.watch import Watch
+from pgsub_connect.verify.digests import Plan, text_of
+from pgsub_connect.verify.meeting_point import Request
+from pgsub_connect.verify.repair_rows import Changes, changes_of
 
-from .adding_case import OTHER, T, THIRD, Case, Run
+from .adding_case import OTHER, THIRD, Case, Run, T
 from .row_filter import Store
 from .small_world import cells, insert, table
 from .vectors import begin, commit, keepalive
@@ -46,11 +47,17 @@ def groups(rows: collections.Counter[Row], plan: Plan) -> dict[bytes, collection
 
 
 class Repairs(Case):
-    """A follower of a world, and what `verify --repair` does beside it. `points`: where the repairs were."""
+    """A follower of a world, and what `verify --repair` does beside it. `points`: where the repairs
+    were."""
 
     def setUp(self) -> None:
         super().setUp()
-        for name in ("resting.LOOK", "meeting.LOOK", "snapshots.LOOK", "snapshots.SOON"):
+        for name in (
+            "store.at_rest.LOOK",
+            "verify.meeting_point.LOOK",
+            "store.snapshot.LOOK",
+            "store.snapshot.SOON",
+        ):
             patch = mock.patch(f"pgsub_connect.{name}", 0.005)
             patch.start()
             self.addCleanup(patch.stop)
@@ -61,19 +68,30 @@ class Repairs(Case):
         self.spoil()
 
     def spoil(self) -> None:
-        """Some rows are missing in the copy, which nobody follows, some are others, and some are too many."""
+        """Some rows are missing in the copy, which nobody follows, some are others, and some are
+        too many."""
         with contextlib.closing(Store(self.store).base) as base:
-            rows = base.execute("SELECT ident FROM held WHERE oid = ? ORDER BY ident", (T,)).fetchall()
-            base.executemany("DELETE FROM held WHERE oid = ? AND ident = ?", ((T, it) for it, in rows[:5]))
-            for ident, in rows[5:10]:
+            rows = base.execute(
+                "SELECT ident FROM held WHERE oid = ? ORDER BY ident", (T,)
+            ).fetchall()
+            base.executemany(
+                "DELETE FROM held WHERE oid = ? AND ident = ?", ((T, it) for it, in rows[:5])
+            )
+            for (ident,) in rows[5:10]:
                 body = cells(ident[7:].decode(), "wrong")
-                base.execute("UPDATE held SET body = ? WHERE oid = ? AND ident = ?", (body, T, ident))
+                base.execute(
+                    "UPDATE held SET body = ? WHERE oid = ? AND ident = ?", (body, T, ident)
+                )
             for key in ("90000", "90001"):
-                base.execute("INSERT INTO held VALUES (?, ?, ?, 1)", (T, cells(key), cells(key, "too many")))
+                base.execute(
+                    "INSERT INTO held VALUES (?, ?, ?, 1)", (T, cells(key), cells(key, "too many"))
+                )
 
     def running(self, **options: object) -> Run:
         run = Run(self, **options)
-        self.assertTrue(run.until(lambda: run.progress.state == "following"), (self.said, run.raised))
+        self.assertTrue(
+            run.until(lambda: run.progress.state == "following"), (self.said, run.raised)
+        )
         return run
 
     @contextlib.contextmanager
@@ -88,17 +106,23 @@ class Repairs(Case):
             request.tell(point)
             copy = Store(request.copied())
             self.hook("copied")
-            with contextlib.closing(copy.base), contextlib.closing(Changes(request.changes(), self.store)) as changes:
+            with contextlib.closing(copy.base), contextlib.closing(
+                Changes(request.changes(), self.store)
+            ) as changes:
                 self.write(changes, self.world.known[T], lines.get(T, []), copy)
             yield request
 
     def write(self, changes: Changes, it: Table, lines: list[bytes], copy: Store) -> None:
         plan = Plan(it, 1)
-        there = groups(collections.Counter(tuple(line[:-1].decode().split("\t")) for line in lines), plan)
+        there = groups(
+            collections.Counter(tuple(line[:-1].decode().split("\t")) for line in lines), plan
+        )
         here = groups(copy.rows().get(T, collections.Counter()), plan)
         changes.begin(it)
         for key in sorted(there.keys() | here.keys()):
-            theirs, ours = there.get(key, collections.Counter()), here.get(key, collections.Counter())
+            theirs, ours = there.get(key, collections.Counter()), here.get(
+                key, collections.Counter()
+            )
             for message in changes_of(plan, theirs, ours) if theirs != ours else ():
                 changes.put(message)
 
@@ -110,11 +134,16 @@ class Repairs(Case):
     def ends(self, run: Run) -> None:
         """Ends once all is stored, and compares."""
         self.change()
-        self.assertTrue(run.until(lambda: self.is_stored(run) and not run.follower.is_whole), (self.said, run.raised))
+        self.assertTrue(
+            run.until(lambda: self.is_stored(run) and not run.follower.is_whole),
+            (self.said, run.raised),
+        )
         run.end()
         self.assertIsNone(run.raised)
         self.compare()
-        self.assertFalse([it for it in os.listdir(self.folder) if ".export." in it or it.endswith(".request")])
+        self.assertFalse(
+            [it for it in os.listdir(self.folder) if ".export." in it or it.endswith(".request")]
+        )
 
     def streams(self, since: int) -> list[bool]:
         """Whether large transactions come while they run, by session."""
@@ -123,11 +152,14 @@ class Repairs(Case):
 
 class Repaired(Repairs):
     def test_the_whole_of_it(self) -> None:
-        """A session of whole transactions begins, which ends with the repair, and the next one begins there."""
+        """A session of whole transactions begins, which ends with the repair, and the next one
+        begins there."""
         run = self.running()
         self.repair()
         self.assertTrue(run.until(lambda: run.progress.sessions == 3))
-        self.assertEqual((self.streams(1), self.server.started[3][0]), ([True, False, True], self.points[0]))
+        self.assertEqual(
+            (self.streams(1), self.server.started[3][0]), ([True, False, True], self.points[0])
+        )
         self.assertIn("rows of 1 table were repaired as of", " ".join(self.said))
         self.ends(run)
 
@@ -147,7 +179,8 @@ class Repaired(Repairs):
             self.spoil()
 
     def test_what_is_passed_on(self) -> None:
-        """Byte for byte: nothing is left out, the transaction stands at P, and nothing comes behind it in the session."""
+        """Byte for byte: nothing is left out, the transaction stands at P, and nothing comes behind
+        it in the session."""
         passed: list[bytes] = []
         run = self.running(proto=1)
         real = run.filter.push
@@ -159,23 +192,39 @@ class Repaired(Repairs):
         run.calls.append(lambda: setattr(run.filter, "push", push))
         self.world.commit(insert(OTHER, (900, "x")))
         self.assertTrue(run.until(lambda: self.is_stored(run)))
-        self.hook = lambda name: self.world.commit(insert(T, (901, "y"))) if name == "copied" else None
+        self.hook = (
+            lambda name: self.world.commit(insert(T, (901, "y"))) if name == "copied" else None
+        )
         with self.compared() as request:
             with open(request.changes(), "rb") as file:
                 written = file.read()
             request.pass_on([T])
         self.assertTrue(run.until(lambda: run.progress.sessions == 2))
         point, payloads = self.points[0], list(payloads_in(b"".join(passed)))
-        first = next(at for at, it in enumerate(payloads) if it[25:26] == b"B" and it[42:46] == struct.pack(">I", XID))
+        first = next(
+            at
+            for at, it in enumerate(payloads)
+            if it[25:26] == b"B" and it[42:46] == struct.pack(">I", XID)
+        )
         last = next(at for at, it in enumerate(payloads) if at > first and it[25:26] == b"C")
         lsn = struct.pack(">Q", point - 1)
         head, clock = b"w" + lsn + lsn + bytes(8), payloads[first][34:42]
         self.assertEqual(payloads[first], head + b"B" + lsn + clock + struct.pack(">I", XID))
         self.assertEqual(payloads[last], head + b"C\0" + lsn + struct.pack(">Q", point) + clock)
         self.assertEqual(payloads[first + 1], head + relation_body(self.world.known[T]))
-        self.assertEqual(b"".join(struct.pack(">I", len(it) - 25) + it[25:] for it in payloads[first + 1 : last]), written)
+        self.assertEqual(
+            b"".join(
+                struct.pack(">I", len(it) - 25) + it[25:] for it in payloads[first + 1 : last]
+            ),
+            written,
+        )
         self.assertGreater(last, first + 5)
-        self.assertTrue(all(it[:1] == b"k" and int.from_bytes(it[1:9], "big") < point or it[25:26] in b"BRIC" for it in payloads[:first]))
+        self.assertTrue(
+            all(
+                it[:1] == b"k" and int.from_bytes(it[1:9], "big") < point or it[25:26] in b"BRIC"
+                for it in payloads[:first]
+            )
+        )
         self.assertEqual(payloads[last + 1], b"")
         self.ends(run)
 
@@ -184,7 +233,10 @@ class Repaired(Repairs):
         run = self.running()
         with self.compared():
             self.assertTrue(run.until(lambda: run.progress.state == "repairing rows"))
-        self.assertTrue(run.until(lambda: run.progress.sessions == 3 and not run.snapshots.hold.is_held), (self.said, run.raised))
+        self.assertTrue(
+            run.until(lambda: run.progress.sessions == 3 and not run.snapshots.hold.is_held),
+            (self.said, run.raised),
+        )
         self.assertTrue(run.until(lambda: run.progress.state == "following"))
         self.repair()
         self.ends(run)
@@ -235,22 +287,29 @@ class Repaired(Repairs):
         self.hook = lose
         with self.assertRaisesRegex(Passing, "repaired nothing"):
             self.repair()
-        self.assertTrue(any("no row is repaired: the session ended before" in it for it in self.said))
+        self.assertTrue(
+            any("no row is repaired: the session ended before" in it for it in self.said)
+        )
         self.hook = lambda name: None
         self.repair()
         self.ends(run)
 
     def test_who_asks_is_gone(self) -> None:
-        """While the stream is held for it, or once the changes are on their way, which are stored all the same."""
+        """While the stream is held for it, or once the changes are on their way, which are stored
+        all the same."""
         run = self.running()
         with self.compared():
             self.change()
         self.assertTrue(run.until(lambda: self.is_stored(run)), (self.said, run.raised))
         with self.compared() as request:
             request_path = request.request
-            with mock.patch("pgsub_connect.verify.meeting_point.is_followed", return_value=False), contextlib.suppress(Passing):
+            with mock.patch(
+                "pgsub_connect.verify.meeting_point.is_followed", return_value=False
+            ), contextlib.suppress(Passing):
                 request.pass_on([T])
-            self.assertTrue(run.until(lambda: run.snapshots.hold.is_sent or not os.path.exists(request_path)))
+            self.assertTrue(
+                run.until(lambda: run.snapshots.hold.is_sent or not os.path.exists(request_path))
+            )
         self.ends(run)
 
     def test_the_end_is_asked_for(self) -> None:
@@ -300,7 +359,8 @@ class Repaired(Repairs):
         self.ends(run)
 
     def test_a_table_that_was_altered(self) -> None:
-        """The session has described it otherwise; behind the repair another one describes it as it is."""
+        """The session has described it otherwise; behind the repair another one describes it as it
+        is."""
         it = self.world.known[T]
         self.change()
         run = self.running()
@@ -329,7 +389,10 @@ class Found(Repairs):
         self.hook = find
         self.repair()
         self.ends(run)
-        self.assertEqual(list(Remembered(self.store).found["values"].texts), ["other has old values", "t has old values behind"])
+        self.assertEqual(
+            list(Remembered(self.store).found["values"].texts),
+            ["other has old values", "t has old values behind"],
+        )
 
     def test_the_last_of_a_kind(self) -> None:
         remembered = Remembered(self.store)
@@ -375,7 +438,14 @@ class Files(Case):
         self.assertEqual(self.messages(b""), [])
 
     def test_what_is_none(self) -> None:
-        for content in (b"\0", b"\0\0\0\x02R", b"\0\0\0\0", b"\0\0\0\x01B", b"\0\0\0\x01T", b"\0\0\0\x01C"):
+        for content in (
+            b"\0",
+            b"\0\0\0\x02R",
+            b"\0\0\0\0",
+            b"\0\0\0\x01B",
+            b"\0\0\0\x01T",
+            b"\0\0\0\x01C",
+        ):
             with self.assertRaisesRegex(Unusable, "isn't a file of changes"):
                 self.messages(content)
         with self.assertRaisesRegex(Unusable, "the changes have 6 bytes, and 5 may be buffered"):
@@ -384,7 +454,9 @@ class Files(Case):
     def test_whose_it_is(self) -> None:
         self.messages(b"")
         path = self.folder + "/changes"
-        with mock.patch("pgsub_connect.follow.repair.os.getuid", return_value=os.getuid() + 1), mock.patch("os.fstat") as about:
+        with mock.patch(
+            "pgsub_connect.follow.repair.os.getuid", return_value=os.getuid() + 1
+        ), mock.patch("os.fstat") as about:
             about.return_value = os.stat_result((0o100600, 0, 0, 1, os.getuid() + 2, 0, 0, 0, 0, 0))
             with self.assertRaisesRegex(Unusable, "somebody else"):
                 next(messages_in(path, 5))
@@ -399,7 +471,13 @@ class Held(unittest.TestCase):
 
     def test_keepalives_within_a_transaction(self) -> None:
         """One that tells of P or more is left out: no server sends it."""
-        payloads = [begin(0x100, 7), keepalive(0x1FF), keepalive(0x200), commit(0x100, 0x108), keepalive(0x200)]
+        payloads = [
+            begin(0x100, 7),
+            keepalive(0x1FF),
+            keepalive(0x200),
+            commit(0x100, 0x108),
+            keepalive(0x200),
+        ]
         for keeps, wanted in ((True, [*payloads[:2], payloads[3]]), (False, payloads[:4])):
             hold = Hold()
             hold.begin("copy", 5.0, keeps)
@@ -407,7 +485,8 @@ class Held(unittest.TestCase):
             self.assertEqual((hold.passing(payloads, False), hold.kept), (wanted, payloads[4:]))
 
     def test_who_asked_is_gone(self) -> None:
-        """The stream stays held once the changes are on their way: behind them nothing is passed on in the session."""
+        """The stream stays held once the changes are on their way: behind them nothing is passed on
+        in the session."""
         for is_sent in (False, True):
             asked = Snapshots("/nowhere/copy.db", None, 0.0)
             asked.hold.begin("/nowhere/copy", 5.0, True)
@@ -421,17 +500,30 @@ class Held(unittest.TestCase):
         repairing = Repairing(it, it, it, it, it, it, it, asked, stream)
         found = []
         for wants, streaming, streams, keeps in (
-            (False, True, True, False), (True, True, True, False), (True, False, True, False), (False, False, True, True),
-            (False, False, True, False), (True, False, False, False), (False, False, False, False),
+            (False, True, True, False),
+            (True, True, True, False),
+            (True, False, True, False),
+            (False, False, True, True),
+            (False, False, True, False),
+            (True, False, False, False),
+            (False, False, False, False),
         ):
             asked.wants_whole, asked.hold.keeps, asked.hold.is_held = wants, keeps, keeps
             stream.is_streaming.return_value = streaming
             wanted = repairing.wants_session()
             found.append((wanted, repairing.begin_session(streams), repairing.is_whole))
-        self.assertEqual(found, [
-            (False, False, False), (True, True, True), (False, True, True), (False, True, True), (True, False, False), (False, True, False),
-            (False, False, False),
-        ])
+        self.assertEqual(
+            found,
+            [
+                (False, False, False),
+                (True, True, True),
+                (False, True, True),
+                (False, True, True),
+                (True, False, False),
+                (False, True, False),
+                (False, False, False),
+            ],
+        )
 
 
 if __name__ == "__main__":

@@ -8,15 +8,27 @@ import struct
 import unittest
 from collections.abc import Iterator
 
-from pgsub_connect.errors import ServerError
+from pgsub_connect.add.replacement import XID, Leaving, Rows, payload_of
 from pgsub_connect.copy.messages import NULL
+from pgsub_connect.errors import ServerError
 from pgsub_connect.follow.stream_log import final_lsn
 from pgsub_connect.server.publications import Column, Table
-from pgsub_connect.add.replacement import Leaving, Rows, XID, payload_of
 
 from .row_filter import Fault, Store, Subscriber, number, read_tuple, spelled
 from .vectors import (
-    a_type, begin, commit, delete, insert, keepalive, message, relation, start, stop, stream_abort, truncate, update,
+    a_type,
+    begin,
+    commit,
+    delete,
+    insert,
+    keepalive,
+    message,
+    relation,
+    start,
+    stop,
+    stream_abort,
+    truncate,
+    update,
 )
 
 EXAMPLES = os.path.join(os.path.dirname(os.path.abspath(__file__)), "..", "..", "examples")
@@ -40,15 +52,31 @@ class Left(unittest.TestCase):
     """What is left out in a transaction below P, and at or above it."""
 
     CHANGES = (insert(T), update(T), delete(T), truncate(T))
-    OTHERS = (insert(OTHER), update(OTHER), delete(OTHER), truncate(OTHER), relation(T, "t"), a_type(T), message(), stream_abort(7, 7))
+    OTHERS = (
+        insert(OTHER),
+        update(OTHER),
+        delete(OTHER),
+        truncate(OTHER),
+        relation(T, "t"),
+        a_type(T),
+        message(),
+        stream_abort(7, 7),
+    )
 
     def test_changes_of_the_table(self) -> None:
         for lsn, point, stays in (
-            (0x1F8, POINT, False), (POINT, POINT, True), (0x208, POINT, True), (0x1F8, 0, False), (0x208, 0, False), (1 << 63, 0, False),
+            (0x1F8, POINT, False),
+            (POINT, POINT, True),
+            (0x208, POINT, True),
+            (0x1F8, 0, False),
+            (0x208, 0, False),
+            (1 << 63, 0, False),
         ):
             for change in self.CHANGES:
                 found = passed(pair(lsn, change), {T: point})
-                self.assertEqual(found, pair(lsn, change) if stays else pair(lsn), (hex(lsn), hex(point), change))
+                self.assertEqual(
+                    found, pair(lsn, change) if stays else pair(lsn), (hex(lsn), hex(point), change)
+                )
 
     def test_all_else(self) -> None:
         for lsn in (0x1F8, POINT):
@@ -56,22 +84,34 @@ class Left(unittest.TestCase):
 
     def test_truncations_of_several(self) -> None:
         for oids, left in (
-            ((T, OTHER), (OTHER,)), ((OTHER, T), (OTHER,)), ((OTHER, T, 3), (OTHER, 3)), ((OTHER, 3), (OTHER, 3)), ((T, T), ()),
+            ((T, OTHER), (OTHER,)),
+            ((OTHER, T), (OTHER,)),
+            ((OTHER, T, 3), (OTHER, 3)),
+            ((OTHER, 3), (OTHER, 3)),
+            ((T, T), ()),
         ):
             wanted = [truncate(*left)] if left else []
-            self.assertEqual(passed(pair(0x100, truncate(*oids)), {T: POINT}), pair(0x100, *wanted), oids)
-            self.assertEqual(passed(pair(POINT, truncate(*oids)), {T: POINT}), pair(POINT, truncate(*oids)), oids)
+            self.assertEqual(
+                passed(pair(0x100, truncate(*oids)), {T: POINT}), pair(0x100, *wanted), oids
+            )
+            self.assertEqual(
+                passed(pair(POINT, truncate(*oids)), {T: POINT}), pair(POINT, truncate(*oids)), oids
+            )
 
     def test_the_options_of_a_truncation_stay(self) -> None:
         before = truncate(T, OTHER)
         payload = before[:30] + b"\x03" + before[31:]
         wanted = truncate(OTHER)
-        self.assertEqual(passed(pair(0x100, payload), {T: 0})[1], wanted[:30] + b"\x03" + wanted[31:])
+        self.assertEqual(
+            passed(pair(0x100, payload), {T: 0})[1], wanted[:30] + b"\x03" + wanted[31:]
+        )
 
     def test_several_tables(self) -> None:
         """Each has its own P."""
         inner = [insert(T), insert(OTHER), insert(3)]
-        self.assertEqual(passed(pair(0x100, *inner), {T: 0x80, OTHER: 0}), pair(0x100, insert(T), insert(3)))
+        self.assertEqual(
+            passed(pair(0x100, *inner), {T: 0x80, OTHER: 0}), pair(0x100, insert(T), insert(3))
+        )
         self.assertEqual(passed(pair(0x100, *inner), {}), pair(0x100, *inner))
 
     def test_how_tables_were_described(self) -> None:
@@ -81,31 +121,61 @@ class Left(unittest.TestCase):
         found = []
         for names in ((), ("t",), ("was",), ("t", "was"), ("was", "t")):
             leaving.begin_session()
-            leaving.passing(pair(0x100, *(relation(T, it) for it in names), relation(OTHER, "other")))
-            found.append((leaving.has_described_otherwise(first), leaving.has_described_otherwise(last)))
-        self.assertEqual(found, [(False, False), (False, True), (True, False), (True, False), (False, True)])
+            leaving.passing(
+                pair(0x100, *(relation(T, it) for it in names), relation(OTHER, "other"))
+            )
+            found.append(
+                (leaving.has_described_otherwise(first), leaving.has_described_otherwise(last))
+            )
+        self.assertEqual(
+            found, [(False, False), (False, True), (True, False), (True, False), (False, True)]
+        )
 
     def test_one_transaction_after_the_other(self) -> None:
-        payloads = [*pair(0x100, insert(T)), keepalive(0x1F8), *pair(0x1F0, insert(T), insert(OTHER)), *pair(0x200, insert(T))]
-        wanted = [*pair(0x100), keepalive(0x1F8), *pair(0x1F0, insert(OTHER)), *pair(0x200, insert(T))]
+        payloads = [
+            *pair(0x100, insert(T)),
+            keepalive(0x1F8),
+            *pair(0x1F0, insert(T), insert(OTHER)),
+            *pair(0x200, insert(T)),
+        ]
+        wanted = [
+            *pair(0x100),
+            keepalive(0x1F8),
+            *pair(0x1F0, insert(OTHER)),
+            *pair(0x200, insert(T)),
+        ]
         self.assertEqual(passed(payloads, {T: POINT}), wanted)
         for cut in range(len(payloads)):
             leaving = Leaving()
             leaving.set({T: POINT})
-            self.assertEqual(leaving.passing(payloads[:cut]) + leaving.passing(payloads[cut:]), wanted)
+            self.assertEqual(
+                leaving.passing(payloads[:cut]) + leaving.passing(payloads[cut:]), wanted
+            )
 
     def test_keepalives(self) -> None:
         """One within a transaction below P would say of the rows' transaction that it was sent."""
-        for lsn, end, stays in ((0x100, 0x1FF, True), (0x100, POINT, False), (0x100, 0x300, False), (POINT, 0x300, True)):
+        for lsn, end, stays in (
+            (0x100, 0x1FF, True),
+            (0x100, POINT, False),
+            (0x100, 0x300, False),
+            (POINT, 0x300, True),
+        ):
             wanted = pair(lsn, keepalive(end)) if stays else pair(lsn)
-            self.assertEqual(passed(pair(lsn, keepalive(end)), {T: POINT}), wanted, (hex(lsn), hex(end)))
+            self.assertEqual(
+                passed(pair(lsn, keepalive(end)), {T: POINT}), wanted, (hex(lsn), hex(end))
+            )
         self.assertEqual(passed([keepalive(0x300)], {T: POINT}), [keepalive(0x300)])
-        self.assertEqual(passed(pair(0x100, keepalive(0x300)), {T: 0}), pair(0x100, keepalive(0x300)))
+        self.assertEqual(
+            passed(pair(0x100, keepalive(0x300)), {T: 0}), pair(0x100, keepalive(0x300))
+        )
 
     def test_a_session_that_streams_is_given_up(self) -> None:
         with self.assertRaises(ServerError):
             passed([start(7, True)], {T: POINT})
-        self.assertEqual(passed([start(7, True), insert(T, 7), stop()], {}), [start(7, True), insert(T, 7), stop()])
+        self.assertEqual(
+            passed([start(7, True), insert(T, 7), stop()], {}),
+            [start(7, True), insert(T, 7), stop()],
+        )
 
     def test_a_session_begins_outside(self) -> None:
         leaving = Leaving()
@@ -115,7 +185,16 @@ class Left(unittest.TestCase):
         self.assertEqual(leaving.passing([keepalive(0x300)]), [keepalive(0x300)])
 
 
-STOCK = Table(T, "public", "stock", "r", "d", None, None, [Column("id", 23, -1, True, 1), Column("note", 25, -1, False, 2)])
+STOCK = Table(
+    T,
+    "public",
+    "stock",
+    "r",
+    "d",
+    None,
+    None,
+    [Column("id", 23, -1, True, 1), Column("note", 25, -1, False, 2)],
+)
 
 
 def rows_of(lines: list[bytes], table: Table = STOCK, point: int = POINT) -> list[bytes]:
@@ -142,14 +221,18 @@ class Made(unittest.TestCase):
         self.assertEqual(
             rows_of([b"1\ta\\tb\n", b"2\t\\N\n"]),
             [
-                head + b"B" + lsn + struct.pack(">qI", 99, XID), head + b"R\0\0\0\x01" + described, head + b"T\0\0\0\x01\0\0\0\0\x01",
-                head + b"I\0\0\0\x01N\0\x02t\0\0\0\x011t\0\0\0\x03a\tb", head + b"I\0\0\0\x01N\0\x02t\0\0\0\x012n",
+                head + b"B" + lsn + struct.pack(">qI", 99, XID),
+                head + b"R\0\0\0\x01" + described,
+                head + b"T\0\0\0\x01\0\0\0\0\x01",
+                head + b"I\0\0\0\x01N\0\x02t\0\0\0\x011t\0\0\0\x03a\tb",
+                head + b"I\0\0\0\x01N\0\x02t\0\0\0\x012n",
                 head + b"C\0" + lsn + struct.pack(">Qq", POINT, 99),
             ],
         )
 
     def test_lsns(self) -> None:
-        """Records begin at multiples of eight, so no commit begins at P - 1, and each has at least 24 bytes."""
+        """Records begin at multiples of eight, so no commit begins at P - 1, and each has at least
+        24 bytes."""
         payloads = rows_of([])
         lsn, end = final_lsn(payloads[0]), number(payloads[-1], 35, 8)
         self.assertEqual((lsn % 8, end), (7, POINT))
@@ -227,7 +310,12 @@ def transactions_of(payloads: list[bytes]) -> Iterator[tuple[int, list[bytes]]]:
 def is_of(payload: bytes, oid: int) -> bool:
     """Whether this is a change of that table alone."""
     letter = payload[25:26]
-    return letter in (b"I", b"U", b"D") and number(payload, 26, 4) == oid or letter == b"T" and payload[31:] == oid.to_bytes(4, "big")
+    return (
+        letter in (b"I", b"U", b"D")
+        and number(payload, 26, 4) == oid
+        or letter == b"T"
+        and payload[31:] == oid.to_bytes(4, "big")
+    )
 
 
 class Recorded(unittest.TestCase):
@@ -258,7 +346,8 @@ class Recorded(unittest.TestCase):
         return len(oids) * len(chosen)
 
     def replace_at(self, payloads: list[bytes], oid: int, point: int) -> None:
-        """The rows at the end are those without a replacement, and what is left out is what it should be."""
+        """The rows at the end are those without a replacement, and what is left out is what it
+        should be."""
         whole, before = Model(), Model()
         whole.take(payloads)
         expected, first, rest = list[bytes](), list[bytes](), list[bytes]()
@@ -277,10 +366,21 @@ class Recorded(unittest.TestCase):
         replaced.take(left[: len(left) - len(rest)])
         self.assertNotIn(oid, replaced.subscriber.store.rows())
         if relation := store.described.get(oid):
-            numbers = struct.iter_unpack(">Ii", b"".join(relation.raw[at : at + 8] for at in ends_of(relation.raw)))
-            columns = [Column(name, kind, more, key == 1) for (key, name), (kind, more) in zip(relation.columns, numbers)]
-            table = Table(oid, relation.namespace, relation.name, "r", relation.letter, None, None, columns)
-            lines = [line_of(it) for it in store.base.execute("SELECT body, copies FROM held WHERE oid = ?", (oid,)) for _ in range(it[1])]
+            numbers = struct.iter_unpack(
+                ">Ii", b"".join(relation.raw[at : at + 8] for at in ends_of(relation.raw))
+            )
+            columns = [
+                Column(name, kind, more, key == 1)
+                for (key, name), (kind, more) in zip(relation.columns, numbers)
+            ]
+            table = Table(
+                oid, relation.namespace, relation.name, "r", relation.letter, None, None, columns
+            )
+            lines = [
+                line_of(it)
+                for it in store.base.execute("SELECT body, copies FROM held WHERE oid = ?", (oid,))
+                for _ in range(it[1])
+            ]
             replaced.take(rows_of(lines, table, point))
             self.assertEqual(replaced.rows(), before.rows())
         replaced.take(left[len(left) - len(rest) :])

@@ -8,16 +8,16 @@ import re
 import unittest
 from unittest import mock
 
-from pgsub_connect.follow import server_watch
-from pgsub_connect.status import files
-from pgsub_connect.server import session
-from pgsub_connect.follow.server_watch import Asker, SlotWarning
-from pgsub_connect.store.checkpoint import Counted
-from pgsub_connect.errors import ServerError
-from pgsub_connect.status.metrics import metrics_text
 from pgsub_connect.commands.options import Options
-from pgsub_connect.status.progress import Progress, STATES
+from pgsub_connect.errors import ServerError
+from pgsub_connect.follow import server_watch
+from pgsub_connect.follow.server_watch import Asker, SlotWarning
+from pgsub_connect.server import session
+from pgsub_connect.status import files
 from pgsub_connect.status.files import Replaced, Reporter, program_version
+from pgsub_connect.status.metrics import metrics_text
+from pgsub_connect.status.progress import STATES, Progress
+from pgsub_connect.store.checkpoint import Counted
 
 from .fake_server import FakeServer, Quiet
 
@@ -51,7 +51,9 @@ class Files(Quiet):
         file = Replaced(self.folder + "/none/status", 0o600)
         for _ in range(3):
             file.write("x\n")
-        self.assertEqual(self.said, [f"warning: {file.path} can't be written: No such file or directory"])
+        self.assertEqual(
+            self.said, [f"warning: {file.path} can't be written: No such file or directory"]
+        )
         os.mkdir(self.folder + "/none")
         os.mkdir(file.path)
         for _ in range(3):
@@ -63,26 +65,52 @@ class Files(Quiet):
     def test_a_cause_that_comes_and_goes_is_told_once_a_minute(self) -> None:
         file, clock = Replaced(self.path, 0o600), [1000.0]
         with mock.patch("time.monotonic", lambda: clock[0]):
-            for now, works in ((0, False), (1, True), (2, False), (3, True), (70, True), (71, False)):
+            for now, works in (
+                (0, False),
+                (1, True),
+                (2, False),
+                (3, True),
+                (70, True),
+                (71, False),
+            ):
                 clock[0] = 1000.0 + now
-                with mock.patch.object(files, "replace", side_effect=None if works else OSError(28, "No space left on device")):
+                with mock.patch.object(
+                    files,
+                    "replace",
+                    side_effect=None if works else OSError(28, "No space left on device"),
+                ):
                     file.write("x\n")
                 self.assertEqual(len(self.said), 2 if now == 71 else 1, now)
 
     def test_reporter(self) -> None:
         progress = Progress()
-        reporter = Reporter(Options(store="copy.db", status_file=self.path, metrics_file=self.path + ".prom", mode=0o640), progress)
+        reporter = Reporter(
+            Options(
+                store="copy.db", status_file=self.path, metrics_file=self.path + ".prom", mode=0o640
+            ),
+            progress,
+        )
         reporter.start()
         progress.state = "stopped"
         reporter.finish()
         with open(self.path, encoding="utf-8") as file:
             self.assertEqual(json.load(file)["state"], "stopped")
         with open(self.path + ".prom", encoding="utf-8") as file:
-            self.assertIn('pgsub_state{slot="pgsub",store="copy.db",state="stopped"} 1\n', file.read())
+            self.assertIn(
+                'pgsub_state{slot="pgsub",store="copy.db",state="stopped"} 1\n', file.read()
+            )
 
     def test_a_path_that_is_no_utf_8(self) -> None:
-        """Prometheus reads nothing else, and whoever reads the status file sees it replaced each second."""
-        reporter = Reporter(Options(store=os.fsdecode(b"copy\xff.db"), status_file=self.path, metrics_file=self.path + ".prom"), Progress())
+        """Prometheus reads nothing else, and whoever reads the status file sees it replaced each
+        second."""
+        reporter = Reporter(
+            Options(
+                store=os.fsdecode(b"copy\xff.db"),
+                status_file=self.path,
+                metrics_file=self.path + ".prom",
+            ),
+            Progress(),
+        )
         reporter.write()
         self.assertEqual(sorted(os.listdir(self.folder)), ["status", "status.prom"])
         with open(self.path + ".prom", encoding="utf-8") as file:
@@ -103,7 +131,9 @@ class Files(Quiet):
 
 
 class Metrics(unittest.TestCase):
-    LINE = re.compile(r'([a-z_]+)\{([a-z_]+="(?:[^"\\\n]|\\[\\"n])*"(?:,[a-z_]+="(?:[^"\\\n]|\\[\\"n])*")*)\} (-?\d+(?:\.\d+)?)')
+    LINE = re.compile(
+        r'([a-z_]+)\{([a-z_]+="(?:[^"\\\n]|\\[\\"n])*"(?:,[a-z_]+="(?:[^"\\\n]|\\[\\"n])*")*)\} (-?\d+(?:\.\d+)?)'
+    )
 
     def text(self, store: str = "copy.db") -> str:
         progress = Progress()
@@ -137,12 +167,19 @@ class Metrics(unittest.TestCase):
     def test_values(self) -> None:
         text, labels = self.text(), 'slot="pgsub",store="copy.db"'
         for sample in (
-            f"pgsub_lag_bytes{{{labels}}} 16", f"pgsub_confirmed_lsn{{{labels}}} 16", f"pgsub_changes_total{{{labels}}} 5",
-            f"pgsub_missing_total{{{labels}}} 3", f"pgsub_counted_lsn{{{labels}}} 20", f"pgsub_not_counted_bytes{{{labels}}} 7",
+            f"pgsub_lag_bytes{{{labels}}} 16",
+            f"pgsub_confirmed_lsn{{{labels}}} 16",
+            f"pgsub_changes_total{{{labels}}} 5",
+            f"pgsub_missing_total{{{labels}}} 3",
+            f"pgsub_counted_lsn{{{labels}}} 20",
+            f"pgsub_not_counted_bytes{{{labels}}} 7",
             f'pgsub_found{{{labels},kind="missing"}} 0',
-            f'pgsub_slot_wal_status{{{labels},status="extended"}} 1', f'pgsub_slot_wal_status{{{labels},status="lost"}} 0',
-            f"pgsub_slot_safe_wal_bytes{{{labels}}} 77", f'pgsub_found{{{labels},kind="values"}} 1',
-            f'pgsub_found{{{labels},kind="names"}} 0', f'pgsub_state{{{labels},state="following"}} 1',
+            f'pgsub_slot_wal_status{{{labels},status="extended"}} 1',
+            f'pgsub_slot_wal_status{{{labels},status="lost"}} 0',
+            f"pgsub_slot_safe_wal_bytes{{{labels}}} 77",
+            f'pgsub_found{{{labels},kind="values"}} 1',
+            f'pgsub_found{{{labels},kind="names"}} 0',
+            f'pgsub_state{{{labels},state="following"}} 1',
         ):
             self.assertIn(f"\n{sample}\n", text)
         self.assertEqual(text.count("pgsub_state{"), len(STATES))
@@ -158,12 +195,25 @@ class Warns(Quiet):
     def test_once_for_each_state(self) -> None:
         warning = SlotWarning("pgsub")
         for status, safe, lines in (
-            ("reserved", 1000, 0), ("extended", 100, 0), ("extended", 99, 1), ("extended", 98, 1), ("extended", 150, 1),
-            ("extended", 200, 2), ("extended", 99, 3), ("unreserved", None, 4), ("unreserved", None, 4), ("lost", None, 5), ("lost", None, 5),
+            ("reserved", 1000, 0),
+            ("extended", 100, 0),
+            ("extended", 99, 1),
+            ("extended", 98, 1),
+            ("extended", 150, 1),
+            ("extended", 200, 2),
+            ("extended", 99, 3),
+            ("unreserved", None, 4),
+            ("unreserved", None, 4),
+            ("lost", None, 5),
+            ("lost", None, 5),
         ):
             warning.note(status, safe, 1000)
             self.assertEqual(len(self.said), lines, (status, safe))
-        for line, part in zip(self.said, ("after 99 bytes", "safe again", "after 99 bytes", "next checkpoint", "copy anew"), strict=True):
+        for line, part in zip(
+            self.said,
+            ("after 99 bytes", "safe again", "after 99 bytes", "next checkpoint", "copy anew"),
+            strict=True,
+        ):
             self.assertIn(part, line)
 
     def test_without_a_limit(self) -> None:
@@ -182,7 +232,16 @@ class Asks(Quiet):
         self.addCleanup(patch.stop)
         self.server.answer("pg_postmaster_start_time", [["7"]])
         self.server.answer("pg_size_bytes(pg_catalog.current_setting('max_slot", [["1000"]])
-        self.standby, self.row = "f", ["0/30", "0/30", "16777216", "5.5", "", "pgsub", "extended", "50"]
+        self.standby, self.row = "f", [
+            "0/30",
+            "0/30",
+            "16777216",
+            "5.5",
+            "",
+            "pgsub",
+            "extended",
+            "50",
+        ]
         self.server.answer("pg_replication_slots", lambda _: [[self.standby, *self.row]])
         self.progress = Progress()
         self.progress.sessions = 1
@@ -191,7 +250,14 @@ class Asks(Quiet):
     def test_end_and_slot(self) -> None:
         self.asker.ask()
         self.asker.ask()
-        self.assertEqual((self.progress.lag.end, self.progress.slot.wal_status, self.progress.slot.safe_wal_size), (0x30, "extended", 50))
+        self.assertEqual(
+            (
+                self.progress.lag.end,
+                self.progress.slot.wal_status,
+                self.progress.slot.safe_wal_size,
+            ),
+            (0x30, "extended", 50),
+        )
         self.assertEqual((self.server.opened, len(self.said)), (1, 1))
         self.assertLess(self.progress.lag.skew, -1e9)
 
@@ -199,7 +265,9 @@ class Asks(Quiet):
         self.server.server_version = 120000
         self.row[6:] = [None, None]  # type: ignore[list-item]
         self.asker.ask()
-        self.assertEqual((self.progress.slot.wal_status, self.progress.slot.safe_wal_size), ("", None))
+        self.assertEqual(
+            (self.progress.slot.wal_status, self.progress.slot.safe_wal_size), ("", None)
+        )
         self.assertEqual(self.server.told("wal_status"), [])
 
     def test_whether_commits_wait(self) -> None:
@@ -218,9 +286,16 @@ class Asks(Quiet):
 
     def test_a_standby_that_was_promoted(self) -> None:
         for standby, started, was_standby, promoted in (
-            ("t", 7, True, False), ("f", 8, True, False), ("f", 7, False, False), ("f", 7, True, True),
+            ("t", 7, True, False),
+            ("f", 8, True, False),
+            ("f", 7, False, False),
+            ("f", 7, True, True),
         ):
-            self.standby, self.progress.server_started, self.progress.is_standby = standby, started, was_standby
+            self.standby, self.progress.server_started, self.progress.is_standby = (
+                standby,
+                started,
+                was_standby,
+            )
             self.asker.ask()
             self.assertIs(self.progress.was_promoted, promoted)
 
@@ -238,8 +313,16 @@ class Asks(Quiet):
 class Standbys(unittest.TestCase):
     def test_names(self) -> None:
         for standbys, waits in (
-            ("", False), ("pgsub", True), ("PgSub", True), ("pgsub2", False), ("*", True), ("FIRST 2 (a, pgsub)", True), ("ANY 1 (a,b)", False),
-            ('"pgsub"', True), ('a, "say ""pgsub"""', False), ('"pgsub, a"', False),
+            ("", False),
+            ("pgsub", True),
+            ("PgSub", True),
+            ("pgsub2", False),
+            ("*", True),
+            ("FIRST 2 (a, pgsub)", True),
+            ("ANY 1 (a,b)", False),
+            ('"pgsub"', True),
+            ('a, "say ""pgsub"""', False),
+            ('"pgsub, a"', False),
         ):
             self.assertIs(session.waits_for(standbys, "pgsub"), waits, standbys)
         self.assertTrue(session.waits_for('a, "say ""so"""', 'say "so"'))
@@ -248,8 +331,12 @@ class Standbys(unittest.TestCase):
 class Ends(unittest.TestCase):
     def test_a_page_that_is_full(self) -> None:
         for end, flushed, exact in (
-            (0x2000018, 0x2000018, 0x2000018), (0x2002018, 0x2002000, 0x2002000), (0x2002020, 0x2002000, 0x2002020),
-            (0x2000028, 0x2000000, 0x2000000), (0x2000018, 0x2000000, 0x2000018), (0x2002028, 0x2002000, 0x2002028),
+            (0x2000018, 0x2000018, 0x2000018),
+            (0x2002018, 0x2002000, 0x2002000),
+            (0x2002020, 0x2002000, 0x2002020),
+            (0x2000028, 0x2000000, 0x2000000),
+            (0x2000018, 0x2000000, 0x2000018),
+            (0x2002028, 0x2002000, 0x2002028),
             (0x2002018, 0x2001FF8, 0x2002018),
         ):
             self.assertEqual(session.exact_end(end, flushed, 1 << 24), exact, hex(end))

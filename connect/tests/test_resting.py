@@ -1,4 +1,5 @@
-"""A store's file at rest: held where nobody follows, copied where a log is left, asked for where a follower runs."""
+"""A store's file at rest: held where nobody follows, copied where a log is left, asked for where a
+follower runs."""
 
 from __future__ import annotations
 
@@ -17,12 +18,13 @@ import unittest
 from collections.abc import Iterator
 from unittest import mock
 
-from pgsub_connect.store import at_rest as at_rest_module, export
-from pgsub_connect.commands import snapshot
 from pgsub_connect.cli import FILE, PASSING, USAGE, main
-from pgsub_connect.errors import FileError, Passing, Stopped
+from pgsub_connect.commands import snapshot
 from pgsub_connect.commands.options import Options
+from pgsub_connect.errors import FileError, Passing, Stopped
 from pgsub_connect.server.connection import never
+from pgsub_connect.store import at_rest as at_rest_module
+from pgsub_connect.store import export
 from pgsub_connect.store.at_rest import at_rest, own_name
 from pgsub_connect.store.snapshot import Snapshots
 
@@ -36,8 +38,8 @@ GONE = 4194304 + 1
 class Case(StoreCase):
     def setUp(self) -> None:
         super().setUp()
-        for it in ("resting", "snapshots"):
-            self.patch(f"pgsub_connect.{it}.LOOK", 0.01)
+        for it in ("at_rest", "snapshot"):
+            self.patch(f"pgsub_connect.store.{it}.LOOK", 0.01)
         self.store.table(1, "t")
         self.store.row(1, "1", "x")
         self.made = {"copy.db", "copy.db.connector"}
@@ -105,7 +107,9 @@ class Held(Case):
         self.store.base.execute("PRAGMA wal_autocheckpoint = 0")
         self.store.row(1, "2", "y")
         for suffix in ("", "-wal"):
-            with open(self.path + suffix, "rb") as old, open(self.folder + "/killed.db" + suffix, "wb") as new:
+            with open(self.path + suffix, "rb") as old, open(
+                self.folder + "/killed.db" + suffix, "wb"
+            ) as new:
                 new.write(old.read())
         options = self.options()
         options.store = self.folder + "/killed.db"
@@ -113,8 +117,12 @@ class Held(Case):
         with logged():
             export.run(options, never)
         self.assertEqual(self.rows(), [(1, "x"), (2, "y")])
-        self.assertEqual({suffix: os.stat(options.store + suffix).st_size for suffix in ("", "-wal")}, before)
-        self.assertEqual(self.left() - {"copy.db-wal", "copy.db-shm"}, {"killed.db", "killed.db-wal", "rows.db"})
+        self.assertEqual(
+            {suffix: os.stat(options.store + suffix).st_size for suffix in ("", "-wal")}, before
+        )
+        self.assertEqual(
+            self.left() - {"copy.db-wal", "copy.db-shm"}, {"killed.db", "killed.db-wal", "rows.db"}
+        )
 
     def test_a_log_of_a_store_that_is_named_by_a_link(self) -> None:
         """SQLite has it beside the file that is meant."""
@@ -137,25 +145,50 @@ class Held(Case):
             self.assertEqual(base.execute("SELECT count(*) FROM held").fetchone(), (2,))
 
     def test_a_disk_that_is_full(self) -> None:
-        """Also where SQLite tells it, as of its own writes, that passes: what starts these again goes on. A spoiled file doesn't."""
+        """Also where SQLite tells it, as of its own writes, that passes: what starts these again
+        goes on. A spoiled file doesn't."""
         open(self.path + "-wal", "wb").write(b"x")
         errors = (("database or disk is full", PASSING), ("file is not a database", FILE))
-        for command, function in (("export", "resting.fold"), ("snapshot", "resting.fold"), ("export", "exporting.Export.run"), ("snapshot", "taking.fold")):
-            if function != "resting.fold" and os.path.exists(self.path + "-wal"):
+        for command, function in (
+            ("export", "store.at_rest.fold"),
+            ("snapshot", "store.at_rest.fold"),
+            ("export", "store.export.Export.run"),
+            ("snapshot", "commands.snapshot.fold"),
+        ):
+            if function != "store.at_rest.fold" and os.path.exists(self.path + "-wal"):
                 os.unlink(self.path + "-wal")
             for text, status in errors:
-                with logged() as told, mock.patch(f"pgsub_connect.{function}", side_effect=sqlite3.DatabaseError(text)):
-                    self.assertEqual(main([command, "--store", self.path, "--into", self.into]), status, (function, told))
-                self.assertRegex(told[-1], f"error: .*copy.db.*: {text}" if function != "taking.fold" else f"error: .*rows.db.*: {text}")
+                with logged() as told, mock.patch(
+                    f"pgsub_connect.{function}", side_effect=sqlite3.DatabaseError(text)
+                ):
+                    self.assertEqual(
+                        main([command, "--store", self.path, "--into", self.into]),
+                        status,
+                        (function, told),
+                    )
+                self.assertRegex(
+                    told[-1],
+                    f"error: .*copy.db.*: {text}"
+                    if function != "commands.snapshot.fold"
+                    else f"error: .*rows.db.*: {text}",
+                )
                 self.assertEqual(self.left() - {"copy.db-wal"}, set())
 
     def test_a_disk_that_is_full_is_told(self) -> None:
         """The system says of a write only that there is no room."""
         open(self.path + "-wal", "wb").write(b"x")
         for command in ("export", "snapshot"):
-            with logged() as told, mock.patch("pgsub_connect.store.snapshot.copied", side_effect=OSError(errno.ENOSPC, "No space left on device")):
-                self.assertEqual(main([command, "--store", self.path, "--into", self.into]), PASSING)
-            self.assertEqual((told[-1], self.left()), (f"error: {self.into}: No space left on device", {"copy.db-wal"}))
+            with logged() as told, mock.patch(
+                "pgsub_connect.store.snapshot.copied",
+                side_effect=OSError(errno.ENOSPC, "No space left on device"),
+            ):
+                self.assertEqual(
+                    main([command, "--store", self.path, "--into", self.into]), PASSING
+                )
+            self.assertEqual(
+                (told[-1], self.left()),
+                (f"error: {self.into}: No space left on device", {"copy.db-wal"}),
+            )
 
     def test_no_rights(self) -> None:
         open(self.path + ".connector", "w").close()
@@ -195,7 +228,9 @@ class Asked(Case):
         self.assertEqual(self.left(), {"rows.db"})
 
     def test_a_follower_that_cant(self) -> None:
-        with self.followed(0x200), logged(), self.assertRaisesRegex(Passing, "follower couldn't copy it: the copy isn't at 0/200"):
+        with self.followed(0x200), logged(), self.assertRaisesRegex(
+            Passing, "follower couldn't copy it: the copy isn't at 0/200"
+        ):
             export.run(self.options(), never)
         self.assertEqual(self.left(), set())
 
@@ -234,9 +269,15 @@ class Asked(Case):
             json.dump({"into": "/rows.db"}, file)
         with self.followed():
             until = time.monotonic() + 20
-            while "error" not in (found := at_rest_module.read_request(self.path + ".request")) and time.monotonic() < until:
+            while (
+                "error" not in (found := at_rest_module.read_request(self.path + ".request"))
+                and time.monotonic() < until
+            ):
                 time.sleep(0.01)
-        self.assertEqual(found, {"into": "/rows.db", "error": "the copy has to be a new file in the store's folder"})
+        self.assertEqual(
+            found,
+            {"into": "/rows.db", "error": "the copy has to be a new file in the store's folder"},
+        )
 
     def test_a_folder_by_another_name(self) -> None:
         with tempfile.TemporaryDirectory() as room:
@@ -289,22 +330,42 @@ class Taken(Case):
         with contextlib.closing(sqlite3.connect(mine)) as base:
             base.execute("CREATE TABLE t (a)")
         new = self.folder + "/new.db"
-        words = ["follow", "--store", new, "--create", "--table", "t", "--dsn", f"host={self.folder}/none", "--snapshot"]
+        words = [
+            "follow",
+            "--store",
+            new,
+            "--create",
+            "--table",
+            "t",
+            "--dsn",
+            f"host={self.folder}/none",
+            "--snapshot",
+        ]
         for path in (other, mine):
             with logged() as told:
                 self.assertEqual(main([*words, path]), FILE)
-            self.assertEqual(told, [f"error: --snapshot {path} is there and isn't an earlier copy of a store: remove it, or name another file"])
+            self.assertEqual(
+                told,
+                [
+                    f"error: --snapshot {path} is there and isn't an earlier copy of a store: remove it, or name another file"
+                ],
+            )
             self.assertFalse(os.path.exists(new + ".connector"))
         with logged() as told:
-            self.assertEqual((main([*words, new + "-wal"]), main([*words, copied])), (USAGE, PASSING), told)
+            self.assertEqual(
+                (main([*words, new + "-wal"]), main([*words, copied])), (USAGE, PASSING), told
+            )
 
     def test_on_another_disk(self) -> None:
-        with self.followed(), logged(), mock.patch("os.rename", side_effect=OSError(18, "Invalid cross-device link")):
+        with self.followed(), logged(), mock.patch(
+            "os.rename", side_effect=OSError(18, "Invalid cross-device link")
+        ):
             self.assertEqual(snapshot.run(self.options(), never), 0)
         self.assertEqual(self.left(), {"rows.db"})
 
     def left_after(self, path: str, names: list[str], age: float = 1e9) -> set[str]:
-        """Which of these files, of this age, are left once a name for one of this process was chosen."""
+        """Which of these files, of this age, are left once a name for one of this process was
+        chosen."""
         for name in names:
             with open(f"{self.folder}/{name}", "w") as file:
                 os.utime(file.fileno(), (time.time() - age, time.time() - age))
@@ -313,15 +374,36 @@ class Taken(Case):
 
     def test_what_killed_runs_left(self) -> None:
         own = f"rows.db.pgsub-{GONE}"
-        gone = [own, own + "-journal", own + ".pgsub-new-wal", own + ".request", f"{own}.pgsub-{GONE}", f"{own}.copied.pgsub-{GONE}-wal"]
-        kept = [f"rows.db.pgsub-{os.getppid()}", f"rows.db.copied.pgsub-{GONE}", f"rows.db2.pgsub-{GONE}"]
+        gone = [
+            own,
+            own + "-journal",
+            own + ".pgsub-new-wal",
+            own + ".request",
+            f"{own}.pgsub-{GONE}",
+            f"{own}.copied.pgsub-{GONE}-wal",
+        ]
+        kept = [
+            f"rows.db.pgsub-{os.getppid()}",
+            f"rows.db.copied.pgsub-{GONE}",
+            f"rows.db2.pgsub-{GONE}",
+        ]
         self.assertEqual(self.left_after(self.into, gone + kept, age=60.0), {*gone, *kept})
         self.assertEqual(self.left_after(self.into, gone + kept), set(kept))
 
     def test_what_others_have_beside_it(self) -> None:
         """Whatever their files' names are like, and whatever the numbers in these."""
         kept = [
-            f"rows.db.{it}" for it in ("20261101", "20261125093000", GONE, f"{GONE}-journal", "new", "pgsub-2x", "pgsub-20261125093000", "pgsub-1.sqlite")
+            f"rows.db.{it}"
+            for it in (
+                "20261101",
+                "20261125093000",
+                GONE,
+                f"{GONE}-journal",
+                "new",
+                "pgsub-2x",
+                "pgsub-20261125093000",
+                "pgsub-1.sqlite",
+            )
         ]
         self.assertEqual(self.left_after(self.into, kept), set(kept))
         with logged():
@@ -329,10 +411,12 @@ class Taken(Case):
         self.assertEqual(self.left(), {*kept, "rows.db"})
 
     def leave_journal(self, path: str) -> None:
-        """Leaves what a transaction on another file has written to its journal, as where that was killed: whoever opens the file at
-        this path next takes it back there."""
+        """Leaves what a transaction on another file has written to its journal, as where that was
+        killed: whoever opens the file at this path next takes it back there."""
         with contextlib.closing(sqlite3.connect(self.folder + "/x", isolation_level=None)) as base:
-            base.executescript("PRAGMA synchronous = OFF; CREATE TABLE x (a); BEGIN; INSERT INTO x VALUES (1)")
+            base.executescript(
+                "PRAGMA synchronous = OFF; CREATE TABLE x (a); BEGIN; INSERT INTO x VALUES (1)"
+            )
             shutil.copy(self.folder + "/x-journal", path + "-journal")
         os.unlink(self.folder + "/x")
 
@@ -363,7 +447,9 @@ class Taken(Case):
                 snapshots.take(0x130, never)
                 snapshots.wait()
             self.assertEqual(told, [f"{self.folder}/far/rows.db: the rows at 0/130"])
-            self.assertEqual((os.path.islink(self.into), os.listdir(self.folder + "/far")), (True, ["rows.db"]))
+            self.assertEqual(
+                (os.path.islink(self.into), os.listdir(self.folder + "/far")), (True, ["rows.db"])
+            )
 
     def test_a_follower_s_copy_beside_files_of_others(self) -> None:
         kept = ["rows.db.new", "copy.db.export.20261101", "copy.db.export.20261125093000"]

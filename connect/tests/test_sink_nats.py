@@ -11,11 +11,12 @@ from typing import Any
 from unittest import mock
 
 from feed_text import Line
+
+from pgsub_connect.commands.options import Options
 from pgsub_connect.errors import EngineError, FileError, Passing, TooLarge, Unfit, UsageError
+from pgsub_connect.server.connection import never
 from pgsub_connect.store.export import run as export
 from pgsub_feed.formats.keys import subject
-from pgsub_connect.commands.options import Options
-from pgsub_connect.server.connection import never
 from pgsub_feed.sinks.connecting import is_loopback
 from pgsub_feed.sinks.nats_messages import read_id
 from pgsub_feed.sinks.nats_wire import Wire, header_bytes, read_headers
@@ -24,7 +25,6 @@ from .fake_nats import FakeNats
 from .feeds import STOCK, delete, insert, table, truncate, update
 from .sinks import SinkCase
 from .stores import Store
-
 
 # The number of a base in an id.
 NUMBERED = re.compile("base:([0-9a-f]{8}):")
@@ -57,34 +57,91 @@ class Messages(NatsCase):
         about = {"system": "7", "database": "shop", "slot": "pgsub", "tables": []}
         none = {"lsn": None, "xid": None, "ts_us": None}
         stock = {"schema": "public", "table": "stock", "oid": 1}
-        self.assertEqual(self.said(), [
-            ("pgsub.commit", "0/0:commit", {"end": "0/0", "prev": "0/0", "changes": 0, "rows": 0, **none, **about}),
-            ("pgsub.public.stock", "0/100:0", {"end": "0/100", "n": 0, "op": "c", **stock, "after": {"id": "1", "name": "a"}}),
-            ("pgsub.public.stock", "0/100:1", {
-                "end": "0/100", "n": 1, "op": "u", **stock, "before": {"id": "1", "name": "a"}, "after": {"id": "2", "name": {"hex": "01"}},
-            }),
-            ("pgsub.S%20p.a%2Eb%20%2A", "0/100:2", {
-                "end": "0/100", "n": 2, "op": "c", "schema": "S p", "table": "a.b *", "oid": 2, "after": {"id": "1", "name": None},
-            }),
-            ("pgsub.commit", "0/100:commit", {"end": "0/100", "prev": "0/0", "changes": 3, **none, **about}),
-            ("pgsub.public.stock", "0/200:0", {"end": "0/200", "n": 0, "op": "t", **stock}),
-            ("pgsub.public.stock", "0/200:1", {"end": "0/200", "n": 1, "op": "x", **stock, "sent": "d", "old": {"id": "7"}}),
-            ("pgsub.commit", "0/200:commit", {"end": "0/200", "prev": "0/100", "changes": 2, **none, **about}),
-        ])
-        self.assertEqual((self.server.config["name"], self.server.config["subjects"]), ("pgsub", ["pgsub.>"]))
+        self.assertEqual(
+            self.said(),
+            [
+                (
+                    "pgsub.commit",
+                    "0/0:commit",
+                    {"end": "0/0", "prev": "0/0", "changes": 0, "rows": 0, **none, **about},
+                ),
+                (
+                    "pgsub.public.stock",
+                    "0/100:0",
+                    {"end": "0/100", "n": 0, "op": "c", **stock, "after": {"id": "1", "name": "a"}},
+                ),
+                (
+                    "pgsub.public.stock",
+                    "0/100:1",
+                    {
+                        "end": "0/100",
+                        "n": 1,
+                        "op": "u",
+                        **stock,
+                        "before": {"id": "1", "name": "a"},
+                        "after": {"id": "2", "name": {"hex": "01"}},
+                    },
+                ),
+                (
+                    "pgsub.S%20p.a%2Eb%20%2A",
+                    "0/100:2",
+                    {
+                        "end": "0/100",
+                        "n": 2,
+                        "op": "c",
+                        "schema": "S p",
+                        "table": "a.b *",
+                        "oid": 2,
+                        "after": {"id": "1", "name": None},
+                    },
+                ),
+                (
+                    "pgsub.commit",
+                    "0/100:commit",
+                    {"end": "0/100", "prev": "0/0", "changes": 3, **none, **about},
+                ),
+                ("pgsub.public.stock", "0/200:0", {"end": "0/200", "n": 0, "op": "t", **stock}),
+                (
+                    "pgsub.public.stock",
+                    "0/200:1",
+                    {"end": "0/200", "n": 1, "op": "x", **stock, "sent": "d", "old": {"id": "7"}},
+                ),
+                (
+                    "pgsub.commit",
+                    "0/200:commit",
+                    {"end": "0/200", "prev": "0/100", "changes": 2, **none, **about},
+                ),
+            ],
+        )
+        self.assertEqual(
+            (self.server.config["name"], self.server.config["subjects"]), ("pgsub", ["pgsub.>"])
+        )
 
     def test_chosen(self) -> None:
         self.take(insert("1", "a"), insert("1", "b", of=table(2, "other")), insert("2", "c"))
         self.run_it(table=["other"], stream="mine")
-        self.assertEqual([it[:2] for it in self.said()], [
-            ("mine.commit", "0/0:commit"), ("mine.public.other", "0/100:1"), ("mine.commit", "0/100:commit")
-        ])
+        self.assertEqual(
+            [it[:2] for it in self.said()],
+            [
+                ("mine.commit", "0/0:commit"),
+                ("mine.public.other", "0/100:1"),
+                ("mine.commit", "0/100:commit"),
+            ],
+        )
         self.fails(Unfit, "what is kept there is of .* and this would be of", stream="mine")
 
     def test_subjects(self) -> None:
         self.assertEqual(subject("s", "", "tä>%"), "s.pg_catalog.t%C3%A4%3E%25")
-        self.assertEqual([read_id(it) for it in ("0/1F:commit", "0/1F:base:3", "0/1F:base:0123abcd:3", "0/1F:12")], [(31, None), (31, -1), (31, -1), (31, 12)])
-        self.assertEqual([read_id(it) for it in ("", "0/1F", "x:1", "0/1F:x", "123456789/0:1")], [None] * 5)
+        self.assertEqual(
+            [
+                read_id(it)
+                for it in ("0/1F:commit", "0/1F:base:3", "0/1F:base:0123abcd:3", "0/1F:12")
+            ],
+            [(31, None), (31, -1), (31, -1), (31, 12)],
+        )
+        self.assertEqual(
+            [read_id(it) for it in ("", "0/1F", "x:1", "0/1F:x", "123456789/0:1")], [None] * 5
+        )
 
 
 class GoesOn(NatsCase):
@@ -118,7 +175,9 @@ class GoesOn(NatsCase):
 
     def test_large_commits_are_read_twice(self) -> None:
         self.take(*(insert(str(it), "a") for it in range(50)))
-        with mock.patch("pgsub_feed.sinks.nats_engine.ROOM", 100), mock.patch("pgsub_feed.sinks.jetstream.MOST", 7):
+        with mock.patch("pgsub_feed.sinks.nats_engine.ROOM", 100), mock.patch(
+            "pgsub_feed.sinks.jetstream.MOST", 7
+        ):
             self.run_it()
         self.assertEqual(len(self.server.ids()), 52)
         self.take(insert("1", "a"), insert("2", "x" * 2000), insert("3", "c"))
@@ -129,7 +188,10 @@ class GoesOn(NatsCase):
     def test_a_change_that_is_too_large(self) -> None:
         self.take(insert("1", "a"))
         self.take(insert("2", "b"), insert("3", "c" * 1000))
-        self.fails(TooLarge, r"0/200:1: a change of public.stock \(1\) makes a message of \d+ bytes, and NATS .* takes 1000: raise its max_payload")
+        self.fails(
+            TooLarge,
+            r"0/200:1: a change of public.stock \(1\) makes a message of \d+ bytes, and NATS .* takes 1000: raise its max_payload",
+        )
         self.assertEqual(self.server.ids(), ["0/0:commit", "0/100:0", "0/100:commit"])
         self.server.info["max_payload"] = 2000
         self.run_it()
@@ -144,13 +206,21 @@ class GoesOn(NatsCase):
         self.feed.at = 0
         self.feed.begin()
         self.feed.commit(0x180, [insert("1", "a")])
-        self.fails(Unfit, "it has a part of a commit that ends at 0/100, and the feed's next one ends at 0/180")
+        self.fails(
+            Unfit,
+            "it has a part of a commit that ends at 0/100, and the feed's next one ends at 0/180",
+        )
 
     def test_messages_of_others(self) -> None:
-        self.run_it_with("its last one, 1, isn't of a sink", lambda: self.server.add("pgsub.x", b"NATS/1.0\r\n\r\n", b"{}"))
+        self.run_it_with(
+            "its last one, 1, isn't of a sink",
+            lambda: self.server.add("pgsub.x", b"NATS/1.0\r\n\r\n", b"{}"),
+        )
         self.run_it_with("its last one is gone", lambda: setattr(self.server, "last", 7))
-        self.run_it_with("the last message of the commit before is gone",
-            lambda: self.server.add("pgsub.x", header_bytes({"Nats-Msg-Id": "0/100:0"}), b"{}"))
+        self.run_it_with(
+            "the last message of the commit before is gone",
+            lambda: self.server.add("pgsub.x", header_bytes({"Nats-Msg-Id": "0/100:0"}), b"{}"),
+        )
         self.server.stream, self.server.last, self.server.config = [], 0, {"subjects": ["other"]}
         self.fails(Unfit, "its subjects aren't pgsub.>")
 
@@ -178,7 +248,8 @@ class GoesOn(NatsCase):
         return path
 
     def test_a_part_of_a_base_that_another_sink_publishes(self) -> None:
-        """It stays, whether there is something to begin with or not: that sink goes on, whatever goes meanwhile."""
+        """It stays, whether there is something to begin with or not: that sink goes on, whatever
+        goes meanwhile."""
         base = self.export()
         self.take()
         self.server.accepts = 1
@@ -189,9 +260,15 @@ class GoesOn(NatsCase):
 
         def publish(_: float) -> None:
             if self.server.last == 1:
-                self.server.add("pgsub.public.stock", header_bytes({"Nats-Msg-Id": self.server.ids()[0][:-1] + "1"}), b"{}")
+                self.server.add(
+                    "pgsub.public.stock",
+                    header_bytes({"Nats-Msg-Id": self.server.ids()[0][:-1] + "1"}),
+                    b"{}",
+                )
 
-        with mock.patch("time.sleep", publish), mock.patch("pgsub_feed.sinks.nats_engine.STILL", 0.01):
+        with mock.patch("time.sleep", publish), mock.patch(
+            "pgsub_feed.sinks.nats_engine.STILL", 0.01
+        ):
             self.fails(Passing, "another sink publishes the rows of a base there", base=base)
         self.assertEqual(self.ids(), ["0/100:base:0", "0/100:base:1"])
 
@@ -208,14 +285,26 @@ class GoesOn(NatsCase):
             self.server.accepts = None
             self.run_it(base=path)
             self.assertEqual(self.ids(), expected)
-        self.assertEqual((self.said()[1][2], self.said()[2][2]["rows"]), ({
-            "end": "0/100", "n": 1, "op": "r", "schema": "public", "table": "stock", "oid": 1, "after": {"id": "2", "name": None},
-        }, 2))
+        self.assertEqual(
+            (self.said()[1][2], self.said()[2][2]["rows"]),
+            (
+                {
+                    "end": "0/100",
+                    "n": 1,
+                    "op": "r",
+                    "schema": "public",
+                    "table": "stock",
+                    "oid": 1,
+                    "after": {"id": "2", "name": None},
+                },
+                2,
+            ),
+        )
 
     @mock.patch("pgsub_feed.sinks.nats_engine.STILL", 0.0)
     def test_a_base_that_is_begun_again_and_again(self) -> None:
-        """By the same file and at once, so that the stream knows the ids of the messages that went. Each request and message may be the
-        last that the server takes."""
+        """By the same file and at once, so that the stream knows the ids of the messages that went.
+        Each request and message may be the last that the server takes."""
         path = self.export()
         self.take()
         self.take(delete("1", "a"))
@@ -271,23 +360,45 @@ class Says(NatsCase):
     def test_errors(self) -> None:
         self.take(insert("1", "a"))
         for error, kind in (
-            ({"code": 503, "err_code": 10008, "description": "JetStream system temporarily unavailable"}, Passing),
+            (
+                {
+                    "code": 503,
+                    "err_code": 10008,
+                    "description": "JetStream system temporarily unavailable",
+                },
+                Passing,
+            ),
             ({"code": 400, "err_code": 10077, "description": "maximum bytes exceeded"}, Passing),
-            ({"code": 400, "err_code": 10054, "description": "message size exceeds maximum allowed"}, TooLarge),
+            (
+                {
+                    "code": 400,
+                    "err_code": 10054,
+                    "description": "message size exceeds maximum allowed",
+                },
+                TooLarge,
+            ),
             ({"code": 400, "err_code": 1, "description": "something else"}, EngineError),
         ):
             self.server.stream, self.server.last, self.server.error = None, 0, error
             self.fails(kind, re.escape(str(error["description"])))
 
     def test_no_jetstream(self) -> None:
-        said = {"error": {"code": 503, "err_code": 10039, "description": "JetStream not enabled for account"}}
+        said = {
+            "error": {
+                "code": 503,
+                "err_code": 10039,
+                "description": "JetStream not enabled for account",
+            }
+        }
         with mock.patch.object(self.server, "ask", lambda *_: said):
             self.fails(EngineError, "JetStream not enabled")
 
     def test_login(self) -> None:
         self.url = self.url.replace("nats://", "nats://u%40:p%3A@")
         self.run_it()
-        self.assertEqual((self.server.connected["user"], self.server.connected["pass"]), ("u@", "p:"))
+        self.assertEqual(
+            (self.server.connected["user"], self.server.connected["pass"]), ("u@", "p:")
+        )
         self.url = self.url.replace("u%40:p%3A@", "token@")
         self.server.stream, self.server.last = None, 0
         self.run_it()
@@ -303,9 +414,21 @@ class Says(NatsCase):
         with mock.patch("pgsub_feed.sinks.nats_wire.is_loopback", lambda _: False):
             self.assertNotIn("plain text", "".join(self.run_it()))
             for login in ("u:p@", "token@"):
-                self.assertIn("the password goes there in plain text: use tls://", "".join(self.run_it(url=self.url.replace("://", "://" + login))))
-        for host, is_own in (("127.0.0.1", True), ("127.1.2.3", True), ("::1", True), ("fe80::1%lo", False), ("localhost", True), ("a.localhost", True),
-                             ("10.0.0.1", False), ("localhost.example", False), ("h", False)):
+                self.assertIn(
+                    "the password goes there in plain text: use tls://",
+                    "".join(self.run_it(url=self.url.replace("://", "://" + login))),
+                )
+        for host, is_own in (
+            ("127.0.0.1", True),
+            ("127.1.2.3", True),
+            ("::1", True),
+            ("fe80::1%lo", False),
+            ("localhost", True),
+            ("a.localhost", True),
+            ("10.0.0.1", False),
+            ("localhost.example", False),
+            ("h", False),
+        ):
             self.assertEqual(is_loopback(host), is_own, host)
 
     def test_what_isnt_the_protocol(self) -> None:
@@ -313,7 +436,13 @@ class Says(NatsCase):
             self.server.hello = said
             self.fails(EngineError, "isn't NATS' protocol")
         self.server.hello = b""
-        for said in (b"MSG a\r\n", b"MSG a 1 x\r\n", b"MSG a 1 2\r\nabcd", b"HMSG a 1 2 2\r\nab\r\n", b"FOO\r\n"):
+        for said in (
+            b"MSG a\r\n",
+            b"MSG a 1 x\r\n",
+            b"MSG a 1 2\r\nabcd",
+            b"HMSG a 1 2 2\r\nab\r\n",
+            b"FOO\r\n",
+        ):
             self.server.pong = said
             self.fails(EngineError, "isn't NATS' protocol")
 
@@ -323,7 +452,9 @@ class Says(NatsCase):
         self.fails(UsageError, "the URL of NATS", url="nats://h:x")
 
     def test_headers(self) -> None:
-        self.assertEqual(read_headers(header_bytes({"A": "b: c", "D": ""})), ("", {"A": "b: c", "D": ""}))
+        self.assertEqual(
+            read_headers(header_bytes({"A": "b: c", "D": ""})), ("", {"A": "b: c", "D": ""})
+        )
         self.assertEqual(read_headers(b"NATS/1.0 503 No Responders\r\n\r\n"), ("503", {}))
         self.assertRaises(ValueError, read_headers, b"HTTP/1.0\r\n")
 
@@ -372,4 +503,6 @@ class OfAConnection(unittest.TestCase):
         self.wire.publish("a", "r", b"", b"xy")
         self.wire.publish("a", "r", b"NATS/1.0\r\n\r\n", b"xy")
         self.wire.flush()
-        self.assertEqual(self.theirs.recv(1000), b"PUB a r 2\r\nxy\r\nHPUB a r 12 14\r\nNATS/1.0\r\n\r\nxy\r\n")
+        self.assertEqual(
+            self.theirs.recv(1000), b"PUB a r 2\r\nxy\r\nHPUB a r 12 14\r\nNATS/1.0\r\n\r\nxy\r\n"
+        )

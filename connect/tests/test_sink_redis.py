@@ -1,4 +1,5 @@
-"""Hashes and streams of Redis: rows, keys, names, shapes, where they begin and go on, and what else writes there."""
+"""Hashes and streams of Redis: rows, keys, names, shapes, where they begin and go on, and what else
+writes there."""
 
 from __future__ import annotations
 
@@ -15,21 +16,22 @@ from unittest import mock
 from feed_load import Load
 from feed_replay import Replay, replay
 from feed_text import About, Column, Line, Writer
+
+from pgsub_connect.commands import sink as sink_module
+from pgsub_connect.commands.options import Options
 from pgsub_connect.errors import EngineError, FileError, Passing, Stopped, Unfit, UsageError
+from pgsub_connect.follow.retention import Limits, retire
+from pgsub_connect.server.connection import never
 from pgsub_connect.store.export import run as export
-from pgsub_feed.tables.first_rows import opened
-from pgsub_feed.reader.positions import Noted
 from pgsub_feed.reader.commits import Commit
 from pgsub_feed.reader.polling import Poll
-from pgsub_connect.follow.retention import Limits, retire
-from pgsub_connect.commands.options import Options
-from pgsub_connect.server.connection import never
-from pgsub_connect.commands import sink as sink_module
+from pgsub_feed.reader.positions import Noted
 from pgsub_feed.sinks.first_rows import Base
+from pgsub_feed.sinks.reached import Trail
 from pgsub_feed.sinks.redis_calls import Connection, Said, packed_command, raised
 from pgsub_feed.sinks.redis_disk import Disk
 from pgsub_feed.sinks.redis_engine import Redis
-from pgsub_feed.sinks.reached import Trail
+from pgsub_feed.tables.first_rows import opened
 
 from .fake_redis import FakeCalls, Stream
 from .feeds import ID, NAME, STOCK, delete, insert, table, truncate, update
@@ -40,17 +42,28 @@ from .vectors import logged
 
 class Changes(RedisCase):
     def test_of_a_key(self) -> None:
-        self.assertEqual(self.after(insert("1", "a"), insert("2", None)), stock(("1", "a"), ("2", None)))
+        self.assertEqual(
+            self.after(insert("1", "a"), insert("2", None)), stock(("1", "a"), ("2", None))
+        )
         self.assertEqual(self.server.at(), "0/100")
-        self.assertEqual(self.after(update(["1", "a"], ["1", None]), delete("2", None), insert("3", "é")), stock(("1", None), ("3", "é")))
+        self.assertEqual(
+            self.after(update(["1", "a"], ["1", None]), delete("2", None), insert("3", "é")),
+            stock(("1", None), ("3", "é")),
+        )
         self.assertEqual(self.after(update(["1", None], ["7", "c"])), stock(("3", "é"), ("7", "c")))
-        self.assertEqual(self.after(Line(STOCK, "x", ["9", None], None, "K")), stock(("3", "é"), ("7", "c")))
+        self.assertEqual(
+            self.after(Line(STOCK, "x", ["9", None], None, "K")), stock(("3", "é"), ("7", "c"))
+        )
         self.assertEqual(self.after(truncate(), insert("5", "x")), stock(("5", "x")))
         self.assertEqual(self.server.at(), "0/500")
 
     def test_keys_that_wander(self) -> None:
         self.after(insert("1", "a"), insert("2", "b"))
-        lines = [update(["1", "a"], ["9", "a"]), update(["2", "b"], ["1", "b"]), update(["9", "a"], ["2", "a"])]
+        lines = [
+            update(["1", "a"], ["9", "a"]),
+            update(["2", "b"], ["1", "b"]),
+            update(["9", "a"], ["2", "a"]),
+        ]
         self.assertEqual(self.after(*lines), stock(("1", "b"), ("2", "a")))
 
     def test_many_commits_at_once(self) -> None:
@@ -63,25 +76,49 @@ class Changes(RedisCase):
         self.assertEqual(self.server.transactions, 3)
 
     def test_names(self) -> None:
-        plain, dots, other = table(1, "b", schema="a"), table(2, "a.b"), table(3, "pgsub", [Column("k", 25, -1, True)])
+        plain, dots, other = (
+            table(1, "b", schema="a"),
+            table(2, "a.b"),
+            table(3, "pgsub", [Column("k", 25, -1, True)]),
+        )
         two = table(4, "t:%", [Column("k", 25, -1, True), Column("l", 25, -1, True)], schema="")
         self.take(insert("1", "x", of=plain), insert("1", "y", of=dots), insert("lsn", of=other))
-        found = self.after(insert("a:b", "c", of=two), insert("a", "b:c%", of=two), insert("", b"\0\xff", of=two))
-        self.assertEqual(set(found), {
-            "a.b:1", "a%2Eb:1", "%70gsub:lsn", "pg_catalog.t%3A%25:a%3Ab:c", "pg_catalog.t%3A%25:a:b%3Ac%25", "pg_catalog.t%3A%25::%x00ff",
-        })
-        self.assertEqual(self.server.data[b"pg_catalog.t%3A%25::%x00ff"], {b"k": b"", b"l": b"\0\xff"})
+        found = self.after(
+            insert("a:b", "c", of=two), insert("a", "b:c%", of=two), insert("", b"\0\xff", of=two)
+        )
+        self.assertEqual(
+            set(found),
+            {
+                "a.b:1",
+                "a%2Eb:1",
+                "%70gsub:lsn",
+                "pg_catalog.t%3A%25:a%3Ab:c",
+                "pg_catalog.t%3A%25:a:b%3Ac%25",
+                "pg_catalog.t%3A%25::%x00ff",
+            },
+        )
+        self.assertEqual(
+            self.server.data[b"pg_catalog.t%3A%25::%x00ff"], {b"k": b"", b"l": b"\0\xff"}
+        )
 
     def test_a_key_that_is_one_of_redis(self) -> None:
         odd = table(1, "a*[b]?\\", [Column("k", 25, -1, True)])
-        self.after(insert("1", of=odd), insert("2", of=odd), insert("1", of=table(2, "ab", [Column("k", 25, -1, True)])))
-        self.assertEqual(set(self.after(truncate(of=odd), insert("3", of=odd))), {"ab:1", "a*[b]?\\:3"})
+        self.after(
+            insert("1", of=odd),
+            insert("2", of=odd),
+            insert("1", of=table(2, "ab", [Column("k", 25, -1, True)])),
+        )
+        self.assertEqual(
+            set(self.after(truncate(of=odd), insert("3", of=odd))), {"ab:1", "a*[b]?\\:3"}
+        )
 
     def test_without_a_key(self) -> None:
         bag = table(2, "bag", letter="f")
         self.take(insert("1", "a"), insert("1", "a", of=bag))
         told = self.run_it()
-        self.assertRegex(told[0], r"public.bag \(2\) has no key, so its rows can't be hashes and are left out")
+        self.assertRegex(
+            told[0], r"public.bag \(2\) has no key, so its rows can't be hashes and are left out"
+        )
         self.assertEqual(self.server.rows(), stock(("1", "a")))
         self.take(insert("2", "b", of=table(2, "bag")))
         self.fails(Unfit, r"public.bag \(2\): the table was left out before")
@@ -94,7 +131,11 @@ class Changes(RedisCase):
         self.assertEqual(self.server.rows(), {})
 
     def test_chosen(self) -> None:
-        self.take(insert("1", "a"), insert("1", "x", of=table(2, "other")), insert("1", "y", of=table(3, "other", schema="s")))
+        self.take(
+            insert("1", "a"),
+            insert("1", "x", of=table(2, "other")),
+            insert("1", "y", of=table(3, "other", schema="s")),
+        )
         self.run_it(table=["other"])
         self.assertEqual(set(self.server.rows()), {"other:1"})
         self.fails(Unfit, "what is kept there is of .* and this would be of .*", table=["stock"])
@@ -113,8 +154,10 @@ class Changes(RedisCase):
         self.assertEqual((self.server.rows(), self.server.at()), ({}, "0/0"))
         self.feed.path.write_bytes(text)
         self.run_it()
-        self.assertEqual(self.server.rows(), {"stock:1": {"id": "1"}, "stock:2": {"id": "2"}, "stock:3": {"id": "3", "other": "c"}})
-
+        self.assertEqual(
+            self.server.rows(),
+            {"stock:1": {"id": "1"}, "stock:2": {"id": "2"}, "stock:3": {"id": "3", "other": "c"}},
+        )
 
     def test_a_commit_that_is_another_one_later(self) -> None:
         self.take(insert("1", "a"))
@@ -134,7 +177,9 @@ class Changes(RedisCase):
 
         with logged():
             sink_module.run(Options(command="sink", feed=str(self.path), url="redis://h"), check)
-        self.assertEqual((self.server.rows(), self.server.at()), (stock(("1", "a"), ("4", "d")), "0/200"))
+        self.assertEqual(
+            (self.server.rows(), self.server.at()), (stock(("1", "a"), ("4", "d")), "0/200")
+        )
 
 
 class Shapes(RedisCase):
@@ -144,19 +189,41 @@ class Shapes(RedisCase):
 
     def altered(self, *columns: Column, row: Any = None) -> dict[str, dict[str, str]]:
         of = table(columns=columns)
-        return self.after(insert(*row, of=of) if row else Line(of, "x", ["9"] * len(columns), None, "K"))
+        return self.after(
+            insert(*row, of=of) if row else Line(of, "x", ["9"] * len(columns), None, "K")
+        )
 
     def test_columns(self) -> None:
         more = {"id": "3", "name": "c", "more": "t"}
-        self.assertEqual(self.altered(ID, NAME, Column("more", 16), row=["3", "c", "t"]), {**stock(("1", "a"), ("2", "b")), "stock:3": more})
+        self.assertEqual(
+            self.altered(ID, NAME, Column("more", 16), row=["3", "c", "t"]),
+            {**stock(("1", "a"), ("2", "b")), "stock:3": more},
+        )
         self.assertEqual(self.altered(ID), {f"stock:{it}": {"id": str(it)} for it in (1, 2, 3)})
-        self.assertEqual(self.altered(ID, Column("more", 16)), {f"stock:{it}": {"id": str(it)} for it in (1, 2, 3)})
+        self.assertEqual(
+            self.altered(ID, Column("more", 16)),
+            {f"stock:{it}": {"id": str(it)} for it in (1, 2, 3)},
+        )
 
     def test_another_key(self) -> None:
         keyed = (Column("id", 23), Column("name", 25, -1, True))
-        self.assertEqual(self.altered(*keyed), {"stock:a": {"id": "1", "name": "a"}, "stock:b": {"id": "2", "name": "b"}})
-        self.assertEqual(self.altered(ID, Column("name", 25, -1, True), row=["3", "c"])["stock:3:c"], {"id": "3", "name": "c"})
-        self.take(Line(table(columns=[Column("id", 23), Column("new", 23, -1, True)]), "x", ["1", "2"], None, "K"))
+        self.assertEqual(
+            self.altered(*keyed),
+            {"stock:a": {"id": "1", "name": "a"}, "stock:b": {"id": "2", "name": "b"}},
+        )
+        self.assertEqual(
+            self.altered(ID, Column("name", 25, -1, True), row=["3", "c"])["stock:3:c"],
+            {"id": "3", "name": "c"},
+        )
+        self.take(
+            Line(
+                table(columns=[Column("id", 23), Column("new", 23, -1, True)]),
+                "x",
+                ["1", "2"],
+                None,
+                "K",
+            )
+        )
         self.fails(Unfit, "two rows have one key, stock:%null")
 
     def test_a_key_that_is_null(self) -> None:
@@ -165,23 +232,41 @@ class Shapes(RedisCase):
         self.assertEqual(self.altered(*keyed), {"stock:%null": {"id": "1"}})
         self.assertEqual(self.altered(keyed[0]), {"stock:%null": {"": ""}})
         self.assertEqual(self.altered(keyed[0], Column("id", 25)), {"stock:%null": {"": ""}})
-        self.assertEqual(self.after(update([None], ["4"], of=table(columns=keyed[:1]))), {"stock:4": {"new": "4"}})
+        self.assertEqual(
+            self.after(update([None], ["4"], of=table(columns=keyed[:1]))),
+            {"stock:4": {"new": "4"}},
+        )
 
     def test_within_one_commit(self) -> None:
         less, more = table(columns=[ID]), table(columns=[ID, NAME, Column("more", 25)])
         lines = [
-            update(["1", "a"], ["1", "z"]), insert("3", "c"), update(["3"], ["4"], of=less), insert("5", of=less),
-            insert("6", "n", "m", of=more), update(["1", None, None], ["1", None, "m"], of=more),
+            update(["1", "a"], ["1", "z"]),
+            insert("3", "c"),
+            update(["3"], ["4"], of=less),
+            insert("5", of=less),
+            insert("6", "n", "m", of=more),
+            update(["1", None, None], ["1", None, "m"], of=more),
         ]
-        self.assertEqual(self.after(*lines), {
-            "stock:1": {"id": "1", "more": "m"}, "stock:2": {"id": "2"}, "stock:4": {"id": "4"}, "stock:5": {"id": "5"},
-            "stock:6": {"id": "6", "name": "n", "more": "m"},
-        })
+        self.assertEqual(
+            self.after(*lines),
+            {
+                "stock:1": {"id": "1", "more": "m"},
+                "stock:2": {"id": "2"},
+                "stock:4": {"id": "4"},
+                "stock:5": {"id": "5"},
+                "stock:6": {"id": "6", "name": "n", "more": "m"},
+            },
+        )
 
     def test_another_name(self) -> None:
-        self.assertEqual(self.after(insert("3", "c", of=table(name="renamed", schema="s"))), {
-            "s.renamed:1": {"id": "1", "name": "a"}, "s.renamed:2": {"id": "2", "name": "b"}, "s.renamed:3": {"id": "3", "name": "c"},
-        })
+        self.assertEqual(
+            self.after(insert("3", "c", of=table(name="renamed", schema="s"))),
+            {
+                "s.renamed:1": {"id": "1", "name": "a"},
+                "s.renamed:2": {"id": "2", "name": "b"},
+                "s.renamed:3": {"id": "3", "name": "c"},
+            },
+        )
         self.assertEqual(set(self.after(truncate(of=table(name="renamed", schema="s")))), set())
 
     def test_made_anew(self) -> None:
@@ -190,17 +275,42 @@ class Shapes(RedisCase):
         self.assertEqual(found["pgsub:old:1:1"], {"id": "1", "name": "a"})
         # (the older one comes back under its old name, and the newer one has another)
         found = self.after(update(["1", "a"], ["1", "x"]), insert("2", "new", of=table(2, "new")))
-        self.assertEqual(found, {**stock(("1", "x"), ("2", "b")), "new:1": {"id": "1", "name": "new"}, "new:2": {"id": "2", "name": "new"}})
+        self.assertEqual(
+            found,
+            {
+                **stock(("1", "x"), ("2", "b")),
+                "new:1": {"id": "1", "name": "new"},
+                "new:2": {"id": "2", "name": "new"},
+            },
+        )
 
     def test_names_are_swapped_in_one_commit(self) -> None:
         other = table(2, "other")
         self.after(insert("1", "o", of=other), insert("7", "p", of=other))
-        found = self.after(insert("3", "c", of=table(1, "other")), delete("1", "o", of=table(2, "stock")), delete("2", "b", of=table(1, "other")))
-        self.assertEqual(found, {"other:1": {"id": "1", "name": "a"}, "other:3": {"id": "3", "name": "c"}, "stock:7": {"id": "7", "name": "p"}})
+        found = self.after(
+            insert("3", "c", of=table(1, "other")),
+            delete("1", "o", of=table(2, "stock")),
+            delete("2", "b", of=table(1, "other")),
+        )
+        self.assertEqual(
+            found,
+            {
+                "other:1": {"id": "1", "name": "a"},
+                "other:3": {"id": "3", "name": "c"},
+                "stock:7": {"id": "7", "name": "p"},
+            },
+        )
 
     def test_truncated_between(self) -> None:
-        found = self.after(insert("3", "c"), truncate(), insert("2", "n"), insert("8", "x", of=table(name="renamed")))
-        self.assertEqual(found, {"renamed:2": {"id": "2", "name": "n"}, "renamed:8": {"id": "8", "name": "x"}})
+        found = self.after(
+            insert("3", "c"),
+            truncate(),
+            insert("2", "n"),
+            insert("8", "x", of=table(name="renamed")),
+        )
+        self.assertEqual(
+            found, {"renamed:2": {"id": "2", "name": "n"}, "renamed:8": {"id": "8", "name": "x"}}
+        )
 
 
 class Others(RedisCase):
@@ -218,7 +328,9 @@ class Others(RedisCase):
 
         self.server.before_exec = begin
         self.fails(Unfit, "another sink has begun to write there, .*, so this one ends")
-        self.assertEqual((self.server.rows(), self.server.at()), (stock(("1", "a"), ("2", "b")), "0/200"))
+        self.assertEqual(
+            (self.server.rows(), self.server.at()), (stock(("1", "a"), ("2", "b")), "0/200")
+        )
 
     def test_a_sink_that_doesnt_fit_ends_none(self) -> None:
         before = self.server.data[b"pgsub:sink"]
@@ -261,21 +373,28 @@ class Others(RedisCase):
                 self.server.do([b"SET", b"pgsub:sink", b"other"])
 
         options = Options(command="sink", feed=str(self.path), url="redis://h")
-        with mock.patch("pgsub_feed.sinks.redis_calls.Connection", lambda *_: calls.pop()), mock.patch("time.sleep"):
-            with mock.patch("pgsub_feed.sinks.redis_engine.OFTEN", 0.0), self.assertRaisesRegex(Unfit, "another sink has begun .* other"):
+        with mock.patch(
+            "pgsub_feed.sinks.redis_calls.Connection", lambda *_: calls.pop()
+        ), mock.patch("time.sleep"):
+            with mock.patch("pgsub_feed.sinks.redis_engine.OFTEN", 0.0), self.assertRaisesRegex(
+                Unfit, "another sink has begun .* other"
+            ):
                 sink_module.run(options, check)
 
     def test_rows_are_something_else_by_now(self) -> None:
         self.server.do([b"SET", b"stock:2", b"text"])
         self.server.do([b"UNLINK", b"stock:1"])
-        self.assertEqual(self.after(insert("3", "c", of=table(name="new"))), {
-            "new:2": {"id": "2", "name": "b"}, "new:3": {"id": "3", "name": "c"}
-        })
+        self.assertEqual(
+            self.after(insert("3", "c", of=table(name="new"))),
+            {"new:2": {"id": "2", "name": "b"}, "new:3": {"id": "3", "name": "c"}},
+        )
 
     def test_errors(self) -> None:
         for said, kind in (
-            ("OOM command not allowed when used memory > 'maxmemory'.", Passing), ("MISCONF Redis is configured", Passing),
-            ("EXECABORT Transaction discarded because of previous errors.", EngineError), ("NOPERM no permissions", EngineError),
+            ("OOM command not allowed when used memory > 'maxmemory'.", Passing),
+            ("MISCONF Redis is configured", Passing),
+            ("EXECABORT Transaction discarded because of previous errors.", EngineError),
+            ("NOPERM no permissions", EngineError),
         ):
             self.server.fails = lambda said=said: Said(said)  # type: ignore[misc]
             self.fails(kind, said[:12])
@@ -301,7 +420,11 @@ class Others(RedisCase):
 
     def test_a_signal_within_a_commit(self) -> None:
         self.take(insert("3", "c"), truncate(), insert("4", "d"))
-        states: list[Any] = [(stock(("1", "a")), "0/100"), (stock(("1", "a"), ("2", "b")), "0/200"), (stock(("4", "d")), "0/300")]
+        states: list[Any] = [
+            (stock(("1", "a")), "0/100"),
+            (stock(("1", "a"), ("2", "b")), "0/200"),
+            (stock(("4", "d")), "0/300"),
+        ]
         before, found = dict(self.server.data), list[Any]()
         for most in range(1, 12):
             self.server.data, count = dict(before), iter(range(most))
@@ -311,7 +434,9 @@ class Others(RedisCase):
                     raise Stopped
 
             with contextlib.suppress(Passing, Stopped), logged():
-                sink_module.run(Options(command="sink", feed=str(self.path), url="redis://h", once=True), check)
+                sink_module.run(
+                    Options(command="sink", feed=str(self.path), url="redis://h", once=True), check
+                )
             found.append(states.index((self.server.rows(), self.server.at())))
         # (of commits that wait together all are left, or none)
         self.assertEqual(set(found), {0, 1, 2})
@@ -343,7 +468,9 @@ class Begins(RedisCase):
     def test_with_an_export(self) -> None:
         told = self.run_it(base=self.export())
         self.assertRegex(told[0], "public.bag .* has no key")
-        self.assertEqual((self.server.rows(), self.server.at()), (stock(("1", "b"), ("2", None)), "0/230"))
+        self.assertEqual(
+            (self.server.rows(), self.server.at()), (stock(("1", "b"), ("2", None)), "0/230")
+        )
         self.take(insert("3", "c"))
         self.run_it()
         self.assertEqual(self.server.rows(), stock(("1", "b"), ("2", None), ("3", "c")))
@@ -369,17 +496,22 @@ class Begins(RedisCase):
         begin = Redis.begin
         with mock.patch.object(Redis, "begin", go_on):
             self.run_it(reader="redis", store=self.store.path, table=["stock"])
-        self.assertEqual((self.server.rows(), self.server.at()), (stock(("1", "b"), ("2", None)), "0/330"))
+        self.assertEqual(
+            (self.server.rows(), self.server.at()), (stock(("1", "b"), ("2", None)), "0/330")
+        )
         self.assertEqual((readers / "redis").read_text(), "0/130\n")
 
     def test_exports_that_dont_do(self) -> None:
         self.fails(FileError, "make it by `pgsub-connect export --text`", base=self.export(False))
         self.fails(FileError, "it is no export", base=self.store.path)
         self.store.table(3, "odd", [(1, "A", 25, -1), (0, "a", 25, -1)])
-        self.fails(Unfit, r"public.odd \(3\): names of columns are equal but for case", base=self.export())
+        self.fails(
+            Unfit, r"public.odd \(3\): names of columns are equal but for case", base=self.export()
+        )
 
     def test_another_sink_begins_meanwhile(self) -> None:
-        """It is ended by one that has something to begin with, and as long as it hasn't begun itself."""
+        """It is ended by one that has something to begin with, and as long as it hasn't begun
+        itself."""
         base, told = self.export(), list[str]()
 
         def fail() -> None:
@@ -390,7 +522,9 @@ class Begins(RedisCase):
 
         self.server.before_exec = fail
         self.run_it(base=base)
-        self.assertEqual((self.server.rows(), self.server.at()), (stock(("1", "b"), ("2", None)), "0/230"))
+        self.assertEqual(
+            (self.server.rows(), self.server.at()), (stock(("1", "b"), ("2", None)), "0/230")
+        )
         self.server.data.clear()
 
         def exported(*_: Any) -> Any:
@@ -403,7 +537,9 @@ class Begins(RedisCase):
             self.fails(Unfit, "pgsub:lsn is 0/230 in place of none", base=base)
         self.take(insert("3", "c"))
         self.run_it()
-        self.assertEqual((self.server.rows(), len(told)), (stock(("1", "b"), ("2", None), ("3", "c")), 1))
+        self.assertEqual(
+            (self.server.rows(), len(told)), (stock(("1", "b"), ("2", None), ("3", "c")), 1)
+        )
 
     def test_cut_off(self) -> None:
         base = self.export()
@@ -421,17 +557,26 @@ class Begins(RedisCase):
                 self.server.fails = lambda: None
                 self.assertIn(self.server.at(), (None, "0/130"))
                 self.run_it(base=base)
-            self.assertEqual((self.server.rows(), self.server.at()), ({**stock(("1", "b"), ("2", None)), "other:5": {"x": "y"}}, "0/230"))
+            self.assertEqual(
+                (self.server.rows(), self.server.at()),
+                ({**stock(("1", "b"), ("2", None)), "other:5": {"x": "y"}}, "0/230"),
+            )
 
     def test_keys_that_are_there(self) -> None:
         self.server.data[b"stock:7"] = {b"id": b"7"}
-        self.fails(Unfit, r"there are keys that begin with stock: already, as those of public.stock \(1\)", base=self.export())
+        self.fails(
+            Unfit,
+            r"there are keys that begin with stock: already, as those of public.stock \(1\)",
+            base=self.export(),
+        )
 
     def test_streams(self) -> None:
         self.run_it(base=self.export(), form="streams")
         row = {"op": "r", "oid": "2", "after": '{"id":"1","name":"x"}'}
         last = {"op": "d", "oid": "2", "before": '{"id":"1","name":"x"}'}
-        self.assertEqual(self.server.entries("bag"), [((0x130, 0), row), ((0x130, 1), row), ((0x230, 1), last)])
+        self.assertEqual(
+            self.server.entries("bag"), [((0x130, 0), row), ((0x130, 1), row), ((0x230, 1), last)]
+        )
 
 
 class StreamsOfTables(RedisCase):
@@ -440,15 +585,32 @@ class StreamsOfTables(RedisCase):
 
     def test_entries(self) -> None:
         self.take(insert("1", "a"), update(["1", "a"], ["2", b"\1"]), truncate())
-        self.take(insert("1", None, of=table(2, "bag", letter="f", schema="s")), Line(STOCK, "x", ["7", None], None, "K"))
+        self.take(
+            insert("1", None, of=table(2, "bag", letter="f", schema="s")),
+            Line(STOCK, "x", ["7", None], None, "K"),
+        )
         self.run_it()
-        self.assertEqual(self.server.entries("stock"), [
-            ((0x100, 0), {"op": "c", "oid": "1", "after": '{"id":"1","name":"a"}'}),
-            ((0x100, 1), {"op": "u", "oid": "1", "before": '{"id":"1","name":"a"}', "after": '{"id":"2","name":{"hex":"01"}}'}),
-            ((0x100, 2), {"op": "t", "oid": "1"}),
-            ((0x200, 1), {"op": "x", "oid": "1", "sent": '"d"', "old": '{"id":"7"}'}),
-        ])
-        self.assertEqual(self.server.entries("s.bag"), [((0x200, 0), {"op": "c", "oid": "2", "after": '{"id":"1","name":null}'})])
+        self.assertEqual(
+            self.server.entries("stock"),
+            [
+                ((0x100, 0), {"op": "c", "oid": "1", "after": '{"id":"1","name":"a"}'}),
+                (
+                    (0x100, 1),
+                    {
+                        "op": "u",
+                        "oid": "1",
+                        "before": '{"id":"1","name":"a"}',
+                        "after": '{"id":"2","name":{"hex":"01"}}',
+                    },
+                ),
+                ((0x100, 2), {"op": "t", "oid": "1"}),
+                ((0x200, 1), {"op": "x", "oid": "1", "sent": '"d"', "old": '{"id":"7"}'}),
+            ],
+        )
+        self.assertEqual(
+            self.server.entries("s.bag"),
+            [((0x200, 0), {"op": "c", "oid": "2", "after": '{"id":"1","name":null}'})],
+        )
         self.assertEqual(self.server.at(), "0/200")
 
     def test_something_else_is_there(self) -> None:
@@ -513,7 +675,9 @@ class Ends(RedisCase):
         self.feed.confirm(0x100)
         with mock.patch.object(Poll, "next", look_before):
             self.run_it(until=0x200)
-        self.assertEqual((self.server.rows(), self.server.at()), (stock(("1", "a"), ("2", "b")), "0/200"))
+        self.assertEqual(
+            (self.server.rows(), self.server.at()), (stock(("1", "a"), ("2", "b")), "0/200")
+        )
 
     def test_a_reader_is_noted(self) -> None:
         self.take(insert("1", "a"))
@@ -543,24 +707,40 @@ class Ends(RedisCase):
         self.take(insert("1", "a"))
         self.server.syncs[1] = b"no"
         with mock.patch("pgsub_feed.sinks.redis_disk.LATE", -10.0):
-            self.fails(EngineError, "appendfsync is no, so it is never known what its disk has", reader="redis")
+            self.fails(
+                EngineError,
+                "appendfsync is no, so it is never known what its disk has",
+                reader="redis",
+            )
         self.assertEqual((self.server.rows(), (self.path / "readers").exists()), ({}, False))
         for syncs, text in (
             ("no no", "appendfsync is no, .*: say appendfsync everysec, or no --reader"),
-            ("everysec yes", "no-appendfsync-on-rewrite is yes, .*: say no-appendfsync-on-rewrite no, or no --reader"),
-            ("no yes", "appendfsync is no and no-app.* is yes, .*: say appendfsync everysec and no-appendfsync-on-rewrite no, or"),
+            (
+                "everysec yes",
+                "no-appendfsync-on-rewrite is yes, .*: say no-appendfsync-on-rewrite no, or no --reader",
+            ),
+            (
+                "no yes",
+                "appendfsync is no and no-app.* is yes, .*: say appendfsync everysec and no-appendfsync-on-rewrite no, or",
+            ),
         ):
             self.server.syncs[1::2] = [it.encode() for it in syncs.split()]
             self.fails(EngineError, text, reader="redis")
         self.run_it()
         self.server.info = b"aof_enabled:0\r\n"
         self.run_it(reader="redis")
-        self.server.info, self.server.syncs = b"aof_enabled:1\r\naof_last_write_status:ok\r\n", Said("NOPERM no permissions")
-        self.assertRegex(self.run_it(reader="redis")[0], "doesn't tell whether it syncs its log .NOPERM")
+        (
+            self.server.info,
+            self.server.syncs,
+        ) = b"aof_enabled:1\r\naof_last_write_status:ok\r\n", Said("NOPERM no permissions")
+        self.assertRegex(
+            self.run_it(reader="redis")[0], "doesn't tell whether it syncs its log .NOPERM"
+        )
 
     def test_urls(self) -> None:
         for words, text in (
-            ({"stream": "s"}, "--stream is for NATS"), ({"url": "nats://h", "form": "streams"}, "--as is for Redis"),
+            ({"stream": "s"}, "--stream is for NATS"),
+            ({"url": "nats://h", "form": "streams"}, "--as is for Redis"),
         ):
             self.take()
             self.fails(UsageError, text, **words)
@@ -568,8 +748,12 @@ class Ends(RedisCase):
         path.write_text("redis://:secret@h\n")
         for mode, told in ((0o644, "every account"), (0o640, "its group"), (0o600, "")):
             path.chmod(mode)
-            self.assertEqual(self.run_it(url="", url_file=str(path)), [
-                f"warning: {path} has a password, and {told} may read it: chmod 600"] if told else [])
+            self.assertEqual(
+                self.run_it(url="", url_file=str(path)),
+                [f"warning: {path} has a password, and {told} may read it: chmod 600"]
+                if told
+                else [],
+            )
         path.write_text("redis://h\n")
         path.chmod(0o644)
         self.assertEqual(self.run_it(url="", url_file=str(path)), [])
@@ -578,7 +762,9 @@ class Ends(RedisCase):
         self.assertRegex(self.run_it(url="redis://:secret@h")[0], "can be read by every account")
 
     def test_no_library(self) -> None:
-        with mock.patch("importlib.import_module", side_effect=ModuleNotFoundError), self.assertRaisesRegex(FileError, "apt-get install python3-redis"):
+        with mock.patch(
+            "importlib.import_module", side_effect=ModuleNotFoundError
+        ), self.assertRaisesRegex(FileError, "apt-get install python3-redis"):
             Connection("redis://h")
 
 
@@ -587,25 +773,41 @@ class OnTheDisk(unittest.TestCase):
         trail = Trail()
         for at, now in ((10, 1.0), (11, 1.05), (12, 1.2), (13, 9.0)):
             trail.note(at, now)
-        self.assertEqual([trail.pass_to(it) for it in (1.0, 1.09, 1.2, 5.0, 9.05, 9.2)], [None, None, 11, 12, 12, 13])
+        self.assertEqual(
+            [trail.pass_to(it) for it in (1.0, 1.09, 1.2, 5.0, 9.05, 9.2)],
+            [None, None, 11, 12, 12, 13],
+        )
 
     def test_marks_are_few(self) -> None:
         trail = Trail()
         for at in range(60000):
             trail.note(at, float(at))
-        self.assertEqual([trail.pass_to(it) for it in (9000.0, 10001.0, 59000.0)], [None, 10000, 58999])
+        self.assertEqual(
+            [trail.pass_to(it) for it in (9000.0, 10001.0, 59000.0)], [None, 10000, 58999]
+        )
 
     def moment(self, info: str, save: bytes = b"3600 1", now: float = 1010.0) -> float:
         server = mock.Mock(wraps=None)
-        server.run.return_value = [info.replace(" ", "\r\n").encode(), [b"1000", b"0"], [b"save", save], [b"appendfsync", b"everysec"]]
+        server.run.return_value = [
+            info.replace(" ", "\r\n").encode(),
+            [b"1000", b"0"],
+            [b"save", save],
+            [b"appendfsync", b"everysec"],
+        ]
         return Disk(server).moment(now) - now
 
     def test_moments(self) -> None:
         self.assertEqual(self.moment("aof_enabled:1 aof_last_write_status:ok"), -3)
         self.assertEqual(self.moment("aof_enabled:1 aof_last_write_status:err"), -1010)
         # (its clock is ten seconds before this one's)
-        self.assertEqual(self.moment("aof_enabled:0 rdb_last_save_time:900 rdb_last_bgsave_time_sec:20"), 900 - 20 - 2 - 1000)
-        self.assertEqual(self.moment("aof_enabled:0 rdb_last_save_time:900 rdb_last_bgsave_time_sec:-1"), 900 - 2 - 1000)
+        self.assertEqual(
+            self.moment("aof_enabled:0 rdb_last_save_time:900 rdb_last_bgsave_time_sec:20"),
+            900 - 20 - 2 - 1000,
+        )
+        self.assertEqual(
+            self.moment("aof_enabled:0 rdb_last_save_time:900 rdb_last_bgsave_time_sec:-1"),
+            900 - 2 - 1000,
+        )
         self.assertGreater(self.moment("aof_enabled:0", b""), 0)
 
     def test_a_log_that_isnt_synced_any_more(self) -> None:
@@ -615,7 +817,12 @@ class OnTheDisk(unittest.TestCase):
         disk, told = Disk(server), list[str]()
         with mock.patch("pgsub_feed.log.warning", told.append):
             self.assertEqual([disk.moment(1000.0), disk.moment(1001.0)], [0.0, 0.0])
-            self.assertEqual(told, ["Redis: appendfsync is no, so it isn't known any more what its disk has: the reader's LSN stays"])
+            self.assertEqual(
+                told,
+                [
+                    "Redis: appendfsync is no, so it isn't known any more what its disk has: the reader's LSN stays"
+                ],
+            )
             syncs[1] = b"everysec"
             # (what was written until then is synced a second later)
             self.assertEqual([disk.moment(1002.0), disk.moment(1005.0)], [0.0, 1002.0])
@@ -636,30 +843,44 @@ class PlainText(unittest.TestCase):
     """A password that goes to another machine is told of before."""
 
     def told(self, url: str, is_own: bool = False) -> str:
-        with logged() as told, mock.patch("redis.ConnectionPool") as pool, \
-                mock.patch("pgsub_feed.sinks.redis_calls.addresses", return_value=[]), \
-                mock.patch("pgsub_feed.sinks.redis_calls.is_loopback", lambda _: is_own):
+        with logged() as told, mock.patch("redis.ConnectionPool") as pool, mock.patch(
+            "pgsub_feed.sinks.redis_calls.addresses", return_value=[]
+        ), mock.patch("pgsub_feed.sinks.redis_calls.is_loopback", lambda _: is_own):
             pool.from_url.return_value.make_connection.return_value = mock.Mock(host="h", port=6379)
             Connection(url)
         return "".join(told)
 
     def test_each(self) -> None:
-        self.assertIn("Redis at h:6379: the password goes there in plain text: use rediss://", self.told("redis://:secret@h"))
-        for url, is_own in (("redis://:secret@h", True), ("rediss://:secret@h", False), ("redis://h", False), ("unix://:secret@/s", False)):
+        self.assertIn(
+            "Redis at h:6379: the password goes there in plain text: use rediss://",
+            self.told("redis://:secret@h"),
+        )
+        for url, is_own in (
+            ("redis://:secret@h", True),
+            ("rediss://:secret@h", False),
+            ("redis://h", False),
+            ("unix://:secret@/s", False),
+        ):
             self.assertEqual(self.told(url, is_own), "")
 
 
 class Errors(unittest.TestCase):
     def test_packed(self) -> None:
-        self.assertEqual(packed_command(("SET", "é", b"\r\n", 12)), b"*4\r\n$3\r\nSET\r\n$2\r\n\xc3\xa9\r\n$2\r\n\r\n\r\n$2\r\n12\r\n")
+        self.assertEqual(
+            packed_command(("SET", "é", b"\r\n", 12)),
+            b"*4\r\n$3\r\nSET\r\n$2\r\n\xc3\xa9\r\n$2\r\n\r\n\r\n$2\r\n12\r\n",
+        )
 
     def test_kinds(self) -> None:
-        self.assertIsInstance(raised(Said("LOADING Redis is loading the dataset in memory"), "Redis"), Passing)
+        self.assertIsInstance(
+            raised(Said("LOADING Redis is loading the dataset in memory"), "Redis"), Passing
+        )
         self.assertIsInstance(raised(Said("WRONGPASS invalid"), "Redis"), EngineError)
 
 
 def hashes_of(state: Replay) -> dict[str, dict[str, str]]:
-    """The hashes of a replayed feed, of the tables by the names that they were described with last."""
+    """The hashes of a replayed feed, of the tables by the names that they were described with
+    last."""
     found = {}
     for oid, rows in state.rows.items():
         definition = state.definitions[oid]
@@ -668,7 +889,12 @@ def hashes_of(state: Replay) -> dict[str, dict[str, str]]:
         names = [name for name, _, _ in definition["columns"]]
         for row in +Counter(rows):
             cells = dict(zip(names, row))
-            key = ":".join(str(cells[it]).replace("%", "%25").replace(":", "%3A") if cells[it] is not None else "%null" for it in definition["key"])
+            key = ":".join(
+                str(cells[it]).replace("%", "%25").replace(":", "%3A")
+                if cells[it] is not None
+                else "%null"
+                for it in definition["key"]
+            )
             found[f"{oid} {key}"] = {name: str(it) for name, it in cells.items() if it is not None}
     return found
 
@@ -725,9 +951,14 @@ class AnyTime(RedisCase):
         ours = {}
         for name, it in noted:
             begin, oid = name + ":", it["oid"]
-            ours.update({f"{oid} {key[len(begin):]}": row for key, row in self.server.rows().items() if key.startswith(begin)})
+            ours.update(
+                {
+                    f"{oid} {key[len(begin):]}": row
+                    for key, row in self.server.rows().items()
+                    if key.startswith(begin)
+                }
+            )
         self.assertEqual((ours, len(ours)), (hashes_of(state), len(self.server.rows())))
         for name, it in noted:
             plain = state.definitions[it["oid"]]["table"].replace(":", "%3A").replace(".", "%2E")
             self.assertIn(name, (plain, f"pgsub:old:{it['oid']}"))
-

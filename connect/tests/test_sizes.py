@@ -5,10 +5,10 @@ from __future__ import annotations
 import unittest
 
 from pgsub_connect.cli import REJECTED, status_of
-from pgsub_connect.follow.filter import FRAME_TOO_LARGE, FilterEnded, MEMORY, SPOOL_FULL
-from pgsub_connect.follow.memory_limit import LONGEST_FRAME
 from pgsub_connect.commands.options import Options
-from pgsub_connect.follow.too_large import KilledTwice, Kills, LEAST, text_of
+from pgsub_connect.follow.filter import FRAME_TOO_LARGE, MEMORY, SPOOL_FULL, FilterEnded
+from pgsub_connect.follow.memory_limit import LONGEST_FRAME
+from pgsub_connect.follow.too_large import LEAST, KilledTwice, Kills, text_of
 
 from .test_passing import Case, Source
 from .vectors import begin, commit, insert, logged
@@ -49,21 +49,46 @@ class Texts(unittest.TestCase):
 
     def test_full(self) -> None:
         for transaction, parts in (
-            ((7, 1200), ("transaction 7 had 1200 bytes so far", "1000 may be", "--max-buffered 2400 at least", "isn't known, so that may be too little")),
-            ((7, 900), ("transaction 7 had 900 bytes so far", "--max-buffered 2000")), ((0, 0), ("more than 1000 may be", "--max-buffered 2000")),
+            (
+                (7, 1200),
+                (
+                    "transaction 7 had 1200 bytes so far",
+                    "1000 may be",
+                    "--max-buffered 2400 at least",
+                    "isn't known, so that may be too little",
+                ),
+            ),
+            ((7, 900), ("transaction 7 had 900 bytes so far", "--max-buffered 2000")),
+            ((0, 0), ("more than 1000 may be", "--max-buffered 2000")),
         ):
             for part in parts:
-                self.assertIn(part, text_of(FilterEnded(SPOOL_FULL, ""), self.OPTIONS, transaction, 0))
+                self.assertIn(
+                    part, text_of(FilterEnded(SPOOL_FULL, ""), self.OPTIONS, transaction, 0)
+                )
 
     def test_frame(self) -> None:
-        for longest, wanted in ((600, "a message had 600 bytes, and 500 are accepted: give --max-frame 1208 --max-buffered 2416"),
-                                (0, "a message had more than the 500 are accepted: give --max-frame 1000 --max-buffered 2000")):
-            self.assertEqual(text_of(FilterEnded(FRAME_TOO_LARGE, ""), self.OPTIONS, (0, 0), longest), f"{wanted}, and memory for it")
+        for longest, wanted in (
+            (
+                600,
+                "a message had 600 bytes, and 500 are accepted: give --max-frame 1208 --max-buffered 2416",
+            ),
+            (
+                0,
+                "a message had more than the 500 are accepted: give --max-frame 1000 --max-buffered 2000",
+            ),
+        ):
+            self.assertEqual(
+                text_of(FilterEnded(FRAME_TOO_LARGE, ""), self.OPTIONS, (0, 0), longest),
+                f"{wanted}, and memory for it",
+            )
         options = Options(max_buffered=1 << 40, max_frame=LONGEST_FRAME - 5)
         text = text_of(FilterEnded(FRAME_TOO_LARGE, ""), options, (0, 0), LONGEST_FRAME - 6)
         self.assertIn(f"give --max-frame {LONGEST_FRAME}, and", text)
         options.max_frame = LONGEST_FRAME
-        self.assertIn("the most that can be", text_of(FilterEnded(FRAME_TOO_LARGE, ""), options, (0, 0), LONGEST_FRAME))
+        self.assertIn(
+            "the most that can be",
+            text_of(FilterEnded(FRAME_TOO_LARGE, ""), options, (0, 0), LONGEST_FRAME),
+        )
 
     def test_others(self) -> None:
         for status in (1, 3, 12, 13, MEMORY, 15, -9):
@@ -77,8 +102,12 @@ class Follows(Case):
         return lines
 
     def test_killed(self) -> None:
-        """In a transaction that isn't complete, or isn't stored yet; what others did between doesn't matter."""
-        for payloads in ([begin(0x100, 7), insert(1) + bytes(LEAST)], [begin(0x100, 7), insert(1) + bytes(LEAST), commit(0x100, 0x108)]):
+        """In a transaction that isn't complete, or isn't stored yet; what others did between
+        doesn't matter."""
+        for payloads in (
+            [begin(0x100, 7), insert(1) + bytes(LEAST)],
+            [begin(0x100, 7), insert(1) + bytes(LEAST), commit(0x100, 0x108)],
+        ):
             self.follower.kills.xid = 0
             for repeat in range(2):
                 self.follower.noting.begin_store()
@@ -89,18 +118,28 @@ class Follows(Case):
                     self.child.pending.clear()
                     self.child.waiting = 0
                 if repeat:
-                    with self.assertRaisesRegex(KilledTwice, f"twice in the transaction 7, of which {LEAST}"[:-3]):
+                    with self.assertRaisesRegex(
+                        KilledTwice, f"twice in the transaction 7, of which {LEAST}"[:-3]
+                    ):
                         self.end(-9)
                 else:
-                    self.assertEqual(self.end(-9), ["warning: signal 9 ended the filter: it is started again"])
+                    self.assertEqual(
+                        self.end(-9), ["warning: signal 9 ended the filter: it is started again"]
+                    )
 
     def test_full(self) -> None:
         self.take(Source([begin(0x100, 7), *[insert(1)] * 10]))
         self.follower.options.max_buffered = 100
-        self.assertEqual(self.end(SPOOL_FULL), ["warning: open transactions were too much at a time: they come whole from now on"])
+        self.assertEqual(
+            self.end(SPOOL_FULL),
+            ["warning: open transactions were too much at a time: they come whole from now on"],
+        )
         with logged() as lines, self.assertRaises(FilterEnded):
             self.follower.note_end(FilterEnded(SPOOL_FULL, "pgsub: spool 1 SpoolFull"))
-        self.assertIn(f"error: transaction 7 had {10 * len(insert(1))} bytes so far, and 100 may be buffered", lines[0])
+        self.assertIn(
+            f"error: transaction 7 had {10 * len(insert(1))} bytes so far, and 100 may be buffered",
+            lines[0],
+        )
 
     def test_frame(self) -> None:
         long = insert(1) + bytes(1 << 17)
@@ -108,11 +147,16 @@ class Follows(Case):
         self.follower.options.max_frame = 1 << 16
         with logged() as lines, self.assertRaises(FilterEnded):
             self.follower.note_end(FilterEnded(FRAME_TOO_LARGE, "pgsub: wire 3 TooLarge"))
-        self.assertIn(f"a message had {len(long)} bytes, and 65536 are accepted: give --max-frame", lines[0])
+        self.assertIn(
+            f"a message had {len(long)} bytes, and 65536 are accepted: give --max-frame", lines[0]
+        )
 
     def test_memory_passes(self) -> None:
         for _ in range(3):
-            self.assertEqual(self.end(MEMORY, "pgsub: memory"), ["warning: the filter ended with status 14: pgsub: memory: it is started again"])
+            self.assertEqual(
+                self.end(MEMORY, "pgsub: memory"),
+                ["warning: the filter ended with status 14: pgsub: memory: it is started again"],
+            )
 
 
 if __name__ == "__main__":

@@ -5,13 +5,24 @@ from __future__ import annotations
 import tempfile
 import unittest
 
-from pgsub_connect.store.checkpoint import Checkpoint
-from pgsub_connect.status.progress import Progress
 from pgsub_connect.drift.remembered import Remembered
 from pgsub_connect.follow.skip import Skipping
+from pgsub_connect.status.progress import Progress
+from pgsub_connect.store.checkpoint import Checkpoint
 
 from . import vectors
-from .vectors import a_catalog, a_table, begin, commit, delete, insert, keepalive, logged, relation, update
+from .vectors import (
+    a_catalog,
+    a_table,
+    begin,
+    commit,
+    delete,
+    insert,
+    keepalive,
+    logged,
+    relation,
+    update,
+)
 
 LSN = 0x1_0000_0210
 TEXT = "1/210"
@@ -39,19 +50,40 @@ class Case(unittest.TestCase):
 class Skips(Case):
     def test_the_changes_of_the_commit(self) -> None:
         skipping = self.skipping()
-        before = (begin(LSN - 16, 76), relation(1, "t"), insert(1), commit(LSN - 16, LSN - 8), keepalive(LSN - 1))
+        before = (
+            begin(LSN - 16, 76),
+            relation(1, "t"),
+            insert(1),
+            commit(LSN - 16, LSN - 8),
+            keepalive(LSN - 1),
+        )
         self.assertEqual(self.passed(skipping, *before), [0, 1, 2, 3, 4])
         self.assertEqual(self.checkpoint.known.skipped, "")
         origin = vectors.data(b"O" + bytes(8) + b"origin\0")
         commit_of_it = (
-            begin(LSN, 77), origin, relation(2, "u"), vectors.a_type(9), insert(1), update(1), delete(2), keepalive(LSN + 99),
-            vectors.truncate(1, 2), vectors.message(), commit(LSN, LSN + 8),
+            begin(LSN, 77),
+            origin,
+            relation(2, "u"),
+            vectors.a_type(9),
+            insert(1),
+            update(1),
+            delete(2),
+            keepalive(LSN + 99),
+            vectors.truncate(1, 2),
+            vectors.message(),
+            commit(LSN, LSN + 8),
         )
         with logged() as said:
             self.assertEqual(self.passed(skipping, *commit_of_it), [0, 1, 2, 3, 7, 10])
-        self.assertIn(f"skipped: transaction 77, final LSN {TEXT}, 3 changes of public.t (1), 2 changes of public.u (2)", said[0])
+        self.assertIn(
+            f"skipped: transaction 77, final LSN {TEXT}, 3 changes of public.t (1), 2 changes of public.u (2)",
+            said[0],
+        )
         self.assertFalse(skipping.is_pending)
-        self.assertEqual((self.checkpoint.known.skipped, self.checkpoint.read().skipped, self.progress.skipped), (TEXT, TEXT, TEXT))
+        self.assertEqual(
+            (self.checkpoint.known.skipped, self.checkpoint.read().skipped, self.progress.skipped),
+            (TEXT, TEXT, TEXT),
+        )
         after = (begin(LSN + 16, 78), insert(1), commit(LSN + 16, LSN + 24), keepalive(LSN + 99))
         self.assertEqual(self.passed(skipping, *after), [0, 1, 2, 3])
 
@@ -72,7 +104,10 @@ class Skips(Case):
         skipping = self.skipping()
         self.assertEqual(self.passed(skipping, begin(LSN, 77), insert(1)), [0])
         skipping.begin_session(LSN - 16)
-        self.assertEqual(self.passed(skipping, begin(LSN - 16, 76), insert(1), commit(LSN - 16, LSN - 8)), [0, 1, 2])
+        self.assertEqual(
+            self.passed(skipping, begin(LSN - 16, 76), insert(1), commit(LSN - 16, LSN - 8)),
+            [0, 1, 2],
+        )
         self.assertEqual(self.checkpoint.known.skipped, "")
 
 
@@ -97,13 +132,26 @@ class SkipsNothing(Case):
         self.assertEqual((said, self.progress.skipped), ([], TEXT))
 
     def test_there_is_no_such_commit(self) -> None:
-        for past in ((begin(LSN + 1, 78), insert(1), commit(LSN + 1, LSN + 8)), (keepalive(LSN + 1),)):
+        for past in (
+            (begin(LSN + 1, 78), insert(1), commit(LSN + 1, LSN + 8)),
+            (keepalive(LSN + 1),),
+        ):
             skipping = self.skipping()
             with logged() as said:
-                everything = (begin(LSN - 1, 77), insert(1), keepalive(LSN + 1), commit(LSN - 1, LSN), keepalive(LSN), *past)
+                everything = (
+                    begin(LSN - 1, 77),
+                    insert(1),
+                    keepalive(LSN + 1),
+                    commit(LSN - 1, LSN),
+                    keepalive(LSN),
+                    *past,
+                )
                 self.assertEqual(self.passed(skipping, *everything), list(range(len(everything))))
             self.assertEqual(len(said), 1)
-            self.assertIn(f"--skip {TEXT}: the server is at 1/211, and there was no such commit: nothing is skipped", said[0])
+            self.assertIn(
+                f"--skip {TEXT}: the server is at 1/211, and there was no such commit: nothing is skipped",
+                said[0],
+            )
             self.assertEqual((skipping.is_pending, self.checkpoint.known.skipped), (False, ""))
 
 

@@ -10,8 +10,8 @@ import time
 import unittest
 import unittest.mock
 
-from pgsub_connect.follow import stall
 from pgsub_connect.errors import ServerError
+from pgsub_connect.follow import stall
 from pgsub_connect.follow.follower import Follower
 from pgsub_connect.follow.stall import Standing, activity
 

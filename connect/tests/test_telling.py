@@ -5,8 +5,8 @@ from __future__ import annotations
 import dataclasses
 import unittest
 
-from pgsub_connect.server.catalog import Catalog, Partition
 from pgsub_connect.drift.tell_once import warnings
+from pgsub_connect.server.catalog import Catalog, Partition
 
 from .fake_server import FakeServer, connection_to
 from .vectors import ID, NAME, PGSUB, a_catalog, a_shape, a_table

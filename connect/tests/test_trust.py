@@ -7,8 +7,9 @@ import os
 import unittest
 from unittest import mock
 
-from pgsub_connect.server import connection as connection_module, transport
 from pgsub_connect.errors import ServerError, Unconnected, Unfit
+from pgsub_connect.server import connection as connection_module
+from pgsub_connect.server import transport
 from pgsub_connect.server.connection import Connection, parameters
 from pgsub_connect.server.transport import Protection, Trust
 

@@ -12,24 +12,43 @@ from typing import Any, cast
 from unittest import mock
 
 from pgsub_connect import cli
-from pgsub_connect.commands import add as add_module, verify
-from pgsub_connect.store.checkpoint import FOLLOWING, Known
-from pgsub_connect.verify.digests import NotText, Plan, Summing, fields_of, text_of
-from pgsub_connect.errors import FileError, NoSlot, Passing, Stopped, Unfit, Unrepaired
-from pgsub_connect.verify.meeting_point import Source
+from pgsub_connect.commands import add as add_module
+from pgsub_connect.commands import verify
 from pgsub_connect.commands.options import Options
+from pgsub_connect.commands.verify import Verifier
+from pgsub_connect.errors import FileError, NoSlot, Passing, Stopped, Unfit, Unrepaired
 from pgsub_connect.server.connection import never
 from pgsub_connect.server.publications import Column, Table
+from pgsub_connect.store.checkpoint import FOLLOWING, Known
+from pgsub_connect.verify.digests import NotText, Plan, Summing, fields_of, text_of
+from pgsub_connect.verify.meeting_point import Source
 from pgsub_connect.verify.sides import Copy, Sides
 from pgsub_feed.tables.values import Malformed
-from pgsub_connect.commands.verify import Verifier
 
 from .fake_server import FakeServer, connection_to
 from .stores import Cell, StoreCase, spelled
 from .vectors import logged
 
-KEYED = Table(1, "public", "keyed", "r", "d", None, None, [Column("id", 23, -1, True, 1), Column("name", 25, -1, False, 2)])
-WHOLE = Table(2, "public", "whole", "r", "f", None, None, [Column("a", 25, -1, True, 1), Column("b", 25, -1, True, 2)])
+KEYED = Table(
+    1,
+    "public",
+    "keyed",
+    "r",
+    "d",
+    None,
+    None,
+    [Column("id", 23, -1, True, 1), Column("name", 25, -1, False, 2)],
+)
+WHOLE = Table(
+    2,
+    "public",
+    "whole",
+    "r",
+    "f",
+    None,
+    None,
+    [Column("a", 25, -1, True, 1), Column("b", 25, -1, True, 2)],
+)
 Rows = list[Sequence[Cell]]
 ROWS: Rows = [[str(it), f"name {it}"] for it in range(600)]
 EQUAL_ROWS: Rows = [["x", None], ["x", None], ["x", ""], ["tab\t\\N", "new\nline"]]
@@ -52,8 +71,14 @@ class Publisher(FakeServer):
     def texts(self, plan: Plan, chunks: list[int]) -> list[bytes]:
         """The lines of the COPY of chunks."""
         self.asked.append((plan.table.oid, chunks))
-        texts = [text_of(fields_of(spelled(row), plan.width)) for row in self.tables.get(plan.table.oid, [])]
-        keyed = sorted((plan.key_text(fields_of(spelled(row), plan.width), text), text) for row, text in zip(self.tables.get(plan.table.oid, []), texts))
+        texts = [
+            text_of(fields_of(spelled(row), plan.width))
+            for row in self.tables.get(plan.table.oid, [])
+        ]
+        keyed = sorted(
+            (plan.key_text(fields_of(spelled(row), plan.width), text), text)
+            for row, text in zip(self.tables.get(plan.table.oid, []), texts)
+        )
         return [copied(text) for key, text in keyed if plan.chunk_of(key) in chunks]
 
     def sums(self, plan: Plan) -> list[list[str | None]]:
@@ -85,13 +110,16 @@ class Case(StoreCase):
                 key = 1 if oid == 1 else None
                 ident, body = spelled(row[:key]), spelled(row)
                 self.store.base.execute(
-                    "INSERT INTO held VALUES (?, ?, ?, 1) ON CONFLICT (oid, ident) DO UPDATE SET copies = copies + 1", (oid, ident, body)
+                    "INSERT INTO held VALUES (?, ?, ?, 1) ON CONFLICT (oid, ident) DO UPDATE SET copies = copies + 1",
+                    (oid, ident, body),
                 )
         self.store.base.execute("COMMIT")
 
     def compare(self) -> list[dict[str, Any]]:
         """Compares. Returns what was printed, and keeps whether it is equal and what was said."""
-        source = SimpleNamespace(plain=connection_to(self.server), encoding="UTF8", tables=list(self.tables))
+        source = SimpleNamespace(
+            plain=connection_to(self.server), encoding="UTF8", tables=list(self.tables)
+        )
 
         def sums(queries: Any) -> str:
             self.server.answer("SUMS", self.server.sums(queries.plan))
@@ -105,9 +133,13 @@ class Case(StoreCase):
         with contextlib.ExitStack() as stack:
             self.said = stack.enter_context(logged())
             stack.enter_context(contextlib.redirect_stdout(out))
-            stack.enter_context(mock.patch.multiple("pgsub_connect.verify.digests.Queries", sums=sums, texts=texts))
+            stack.enter_context(
+                mock.patch.multiple("pgsub_connect.verify.digests.Queries", sums=sums, texts=texts)
+            )
             copy = stack.enter_context(contextlib.closing(Copy(self.path, self.path, 0x130, never)))
-            self.is_equal = Verifier(self.options, Sides(cast(Source, source), copy)).run(list(self.tables))
+            self.is_equal = Verifier(self.options, Sides(cast(Source, source), copy)).run(
+                list(self.tables)
+            )
         return [json.loads(line) for line in out.getvalue().splitlines()]
 
     def one(self, rows: dict[int, Rows]) -> dict[str, Any]:
@@ -132,7 +164,9 @@ class Finds(Case):
     def test_a_cell(self) -> None:
         found = self.keyed(["7", "other"])
         server, copy = {"id": "7", "name": "name 7"}, {"id": "7", "name": "other"}
-        self.assertEqual(found, {"table": "public.keyed", "key": {"id": "7"}, "server": server, "copy": copy})
+        self.assertEqual(
+            found, {"table": "public.keyed", "key": {"id": "7"}, "server": server, "copy": copy}
+        )
         [(oid, chunks)] = self.server.asked
         self.assertEqual((oid, len(chunks)), (1, 1))
 
@@ -151,17 +185,32 @@ class Finds(Case):
         self.server.tables[2].append(["p", "q"])
         self.keep({1: ROWS, 2: [*EQUAL_ROWS, ["q", "p"]]})
         found = self.compare()
-        self.assertEqual([(it["row"], it["more_on_server"], it["more_in_copy"]) for it in found], [
-            ({"a": "p", "b": "q"}, 1, 0), ({"a": "q", "b": "p"}, 0, 1),
-        ])
+        self.assertEqual(
+            [(it["row"], it["more_on_server"], it["more_in_copy"]) for it in found],
+            [
+                ({"a": "p", "b": "q"}, 1, 0),
+                ({"a": "q", "b": "p"}, 0, 1),
+            ],
+        )
 
     def test_a_changed_key(self) -> None:
         self.keep({1: [*ROWS[:7], ["700", "name 7"], *ROWS[8:]], 2: EQUAL_ROWS})
-        self.assertEqual({it["key"]["id"]: it["copy"] is None for it in self.compare()}, {"7": True, "700": False})
+        self.assertEqual(
+            {it["key"]["id"]: it["copy"] is None for it in self.compare()},
+            {"7": True, "700": False},
+        )
 
     def test_a_copy_too_many_of_a_row(self) -> None:
         found = self.one({2: [*EQUAL_ROWS, ["x", None]]})
-        self.assertEqual(found, {"table": "public.whole", "row": {"a": "x", "b": None}, "more_on_server": 0, "more_in_copy": 1})
+        self.assertEqual(
+            found,
+            {
+                "table": "public.whole",
+                "row": {"a": "x", "b": None},
+                "more_on_server": 0,
+                "more_in_copy": 1,
+            },
+        )
         found = self.one({2: EQUAL_ROWS[1:]})
         self.assertEqual((found["more_on_server"], found["more_in_copy"]), (1, 0))
 
@@ -177,7 +226,10 @@ class Finds(Case):
         self.keep({2: EQUAL_ROWS})
         self.options.show = 5
         self.assertEqual([it["copy"] for it in self.compare()], [None] * 5)
-        self.assertIn("warning: public.keyed: 600 rows on the server, 0 in the copy; 4 of 4 chunks differ", self.said)
+        self.assertIn(
+            "warning: public.keyed: 600 rows on the server, 0 in the copy; 4 of 4 chunks differ",
+            self.said,
+        )
         self.assertIn("public.keyed: 600 keys in 4 chunks differ", self.said)
 
     def test_a_table_that_is_empty_there(self) -> None:
@@ -197,7 +249,9 @@ class Finds(Case):
         self.store.table(2, "whole", ((1, "a", 25, -1),), letter="f")
         self.keep({1: ROWS})
         found = self.compare()
-        self.assertEqual(found, [{"table": "public.whole", "columns": {"server": ["a", "b"], "copy": ["a"]}}])
+        self.assertEqual(
+            found, [{"table": "public.whole", "columns": {"server": ["a", "b"], "copy": ["a"]}}]
+        )
         self.assertFalse(self.is_equal)
 
     def test_a_table_of_which_nothing_ever_came(self) -> None:
@@ -243,7 +297,13 @@ class Reads(Case):
         self.ends(Malformed(), FileError)
         self.ends(sqlite3.DatabaseError(), FileError)
         words = ["verify", "--store", self.path]
-        for result, status in ((0, 0), (1, 1), (NoSlot("x"), 8), (Passing("x"), 7), (Unfit("x"), 5)):
+        for result, status in (
+            (0, 0),
+            (1, 1),
+            (NoSlot("x"), 8),
+            (Passing("x"), 7),
+            (Unfit("x"), 5),
+        ):
             effect = result if isinstance(result, Exception) else [result]
             with mock.patch.object(verify, "verify", side_effect=effect), logged():
                 self.assertEqual(cli.main(words), status)
@@ -258,7 +318,14 @@ class Reads(Case):
         results = iter(several)
 
         def compare(options: Options, choose: Any, found: verify.Compared, check: Any) -> None:
-            self.compared.append([it.oid for it in choose(SimpleNamespace(tables=self.tables, chosen=lambda _: self.tables))])
+            self.compared.append(
+                [
+                    it.oid
+                    for it in choose(
+                        SimpleNamespace(tables=self.tables, chosen=lambda _: self.tables)
+                    )
+                ]
+            )
             different, found.left = next(results)
             found.different += different
 
@@ -268,13 +335,18 @@ class Reads(Case):
     def test_what_differs_is_repaired_where_that_is_asked_for(self) -> None:
         """What can't be by rows is copied anew."""
         cases: Sequence[tuple[list[Table], bool, list[Table], int, Any]] = (
-            ([], False, [], 0, None), ([], True, [], 0, None), ([WHOLE], False, [], 1, None), ([WHOLE], True, [], 0, None),
+            ([], False, [], 0, None),
+            ([], True, [], 0, None),
+            ([WHOLE], False, [], 1, None),
+            ([WHOLE], True, [], 0, None),
             ([WHOLE, KEYED], True, [WHOLE], 7, {WHOLE.oid: WHOLE.text()}),
         )
         for different, repair, left, status, asked in cases:
             self.options.repair = repair
             with mock.patch.multiple(
-                verify, compare=self.finds((different, {})), repair=lambda *_, it=left: it,
+                verify,
+                compare=self.finds((different, {})),
+                repair=lambda *_, it=left: it,
             ), mock.patch.object(add_module, "add", return_value=7) as add:
                 self.assertEqual(verify.run(self.options, never), status)
             self.assertEqual(add.call_args and add.call_args.args[1], asked)
@@ -286,26 +358,43 @@ class Reads(Case):
             self.assertEqual(verify.run(self.options, never), 0)
         self.assertEqual(self.compared, [[1, 2], [2]])
         with mock.patch.object(verify, "compare", self.finds(([], left), ([], left))), logged():
-            with self.assertRaisesRegex(Passing, "^not compared: public.whole was truncated meanwhile: compare later"):
+            with self.assertRaisesRegex(
+                Passing, "^not compared: public.whole was truncated meanwhile: compare later"
+            ):
                 verify.run(self.options, never)
-        with mock.patch.object(verify, "compare", self.finds(([KEYED], left), ([], left))), logged() as told:
+        with mock.patch.object(
+            verify, "compare", self.finds(([KEYED], left), ([], left))
+        ), logged() as told:
             self.assertEqual(verify.run(self.options, never), 1)
         self.assertEqual(told[-1], "warning: not compared: public.whole was truncated meanwhile")
 
     def test_what_the_follower_does_not_pass_on(self) -> None:
         self.options.repair = True
         repair = mock.Mock(side_effect=Unrepaired("too much"))
-        with mock.patch.multiple(verify, compare=self.finds(([WHOLE], {})), repair=repair), logged() as told:
+        with mock.patch.multiple(
+            verify, compare=self.finds(([WHOLE], {})), repair=repair
+        ), logged() as told:
             self.assertEqual(verify.run(self.options, never), 1)
         self.assertEqual(told, ["error: too much"])
 
     def test_which_tables_differ(self) -> None:
         """Those that were compared and aren't equal, and those that couldn't be."""
-        source = cast(Source, SimpleNamespace(plain=connection_to(self.server), encoding="UTF8", tables=list(self.tables)))
-        for columns, equal, different in ((True, True, []), (True, False, [KEYED, WHOLE]), (False, True, [KEYED, WHOLE])):
+        source = cast(
+            Source,
+            SimpleNamespace(
+                plain=connection_to(self.server), encoding="UTF8", tables=list(self.tables)
+            ),
+        )
+        for columns, equal, different in (
+            (True, True, []),
+            (True, False, [KEYED, WHOLE]),
+            (False, True, [KEYED, WHOLE]),
+        ):
             with contextlib.closing(Copy(self.path, self.path, 0x130, never)) as copy:
                 verifier = Verifier(self.options, Sides(source, copy))
-                with mock.patch.multiple(verifier, has_columns=lambda _, it=columns: it, is_equal=lambda *_, it=equal: it):
+                with mock.patch.multiple(
+                    verifier, has_columns=lambda _, it=columns: it, is_equal=lambda *_, it=equal: it
+                ):
                     self.assertEqual(verifier.run(list(self.tables)), not different)
                 self.assertEqual(verifier.different, different)
 

@@ -8,16 +8,16 @@ import unittest
 from unittest import mock
 
 from pgsub_connect import cli
-from pgsub_connect.drift import watch as watch_module
-from pgsub_connect.server.catalog import Catalog
-from pgsub_connect.store.checkpoint import Checkpoint
-from pgsub_connect.errors import ServerError, Unfit
 from pgsub_connect.commands.options import Options
-from pgsub_connect.server.connection import never
-from pgsub_connect.status.progress import Progress
+from pgsub_connect.commands.words import arguments, settle_options
+from pgsub_connect.drift import watch as watch_module
 from pgsub_connect.drift.remembered import Relation, Remembered
 from pgsub_connect.drift.watch import Watch
-from pgsub_connect.commands.words import arguments, settle_options
+from pgsub_connect.errors import ServerError, Unfit
+from pgsub_connect.server.catalog import Catalog
+from pgsub_connect.server.connection import never
+from pgsub_connect.status.progress import Progress
+from pgsub_connect.store.checkpoint import Checkpoint
 
 from .fake_server import FakeServer, connection_to
 from .vectors import ID, NAME, PGSUB, a_catalog, a_shape, a_table, logged
@@ -40,7 +40,9 @@ class Case(unittest.TestCase):
     def watch(self, *accept: str, strict: bool = False) -> Watch:
         """That of a new run."""
         self.progress, self.remembered = Progress(), Remembered(self.store)
-        options = Options(store=self.store, publication=["pgsub"], accept=list(accept), strict=strict)
+        options = Options(
+            store=self.store, publication=["pgsub"], accept=list(accept), strict=strict
+        )
         watch = Watch(options, self.checkpoint, self.progress, self.remembered)
         watch.begin()
         return watch
@@ -52,9 +54,12 @@ class Case(unittest.TestCase):
 
 class Shown(Case):
     def test_what_takes_long_is_told_in_its_time(self) -> None:
-        """The log has it at once, and the progress later, or the cost would grow with the square of what was found."""
+        """The log has it at once, and the progress later, or the cost would grow with the square of
+        what was found."""
         watch = self.watch()
-        with logged() as said, mock.patch.object(watch_module, "LITTLE", -1.0), mock.patch.object(watch_module, "PART", 1e9):
+        with logged() as said, mock.patch.object(watch_module, "LITTLE", -1.0), mock.patch.object(
+            watch_module, "PART", 1e9
+        ):
             self.compare(watch, a_catalog(T, U, lsn=200))
             before = self.progress.found["publication"]
             self.compare(watch, a_catalog(T, U, a_table(3, "v"), lsn=300))
@@ -68,7 +73,9 @@ class Shown(Case):
 
     def test_a_strict_one_ends_at_once(self) -> None:
         watch = self.watch()
-        with logged(), mock.patch.object(watch_module, "LITTLE", -1.0), mock.patch.object(watch_module, "PART", 1e9):
+        with logged(), mock.patch.object(watch_module, "LITTLE", -1.0), mock.patch.object(
+            watch_module, "PART", 1e9
+        ):
             self.compare(watch, a_catalog(T, U, lsn=200))
             watch.options.strict = True
             with self.assertRaisesRegex(Unfit, "public.v"):
@@ -80,7 +87,7 @@ class Found(Case):
         with logged() as said:
             self.compare(self.watch(), a_catalog(T, a_table(2, "u" * 9000), lsn=200))
         self.assertTrue(all(len(it) < 2200 for it in said))
-        kept, = Remembered(self.store).found["publication"].texts
+        (kept,) = Remembered(self.store).found["publication"].texts
         self.assertTrue(len(kept) < 2100 and kept.endswith(" characters)"))
 
     def test_is_kept_and_told_at_each_start(self) -> None:
@@ -102,9 +109,15 @@ class Found(Case):
         with logged() as said:
             self.watch("publication")
         self.assertEqual(["values" in line for line in said], [True])
-        self.assertEqual((list(self.checkpoint.read().found), list(Remembered(self.store).found)), (["values"], ["values"]))
+        self.assertEqual(
+            (list(self.checkpoint.read().found), list(Remembered(self.store).found)),
+            (["values"], ["values"]),
+        )
         with logged() as said:
-            self.compare(self.watch("all", strict=True), a_catalog(dataclasses.replace(T, shape=WIDER), U, lsn=300))
+            self.compare(
+                self.watch("all", strict=True),
+                a_catalog(dataclasses.replace(T, shape=WIDER), U, lsn=300),
+            )
         self.assertEqual((said, self.progress.found), ([], {}))
 
     def test_a_gap_is_accepted_with_its_finding(self) -> None:
@@ -115,10 +128,16 @@ class Found(Case):
             self.assertEqual(list(self.checkpoint.read().found), ["slot"])
             with logged() as said:
                 self.watch(word, strict=True)
-            self.assertEqual((said, self.checkpoint.read().found, Remembered(self.store).found), ([], {}, {}), word)
+            self.assertEqual(
+                (said, self.checkpoint.read().found, Remembered(self.store).found),
+                ([], {}, {}),
+                word,
+            )
 
     def test_strict(self) -> None:
-        with logged(), self.assertRaisesRegex(Unfit, "(?s)--accept.*publication: table public.u .2. joined"):
+        with logged(), self.assertRaisesRegex(
+            Unfit, "(?s)--accept.*publication: table public.u .2. joined"
+        ):
             self.compare(self.watch(strict=True), a_catalog(T, U, lsn=200))
         with logged(), self.assertRaisesRegex(Unfit, "joined"):
             self.watch(strict=True)
@@ -162,8 +181,12 @@ class Found(Case):
 class Looks(Case):
     def test_where_a_table_is_unknown(self) -> None:
         watch = self.watch()
-        with mock.patch("pgsub_connect.drift.watch.Connection") as connection, mock.patch("pgsub_connect.drift.watch.settle"):
-            with mock.patch("pgsub_connect.drift.watch.read_catalog", return_value=a_catalog(T, U, lsn=200)), logged() as said:
+        with mock.patch("pgsub_connect.drift.watch.Connection") as connection, mock.patch(
+            "pgsub_connect.drift.watch.settle"
+        ):
+            with mock.patch(
+                "pgsub_connect.drift.watch.read_catalog", return_value=a_catalog(T, U, lsn=200)
+            ), logged() as said:
                 self.assertFalse(watch.tend(True, never, 100))
             self.assertEqual(len(said), 1)
             connection.return_value.close.assert_called_once()
@@ -171,9 +194,11 @@ class Looks(Case):
 
     def test_now_and_then(self) -> None:
         """No message tells that a partition was detached, or a row filter altered."""
-        with mock.patch("pgsub_connect.drift.watch.AT_LEAST", 5.0), mock.patch("time.monotonic") as clock, mock.patch(
-            "pgsub_connect.drift.watch.Connection"
-        ) as connection, mock.patch("pgsub_connect.drift.watch.settle"), mock.patch(
+        with mock.patch("pgsub_connect.drift.watch.AT_LEAST", 5.0), mock.patch(
+            "time.monotonic"
+        ) as clock, mock.patch("pgsub_connect.drift.watch.Connection") as connection, mock.patch(
+            "pgsub_connect.drift.watch.settle"
+        ), mock.patch(
             "pgsub_connect.drift.watch.read_catalog", return_value=a_catalog(T, U, lsn=200)
         ), logged() as said:
             clock.return_value = 100.0
@@ -186,7 +211,9 @@ class Looks(Case):
 
     def test_that_fail_are_tried_again(self) -> None:
         watch = self.watch()
-        with mock.patch("pgsub_connect.drift.watch.Connection", side_effect=ServerError("gone")) as connection, logged() as said:
+        with mock.patch(
+            "pgsub_connect.drift.watch.Connection", side_effect=ServerError("gone")
+        ) as connection, logged() as said:
             self.assertTrue(watch.tend(True, never, 100))
             self.assertTrue(watch.tend(True, never, 100))
         self.assertEqual((len(said), connection.call_count), (1, 1))
@@ -194,9 +221,15 @@ class Looks(Case):
     def test_why_they_fail_is_told_once(self) -> None:
         """And again once a look between was possible."""
         watch, now = self.watch(), a_catalog(T, lsn=200)
-        cases: list[tuple[list[Catalog | ServerError], int]] = [([ServerError("gone")] * 3, 1), ([now, ServerError("gone")], 1), ([now], 0)]
+        cases: list[tuple[list[Catalog | ServerError], int]] = [
+            ([ServerError("gone")] * 3, 1),
+            ([now, ServerError("gone")], 1),
+            ([now], 0),
+        ]
         for outcomes, lines in cases:
-            with mock.patch("pgsub_connect.drift.watch.Connection"), mock.patch("pgsub_connect.drift.watch.settle"), mock.patch(
+            with mock.patch("pgsub_connect.drift.watch.Connection"), mock.patch(
+                "pgsub_connect.drift.watch.settle"
+            ), mock.patch(
                 "pgsub_connect.drift.watch.read_catalog", side_effect=outcomes
             ), logged() as said:
                 for outcome in outcomes:
@@ -205,11 +238,19 @@ class Looks(Case):
 
     def test_a_lock_in_the_way(self) -> None:
         watch, connection = self.watch(), mock.Mock()
-        with mock.patch("pgsub_connect.drift.watch.read_catalog", side_effect=ServerError("lock timeout", "55P03")), logged() as said:
+        with mock.patch(
+            "pgsub_connect.drift.watch.read_catalog",
+            side_effect=ServerError("lock timeout", "55P03"),
+        ), logged() as said:
             self.assertFalse(watch.compare(connection, 100))
-        self.assertEqual([it.args[0] for it in connection.run.call_args_list], ["SET lock_timeout = 500", "SET lock_timeout = 0"])
+        self.assertEqual(
+            [it.args[0] for it in connection.run.call_args_list],
+            ["SET lock_timeout = 500", "SET lock_timeout = 0"],
+        )
         self.assertIn("can't be looked at now: lock timeout", said[0])
-        with mock.patch("pgsub_connect.drift.watch.read_catalog", side_effect=ServerError("gone", "57P01")), self.assertRaises(ServerError):
+        with mock.patch(
+            "pgsub_connect.drift.watch.read_catalog", side_effect=ServerError("gone", "57P01")
+        ), self.assertRaises(ServerError):
             watch.compare(connection, 100)
 
     def test_a_publication_of_inserts(self) -> None:
@@ -260,15 +301,23 @@ class Words(Case):
         self.assertEqual(self.publications(), ["pgsub"])
 
     def test_the_publications_of_inserts_are_followed_again(self) -> None:
-        """The first run has made them beside those that are named, and its words are given again."""
+        """The first run has made them beside those that are named, and its words are given
+        again."""
         self.remembered.begin(a_catalog(names=["shop", "shop_inserts", "other"]))
         self.remembered.save()
         keyless = ("--create", "--keyless", "inserts")
         for words, names in (
             (("--publication", "shop", *keyless), ["shop", "shop_inserts"]),
-            (("--publication", "shop", "--publication", "other", *keyless), ["shop", "shop_inserts", "other"]),
-            (("--publication", "shop", "--publication", "shop_inserts", *keyless), ["shop", "shop_inserts"]),
-            (("--publication", "shop"), ["shop"]), (keyless, ["shop", "shop_inserts", "other"]),
+            (
+                ("--publication", "shop", "--publication", "other", *keyless),
+                ["shop", "shop_inserts", "other"],
+            ),
+            (
+                ("--publication", "shop", "--publication", "shop_inserts", *keyless),
+                ["shop", "shop_inserts"],
+            ),
+            (("--publication", "shop"), ["shop"]),
+            (keyless, ["shop", "shop_inserts", "other"]),
         ):
             self.assertEqual(self.publications(*words), names, words)
         self.assertEqual(self.publications("--publication", "pgsub", *keyless), ["pgsub"])
@@ -276,7 +325,9 @@ class Words(Case):
     def test_names(self) -> None:
         with mock.patch("builtins.print") as said:
             self.assertEqual(cli.main(["names", "--store", self.store]), 0)
-        said.assert_called_once_with('{"schema": "public", "table": "t", "oid": 1, "since": "0/64", "before": []}')
+        said.assert_called_once_with(
+            '{"schema": "public", "table": "t", "oid": 1, "since": "0/64", "before": []}'
+        )
         with logged() as lines:
             self.assertEqual(cli.main(["names", "--store", self.store + "x"]), cli.FILE)
         self.assertIn("no such file", lines[0])

@@ -15,15 +15,23 @@ from collections.abc import Callable
 from unittest import mock
 
 from pgsub_connect import cli
-from pgsub_connect.server import followed_publications
 from pgsub_connect.cli import BUG, FILE, PASSING, REJECTED, SERVER, UNFIT, USAGE, main
-from pgsub_connect.server.followed_publications import require_published
 from pgsub_connect.commands.drop import ask_terminal
-from pgsub_connect.errors import FileError, FilterFault, Passing, ServerError, Stopped, Unfit, UsageError
-from pgsub_connect.follow.filter import FilterEnded
 from pgsub_connect.commands.options import Options
-from pgsub_connect.follow.too_large import KilledTwice
 from pgsub_connect.commands.words import arguments, parsers_of_commands, settle_options
+from pgsub_connect.errors import (
+    FileError,
+    FilterFault,
+    Passing,
+    ServerError,
+    Stopped,
+    Unfit,
+    UsageError,
+)
+from pgsub_connect.follow.filter import FilterEnded
+from pgsub_connect.follow.too_large import KilledTwice
+from pgsub_connect.server import followed_publications
+from pgsub_connect.server.followed_publications import require_published
 
 from .fake_server import FakeServer, Quiet, Row
 
@@ -32,45 +40,107 @@ CONNECT = os.path.dirname(os.path.dirname(os.path.abspath(__file__)))
 
 class Words(Quiet):
     def rejected(self, text: str) -> str:
-        with contextlib.redirect_stderr(io.StringIO()) as stderr, self.assertRaises(SystemExit) as ended:
+        with contextlib.redirect_stderr(io.StringIO()) as stderr, self.assertRaises(
+            SystemExit
+        ) as ended:
             arguments(text.split())
         self.assertEqual(ended.exception.code, USAGE)
         return stderr.getvalue()
 
     def test_rejected(self) -> None:
         for words in (
-            "follow", "record", "follow --store s --table t", "follow --store s --all-tables", "follow --store s --failover",
-            "follow --store s --create --table t --all-tables", "follow --store s --snapshot-every 5", "follow --store s --append",
-            "follow --store s --proto 3", "follow --store s --mode 0444", "follow --store s --mode x", "follow --store s --until x",
-            "follow --store s --silence 0", "follow --store s --silence -1", "follow --store s --silence nan",
-            "follow --store s --heartbeat 0", "follow --store s --heartbeat inf", "follow --store s --max-frame 2147483644",
-            "follow --store s --cache 99", "follow --store s --cache 4294967295", "follow --store s --cache 1e3",
-            "follow --store s --max-buffered 0", "follow --store s --skip 5", "follow --store s --accept x", "follow --store s --seconds 5",
-            "follow --store s --create temporary", "drop", "names", "nothing", "follow --store s --create --all-tables --keyless inserts",
-            "follow --store s --record f --start 0/5", "follow --store s --record f --streaming", "record --record f --store s",
-            "record --record f --no-copy", "record --record f --strict", "record --record f --table t", "record --create --until now",
-            "verify", "verify --store s --hold 0", "verify --store s --hold 601", "verify --store s --show -1", "verify --store s --create",
-            "follow --store s --jobs 0", "follow --store s --jobs 65", "follow --store s --repair", "add --store s --table t --jobs 2",
-            "follow --store s --init f", "follow --store s --feed-max-bytes 5", "follow --store s --feed f --feed-max-bytes 0",
-            "follow --store s --feed f --feed-max-age x", "follow --store s --feed-segment-seconds 5", "tables --into r", "wait 0/5",
-            "sink --feed f", "sink http://h --feed f", "sink redis://h", "sink redis://h --url-file u --feed f", "sink nats://h --feed f --stream a.b",
-            "sink redis://h --feed f --as x", "sink redis://h --feed f --base b --store s", "sink redis://h --feed f --reader a/b",
-            "sink redis://h --feed f --until now", "follow --store s --snapshot f --snapshot-every nan", "record --record f --seconds nan",
-            "follow --store s --snapshot f --snapshot-every -1", "record --record f --seconds inf", "record --record f --transactions -1",
-            "wait 0/5 --tables r --within nan", "wait 0/5 --tables r --within -1",
+            "follow",
+            "record",
+            "follow --store s --table t",
+            "follow --store s --all-tables",
+            "follow --store s --failover",
+            "follow --store s --create --table t --all-tables",
+            "follow --store s --snapshot-every 5",
+            "follow --store s --append",
+            "follow --store s --proto 3",
+            "follow --store s --mode 0444",
+            "follow --store s --mode x",
+            "follow --store s --until x",
+            "follow --store s --silence 0",
+            "follow --store s --silence -1",
+            "follow --store s --silence nan",
+            "follow --store s --heartbeat 0",
+            "follow --store s --heartbeat inf",
+            "follow --store s --max-frame 2147483644",
+            "follow --store s --cache 99",
+            "follow --store s --cache 4294967295",
+            "follow --store s --cache 1e3",
+            "follow --store s --max-buffered 0",
+            "follow --store s --skip 5",
+            "follow --store s --accept x",
+            "follow --store s --seconds 5",
+            "follow --store s --create temporary",
+            "drop",
+            "names",
+            "nothing",
+            "follow --store s --create --all-tables --keyless inserts",
+            "follow --store s --record f --start 0/5",
+            "follow --store s --record f --streaming",
+            "record --record f --store s",
+            "record --record f --no-copy",
+            "record --record f --strict",
+            "record --record f --table t",
+            "record --create --until now",
+            "verify",
+            "verify --store s --hold 0",
+            "verify --store s --hold 601",
+            "verify --store s --show -1",
+            "verify --store s --create",
+            "follow --store s --jobs 0",
+            "follow --store s --jobs 65",
+            "follow --store s --repair",
+            "add --store s --table t --jobs 2",
+            "follow --store s --init f",
+            "follow --store s --feed-max-bytes 5",
+            "follow --store s --feed f --feed-max-bytes 0",
+            "follow --store s --feed f --feed-max-age x",
+            "follow --store s --feed-segment-seconds 5",
+            "tables --into r",
+            "wait 0/5",
+            "sink --feed f",
+            "sink http://h --feed f",
+            "sink redis://h",
+            "sink redis://h --url-file u --feed f",
+            "sink nats://h --feed f --stream a.b",
+            "sink redis://h --feed f --as x",
+            "sink redis://h --feed f --base b --store s",
+            "sink redis://h --feed f --reader a/b",
+            "sink redis://h --feed f --until now",
+            "follow --store s --snapshot f --snapshot-every nan",
+            "record --record f --seconds nan",
+            "follow --store s --snapshot f --snapshot-every -1",
+            "record --record f --seconds inf",
+            "record --record f --transactions -1",
+            "wait 0/5 --tables r --within nan",
+            "wait 0/5 --tables r --within -1",
         ):
             self.assertIn("usage: ", self.rejected(words), words)
 
     def test_read(self) -> None:
         words = "--store s --create --table t --table u --until 16/B374D848 --mode 640 --accept-gap --accept values --skip 0/5"
         options = arguments(words.split())
-        self.assertEqual((options.command, options.table, options.until, options.mode), ("follow", ["t", "u"], 0x16B374D848, 0o640))
+        self.assertEqual(
+            (options.command, options.table, options.until, options.mode),
+            ("follow", ["t", "u"], 0x16B374D848, 0o640),
+        )
         self.assertEqual((options.skip, options.streaming), (5, True))
-        self.assertTrue(options.accepts("gap") and options.accepts("slot") and options.accepts("values"))
+        self.assertTrue(
+            options.accepts("gap") and options.accepts("slot") and options.accepts("values")
+        )
         self.assertFalse(options.accepts("history"))
         self.assertEqual(arguments(["--record", "f", "--until", "now"]).command, "record")
-        options = arguments("record --record f --create temporary --table t --transactions 3".split())
-        self.assertEqual((options.create, options.table, options.transactions, options.streaming), ("temporary", ["t"], 3, False))
+        options = arguments(
+            "record --record f --create temporary --table t --transactions 3".split()
+        )
+        self.assertEqual(
+            (options.create, options.table, options.transactions, options.streaming),
+            ("temporary", ["t"], 3, False),
+        )
 
     def test_each_help_tells_the_exit_status(self) -> None:
         for name, parser in parsers_of_commands()[1].items():
@@ -97,7 +167,12 @@ class Words(Quiet):
         path = self.make_folder() + "/dsn"
         with open(path, "w", encoding="utf-8") as file:
             file.write("host=h password=secret\nmore\n")
-        for mode, readers in ((0o600, ""), (0o640, "its group"), (0o604, "every account"), (0o644, "every account")):
+        for mode, readers in (
+            (0o600, ""),
+            (0o640, "its group"),
+            (0o604, "every account"),
+            (0o644, "every account"),
+        ):
             os.chmod(path, mode)
             self.assertEqual(self.settled("--dsn-file", path).dsn, "host=h password=secret")
             told = f"warning: {path} has a password, and {readers} may read it: chmod 600"
@@ -110,7 +185,9 @@ class Words(Quiet):
 
     def test_limits(self) -> None:
         with mock.patch("pgsub_connect.commands.words.default_buffered", lambda: 1 << 28):
-            self.assertEqual((self.settled().max_buffered, self.settled().max_frame), (1 << 28, 1 << 28))
+            self.assertEqual(
+                (self.settled().max_buffered, self.settled().max_frame), (1 << 28, 1 << 28)
+            )
         options = self.settled("--max-buffered", "5000000000")
         self.assertEqual((options.max_buffered, options.max_frame), (5000000000, 2147483643))
 
@@ -119,7 +196,16 @@ class Words(Quiet):
         return cli.make_filter(options, mock.Mock(file=3), "/nonexistent/s").words
 
     def test_words_of_the_filter(self) -> None:
-        words = ["/bin/pgsub", "follow", "--store", "/nonexistent/s", "--max-buffered", "5000", "--max-frame", "5000"]
+        words = [
+            "/bin/pgsub",
+            "follow",
+            "--store",
+            "/nonexistent/s",
+            "--max-buffered",
+            "5000",
+            "--max-frame",
+            "5000",
+        ]
         self.assertEqual(self.filter_words(), words)
         for pages in ("100", "4294967294"):
             self.assertEqual(self.filter_words("--cache", pages), [*words, "--cache", pages])
@@ -128,13 +214,30 @@ class Words(Quiet):
 class Ends(Quiet):
     def test_statuses(self) -> None:
         for error, status in (
-            (Stopped(), 0), (FilterEnded(1, "x"), REJECTED), (FilterEnded(2, "x"), USAGE), (FilterEnded(3, "x"), FILE),
-            (FilterEnded(10, "x"), REJECTED), (FilterEnded(11, "x"), REJECTED), (FilterEnded(12, "x"), PASSING),
-            (FilterEnded(13, "x"), PASSING), (FilterEnded(14, "x"), PASSING), (FilterEnded(15, "x"), PASSING),
-            (FilterEnded(-9, ""), PASSING), (KilledTwice(-9, "x"), REJECTED), (ServerError("x", "42501"), SERVER),
-            (ServerError("x", "57P03"), PASSING), (ServerError("x"), PASSING), (Unfit("x"), UNFIT), (FileError("x"), FILE),
-            (FilterFault("x"), FILE), (Passing("x"), PASSING), (UsageError("x"), USAGE), (OSError(errno.ENOSPC, "x"), PASSING),
-            (OSError(errno.EMFILE, "x"), PASSING), (OSError(errno.EACCES, "x"), FILE), (ZeroDivisionError("x"), BUG),
+            (Stopped(), 0),
+            (FilterEnded(1, "x"), REJECTED),
+            (FilterEnded(2, "x"), USAGE),
+            (FilterEnded(3, "x"), FILE),
+            (FilterEnded(10, "x"), REJECTED),
+            (FilterEnded(11, "x"), REJECTED),
+            (FilterEnded(12, "x"), PASSING),
+            (FilterEnded(13, "x"), PASSING),
+            (FilterEnded(14, "x"), PASSING),
+            (FilterEnded(15, "x"), PASSING),
+            (FilterEnded(-9, ""), PASSING),
+            (KilledTwice(-9, "x"), REJECTED),
+            (ServerError("x", "42501"), SERVER),
+            (ServerError("x", "57P03"), PASSING),
+            (ServerError("x"), PASSING),
+            (Unfit("x"), UNFIT),
+            (FileError("x"), FILE),
+            (FilterFault("x"), FILE),
+            (Passing("x"), PASSING),
+            (UsageError("x"), USAGE),
+            (OSError(errno.ENOSPC, "x"), PASSING),
+            (OSError(errno.EMFILE, "x"), PASSING),
+            (OSError(errno.EACCES, "x"), FILE),
+            (ZeroDivisionError("x"), BUG),
         ):
             with mock.patch.dict(cli.RUNS, {"names": mock.Mock(side_effect=error)}):
                 self.assertEqual(main(["names", "--store", "/nonexistent/s"]), status, error)
@@ -154,8 +257,12 @@ class Ends(Quiet):
         self.assertIn("test_words.py", self.said[0])
 
     def test_version(self) -> None:
-        done = subprocess.run([CONNECT + "/pgsub-connect", "--version"], capture_output=True, check=True, timeout=60)
-        self.assertRegex(done.stdout.decode(), r"^pgsub-connect \d+\.\d+\.\d+( \([0-9a-f]{7,}.*\))?\n")
+        done = subprocess.run(
+            [CONNECT + "/pgsub-connect", "--version"], capture_output=True, check=True, timeout=60
+        )
+        self.assertRegex(
+            done.stdout.decode(), r"^pgsub-connect \d+\.\d+\.\d+( \([0-9a-f]{7,}.*\))?\n"
+        )
 
     def test_signals(self) -> None:
         """The first one asks for the end, the second one is the end."""
@@ -164,7 +271,9 @@ class Ends(Quiet):
             "print('ready', flush=True)\nwhile not start.stop_asked:\n    time.sleep(0.01)\n"
             "print('asked', flush=True)\nwhile True:\n    time.sleep(0.01)\n"
         )
-        with subprocess.Popen([sys.executable, "-c", code], cwd=CONNECT, stdout=subprocess.PIPE) as child:
+        with subprocess.Popen(
+            [sys.executable, "-c", code], cwd=CONNECT, stdout=subprocess.PIPE
+        ) as child:
             assert child.stdout
             child.stdout.readline()
             child.send_signal(signal.SIGTERM)
@@ -181,15 +290,23 @@ class Asks(Quiet):
         ours, theirs = pty.openpty()
         self.addCleanup(os.close, ours)
         os.write(ours, typed)
-        with os.fdopen(theirs, encoding="utf-8") as terminal, mock.patch("sys.stdin", terminal), mock.patch(
-            "pgsub_connect.commands.drop.TICK", 0.01
-        ), contextlib.redirect_stderr(io.StringIO()) as stderr:
+        with os.fdopen(theirs, encoding="utf-8") as terminal, mock.patch(
+            "sys.stdin", terminal
+        ), mock.patch("pgsub_connect.commands.drop.TICK", 0.01), contextlib.redirect_stderr(
+            io.StringIO()
+        ) as stderr:
             said = ask_terminal("drop \x1b[2J?", check)
         self.assertEqual(stderr.getvalue(), "drop \\x1b[2J? [y/N] ")
         return said
 
     def test_words(self) -> None:
-        for typed, yes in ((b"y\n", True), (b"YES\n", True), (b"\n", False), (b"n\n", False), (b"\x04", False)):
+        for typed, yes in (
+            (b"y\n", True),
+            (b"YES\n", True),
+            (b"\n", False),
+            (b"n\n", False),
+            (b"\x04", False),
+        ):
             self.assertIs(self.ask(typed), yes)
 
     def test_a_signal_is_heard(self) -> None:
@@ -207,9 +324,14 @@ class Compares(Quiet):
         self.oids = {"t": "1", "public.u": "2", "v": "3"}
         self.server.answer("pg_publication_rel", lambda _: self.listed)
         self.server.answer("to_regclass", self.look_up)
-        self.server.answer("::pg_catalog.oid AS relid) s JOIN", lambda it: [
-            [oid, name] for oid, name in (("1", "public.t"), ("2", "public.u"), ("3", "public.v")) if f"SELECT {oid}::" in it
-        ])
+        self.server.answer(
+            "::pg_catalog.oid AS relid) s JOIN",
+            lambda it: [
+                [oid, name]
+                for oid, name in (("1", "public.t"), ("2", "public.u"), ("3", "public.v"))
+                if f"SELECT {oid}::" in it
+            ],
+        )
         patch = mock.patch.object(followed_publications, "Connection", self.server.connect)
         patch.start()
         self.addCleanup(patch.stop)
@@ -225,17 +347,32 @@ class Compares(Quiet):
     def test_the_same(self) -> None:
         for tables in (("t", "public.u"), ("public.u (a, b) WHERE (a > 0)", "t")):
             self.compare(*tables)
-        self.assertEqual([it for it in self.server.commands if not it.startswith("SELECT")], [], "nothing is changed, and nothing locked")
+        self.assertEqual(
+            [it for it in self.server.commands if not it.startswith("SELECT")],
+            [],
+            "nothing is changed, and nothing locked",
+        )
 
     def test_different(self) -> None:
-        """What was added to the publication, or dropped, is no reason to stay down; what isn't published would stay so."""
+        """What was added to the publication, or dropped, is no reason to stay down; what isn't
+        published would stay so."""
         for tables, text in (
-            (("t",), "published too: public.u"), (("t", "public.u", "w"), "no such table: w"), (("w",), "no such table: w; published too: public.t, public.u"),
+            (("t",), "published too: public.u"),
+            (("t", "public.u", "w"), "no such table: w"),
+            (("w",), "no such table: w; published too: public.t, public.u"),
         ):
             self.compare(*tables)
-            self.assertEqual(self.said.pop(), f"warning: --table isn't what is published, and what is published is followed: {text}")
-        for tables, text in ((("t", "public.u", "v"), "not published: public.v"), (("t", "v"), "not published: public.v; published too: public.u")):
-            with self.assertRaisesRegex(ServerError, f"--table isn't what the store follows: {text}") as raised:
+            self.assertEqual(
+                self.said.pop(),
+                f"warning: --table isn't what is published, and what is published is followed: {text}",
+            )
+        for tables, text in (
+            (("t", "public.u", "v"), "not published: public.v"),
+            (("t", "v"), "not published: public.v; published too: public.u"),
+        ):
+            with self.assertRaisesRegex(
+                ServerError, f"--table isn't what the store follows: {text}"
+            ) as raised:
                 self.compare(*tables)
             self.assertTrue(raised.exception.is_lasting())
             self.assertEqual(self.server.opened, self.server.closed)

@@ -16,7 +16,9 @@ from .fake_server import with_level
 def logged() -> Iterator[list[str]]:
     """The lines that are logged meanwhile."""
     lines: list[str] = []
-    with mock.patch("pgsub_feed.log.line", lambda level, text: lines.append(with_level(level, text))):
+    with mock.patch(
+        "pgsub_feed.log.line", lambda level, text: lines.append(with_level(level, text))
+    ):
         yield lines
 
 
@@ -63,8 +65,17 @@ def who(xid: int | None) -> bytes:
     return b"" if xid is None else struct.pack(">I", xid)
 
 
-def relation_body(oid: int, name: str, identity: str, columns: Sequence[Described], namespace: str = "public") -> bytes:
-    parts = [struct.pack(">I", oid), namespace.encode(), b"\0", name.encode(), b"\0", identity.encode()]
+def relation_body(
+    oid: int, name: str, identity: str, columns: Sequence[Described], namespace: str = "public"
+) -> bytes:
+    parts = [
+        struct.pack(">I", oid),
+        namespace.encode(),
+        b"\0",
+        name.encode(),
+        b"\0",
+        identity.encode(),
+    ]
     parts.append(struct.pack(">H", len(columns)))
     for key, column, type_oid, modifier in columns:
         parts += [bytes([key]), column.encode(), b"\0", struct.pack(">Ii", type_oid, modifier)]
@@ -72,7 +83,11 @@ def relation_body(oid: int, name: str, identity: str, columns: Sequence[Describe
 
 
 def relation(
-    oid: int, name: str, columns: Sequence[Described] = (ID, NAME), identity: str = "d", xid: int | None = None
+    oid: int,
+    name: str,
+    columns: Sequence[Described] = (ID, NAME),
+    identity: str = "d",
+    xid: int | None = None,
 ) -> bytes:
     return data(b"R" + who(xid) + relation_body(oid, name, identity, columns))
 
@@ -94,23 +109,50 @@ def truncate(*oids: int, xid: int | None = None) -> bytes:
 
 
 def message(xid: int | None = None) -> bytes:
-    return data(b"M" + who(xid) + struct.pack(">BQ", 1, 0) + b"prefix\0" + struct.pack(">I", 2) + b"hi")
+    return data(
+        b"M" + who(xid) + struct.pack(">BQ", 1, 0) + b"prefix\0" + struct.pack(">I", 2) + b"hi"
+    )
 
 
 def a_type(oid: int, xid: int | None = None) -> bytes:
     return data(b"Y" + who(xid) + struct.pack(">I", oid) + b"public\0mood\0")
 
 
-def a_shape(columns: Sequence[Described] = (ID, NAME), identity: str = "d", numbers: Sequence[int] | None = None) -> Shape:
+def a_shape(
+    columns: Sequence[Described] = (ID, NAME),
+    identity: str = "d",
+    numbers: Sequence[int] | None = None,
+) -> Shape:
     numbers = numbers or range(1, len(columns) + 1)
-    return Shape(identity, tuple(Column(name, oid, mod, bool(key), at) for (key, name, oid, mod), at in zip(columns, numbers)))
+    return Shape(
+        identity,
+        tuple(
+            Column(name, oid, mod, bool(key), at)
+            for (key, name, oid, mod), at in zip(columns, numbers)
+        ),
+    )
 
 
 def a_table(
-    oid: int, name: str, shape: Shape | None = None, *, kind: str = "r", part: Part | None = None, fresh: bool = False,
+    oid: int,
+    name: str,
+    shape: Shape | None = None,
+    *,
+    kind: str = "r",
+    part: Part | None = None,
+    fresh: bool = False,
     schema: str = "public",
 ) -> Table:
-    return Table(oid, schema, name, kind, shape or a_shape(), {"pgsub": part or Part(None, None, False)}, fresh, fresh)
+    return Table(
+        oid,
+        schema,
+        name,
+        kind,
+        shape or a_shape(),
+        {"pgsub": part or Part(None, None, False)},
+        fresh,
+        fresh,
+    )
 
 
 ALL = ("insert", "update", "delete", "truncate")
@@ -118,10 +160,21 @@ PGSUB = Publication(900, False, ALL, False, False)
 
 
 def a_catalog(
-    *tables: Table, lsn: int = 100, highest: int = 1000, publication: Publication | None = PGSUB, partitions: Sequence[Partition] = (),
-    types: dict[int, dict[str, str]] | None = None, names: Sequence[str] = ("pgsub",),
+    *tables: Table,
+    lsn: int = 100,
+    highest: int = 1000,
+    publication: Publication | None = PGSUB,
+    partitions: Sequence[Partition] = (),
+    types: dict[int, dict[str, str]] | None = None,
+    names: Sequence[str] = ("pgsub",),
 ) -> Catalog:
     publications = {} if publication is None else {"pgsub": publication}
     return Catalog(
-        tuple(names), lsn, highest, publications, {it.oid: it for it in tables}, {it.oid: it for it in partitions}, types or {}
+        tuple(names),
+        lsn,
+        highest,
+        publications,
+        {it.oid: it for it in tables},
+        {it.oid: it for it in partitions},
+        types or {},
     )

@@ -181,7 +181,7 @@ def sources_of(tree: Tree, command: str) -> list[str] | None:
     if name == "pgsub":
         return [it for it in tree.files if it.startswith("crates/pgcommand/src/") or it == "pgsub"]
     if name in ("pgsub-connect", "pgsub-feed"):
-        return [it for it in tree.files if it.startswith("connect/pgsub_connect/") or Path(it).name == name]
+        return [it for it in tree.files if it.startswith(("connect/pgsub_connect/", "connect/pgsub_feed/")) or Path(it).name == name]
     if command.startswith("bench/"):
         return [it for it in tree.files if it.startswith("bench/") and not it.endswith(".md")]
     if name == "install" and "install" in tree.files:

@@ -247,12 +247,13 @@ def killed_at(place: Place, name: str, after: bool) -> None:
 KILLED_AT = """
 import os, sys
 sys.path.insert(0, {house!r})
-from pgsub_connect import cli, copying
-real = copying.{name}
+from pgsub_connect import cli
+from pgsub_connect.copy import copier
+real = copier.{name}
 def last(*words, **more):
     {before}
     os._exit(77)
-copying.{name} = last
+copier.{name} = last
 sys.argv[0] = {house!r} + "/pgsub-connect"
 cli.run()
 """

@@ -42,7 +42,8 @@ class Case(unittest.TestCase):
 
     def test_all_of_it(self) -> None:
         found = self.files()
-        copied = {f"lib/pgsub/{it.relative_to(TOP / 'connect')}" for it in (TOP / "connect/pgsub_connect").rglob("*.py")}
+        packages = [TOP / "connect" / name for name in ("pgsub_connect", "pgsub_feed")]
+        copied = {f"lib/pgsub/{it.relative_to(TOP / 'connect')}" for package in packages for it in package.rglob("*.py")}
         copied |= {f"share/doc/pgsub/{it.relative_to(TOP)}" for folder in ("docs", "examples") for it in (TOP / folder).rglob("*") if it.is_file()}
         self.assertTrue(copied <= found)
         self.assertEqual(

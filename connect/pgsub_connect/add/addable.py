@@ -4,11 +4,11 @@ from __future__ import annotations
 
 from typing import Protocol
 
-from ..server.catalog import Column, Shape
+from ..drift.remembered import Relation
 from ..follow.gate import CURE, TABLE
+from ..server.catalog import Column, Shape
 from ..server.publications import Column as TableColumn
 from ..server.publications import Table
-from ..drift.remembered import Relation
 
 
 class Stream(Protocol):

@@ -1,4 +1,5 @@
-"""Adds tables to a running copy, one after the other, as the module `replacing` says: what a follower does between its payloads.
+"""Adds tables to a running copy, one after the other, as the module `replacing` says: what a
+follower does between its payloads.
 
 | Phase | What holds | Goes on |
 |---|---|---|
@@ -8,11 +9,14 @@
 | GOING | commits below P are passed on | once the first payload behind P has come: the rows are passed on |
 | SENT | all is passed on, or nothing where the session is to end | once the store is at P: the table is there |
 
-The session is to end where it has described the table otherwise than its rows: then another one begins at P.
+The session is to end where it has described the table otherwise than its rows: then another one
+begins at P.
 
-Where the server makes no slot in time, or the table is altered or locked, the stream is let go, and later it is tried again. Where rows
-can't be read to their end the session ends, since a transaction is open in it. A table that can't be added is refused: it stays as it
-was, its changes stay left out, and that is a finding. One that isn't published any more is no longer added; where its rows are to go, the transaction has none.
+Where the server makes no slot in time, or the table is altered or locked, the stream is let go, and
+later it is tried again. Where rows can't be read to their end the session ends, since a transaction
+is open in it. A table that can't be added is refused: it stays as it was, its changes stay left
+out, and that is a finding. One that isn't published any more is no longer added; where its rows are
+to go, the transaction has none.
 """
 
 from __future__ import annotations
@@ -22,35 +26,38 @@ import time
 from typing import TYPE_CHECKING, Any
 
 from pgsub_feed import log
-from .addable import Stream, TooLarge, relation_of, table_of, too_large, too_long
-from ..copy.copier import PASSING
-from ..drift.differences import PUBLICATION
-from ..errors import NoSlot, Passing, Renewed, ServerError, Stopped, Unconnected, Unfit
-from ..drift.findings import About
-from ..follow.gate import MOST as LONGEST_WAIT
-from ..follow.gate import Making, WAITED
-from ..verify.meeting_point import Source
-from ..server.publications import Table, sizes_of
-from ..copy.table_reader import BLOCK, GONE
-from ..drift.remembered import Remembered
-from .replacement import Leaving, Rows, payload_of
 from pgsub_feed.texts import counted, lsn_text
 
+from ..copy.copier import PASSING
+from ..copy.table_reader import BLOCK, GONE
+from ..drift.differences import PUBLICATION
+from ..drift.findings import About
+from ..drift.remembered import Remembered
+from ..errors import NoSlot, Passing, Renewed, ServerError, Stopped, Unconnected, Unfit
+from ..follow.gate import MOST as LONGEST_WAIT
+from ..follow.gate import WAITED, Making
+from ..server.publications import Table, sizes_of
+from ..verify.meeting_point import Source
+from .addable import Stream, TooLarge, relation_of, table_of, too_large, too_long
+from .replacement import Leaving, Rows, payload_of
+
 if TYPE_CHECKING:
-    from ..store.checkpoint import Checkpoint
-    from ..follow.statuses import Confirming
-    from ..follow.hold import Hold
-    from ..follow.stream_log import Noting
     from ..commands.options import Options
-    from ..status.progress import Progress
     from ..drift.watch import Watch
+    from ..follow.hold import Hold
+    from ..follow.statuses import Confirming
+    from ..follow.stream_log import Noting
+    from ..status.progress import Progress
+    from ..store.checkpoint import Checkpoint
 
 IDLE, HELD, MAKING, GOING, SENT = "idle", "held", "making", "going", "sent"
-# How long the stream is held at most until the slot is made, and after how many seconds it is tried again, at first and at most.
+# How long the stream is held at most until the slot is made, and after how many seconds it is tried
+# again, at first and at most.
 SLOT, FIRST_DELAY, LONGEST_DELAY = 10.0, 1.0, 60.0
 # How long it is held at most for a lock of somebody else on the table, and where commits wait.
 LOCK, SHORT_LOCK = 5.0, 0.5
-# How many tables at most lose their changes at a time, and after how many attempts that end in the same way one is refused.
+# How many tables at most lose their changes at a time, and after how many attempts that end in the
+# same way one is refused.
 MOST, ATTEMPTS = 4, 5
 # A table whose files are so many times what may be buffered is refused before anything is done.
 FAR = 2
@@ -61,11 +68,30 @@ class Adder:
     """The tables that are being added."""
 
     def __init__(
-        self, options: Options, checkpoint: Checkpoint, progress: Progress, remembered: Remembered, watch: Watch, noting: Noting,
-        confirming: Confirming, hold: Hold, stream: Stream,
+        self,
+        options: Options,
+        checkpoint: Checkpoint,
+        progress: Progress,
+        remembered: Remembered,
+        watch: Watch,
+        noting: Noting,
+        confirming: Confirming,
+        hold: Hold,
+        stream: Stream,
     ) -> None:
-        self.options, self.checkpoint, self.progress, self.remembered = options, checkpoint, progress, remembered
-        self.watch, self.noting, self.confirming, self.hold, self.stream = watch, noting, confirming, hold, stream
+        self.options, self.checkpoint, self.progress, self.remembered = (
+            options,
+            checkpoint,
+            progress,
+            remembered,
+        )
+        self.watch, self.noting, self.confirming, self.hold, self.stream = (
+            watch,
+            noting,
+            confirming,
+            hold,
+            stream,
+        )
         self.leaving = Leaving()
         self.phase, self.oid, self.point = IDLE, 0, 0
         self.source: Source | None = None
@@ -80,7 +106,8 @@ class Adder:
         self.is_gone = False
         # what was found of the table before its rows were read
         self.texts: list[str] = []
-        # whether the session asks for whole transactions because of tables, and whether it ends once the rows of one are stored
+        # whether the session asks for whole transactions because of tables, and whether it ends
+        # once the rows of one are stored
         self.is_whole = self.ends_session = False
 
     # what is to be added
@@ -95,7 +122,10 @@ class Adder:
     def take(self, asked: dict[str, Any]) -> str | None:
         """Takes a request for tables, by their OIDs. Returns why it is rejected."""
         adds, removes = asked.get("add"), asked.get("remove", [])
-        if not all(isinstance(oids, list) and all(isinstance(it, int) for it in oids) for oids in (adds, removes)):
+        if not all(
+            isinstance(oids, list) and all(isinstance(it, int) for it in oids)
+            for oids in (adds, removes)
+        ):
             return "malformed"
         errors = self.rejections(adds or [], removes)
         if not errors:
@@ -105,7 +135,8 @@ class Adder:
         return "; ".join(errors) or None
 
     def rejections(self, adds: list[int], removes: list[int]) -> list[str]:
-        """Why tables can't be added, or their rows removed. Where the server can't be asked just now, that shows later."""
+        """Why tables can't be added, or their rows removed. Where the server can't be asked just
+        now, that shows later."""
         try:
             source = Source(self.options, self.checkpoint.known, self.stream.serve_server, "add")
             try:
@@ -119,7 +150,11 @@ class Adder:
             return [str(error)]
         except Stopped:
             return ["it is about to end"]
-        return errors + [f"table {oid} is published, or isn't known" for oid in removes if oid in published or not self.remembered.described(oid)]
+        return errors + [
+            f"table {oid} is published, or isn't known"
+            for oid in removes
+            if oid in published or not self.remembered.described(oid)
+        ]
 
     def rejection(self, source: Source, oid: int) -> str:
         """Why a table can't be added, "" where nothing is known to be in the way."""
@@ -135,20 +170,30 @@ class Adder:
         return too_long(table, size) if self.progress.is_waited_for else ""
 
     def left_out(self) -> dict[int, int]:
-        """The tables whose changes are left out: those that are added next, and of the initial copy's all that are still to come."""
+        """The tables whose changes are left out: those that are added next, and of the initial
+        copy's all that are still to come."""
         return {**dict.fromkeys(sorted(self.remembered.partial), 0), **self.checkpoint.adding()}
 
     def fill(self) -> None:
-        """Leaves out the changes of the next tables that are wanted, as many as may be at a time."""
-        adding, wanted, partial = self.checkpoint.adding(), self.remembered.wanted, self.remembered.partial
-        for oid in [it for it, why in wanted.items() if it not in adding and it not in partial and not why]:
-            if sum(not wanted.get(it) for it in adding) < MOST and self.checkpoint.has_room_for(oid):
+        """Leaves out the changes of the next tables that are wanted, as many as may be at a
+        time."""
+        adding, wanted, partial = (
+            self.checkpoint.adding(),
+            self.remembered.wanted,
+            self.remembered.partial,
+        )
+        for oid in [
+            it for it, why in wanted.items() if it not in adding and it not in partial and not why
+        ]:
+            if sum(not wanted.get(it) for it in adding) < MOST and self.checkpoint.has_room_for(
+                oid
+            ):
                 adding[oid] = 0
                 self.checkpoint.write_adding(adding)
 
     def wants_session(self) -> bool:
-        """Whether a session is to begin in place of the one that runs: changes are left out from its start, of whole transactions, and
-        tables are described anew."""
+        """Whether a session is to begin in place of the one that runs: changes are left out from
+        its start, of whole transactions, and tables are described anew."""
         if self.phase != IDLE:
             return False
         if self.ends_session:
@@ -161,7 +206,8 @@ class Adder:
     # sessions
 
     def begin_session(self, position: int, streams: bool) -> bool:
-        """A session begins at a store's position. Returns whether it has to be one of whole transactions.
+        """A session begins at a store's position. Returns whether it has to be one of whole
+        transactions.
 
         A table whose LSN the store has reached is there; any other's snapshot is gone.
         """
@@ -198,9 +244,20 @@ class Adder:
         if self.phase == SENT and self.confirming.position >= self.point:
             self.finish(self.oid, self.point)
             self.phase, self.delay, self.next_try = IDLE, 0.0, 0.0
-        elif self.phase == IDLE and self.leaving.points and not self.hold.is_held and time.monotonic() >= self.next_try:
+        elif (
+            self.phase == IDLE
+            and self.leaving.points
+            and not self.hold.is_held
+            and time.monotonic() >= self.next_try
+        ):
             self.prepare()
-        elif self.phase == HELD and self.confirming.is_stored() or self.phase == MAKING and self.making and not self.making.is_alive():
+        elif (
+            self.phase == HELD
+            and self.confirming.is_stored()
+            or self.phase == MAKING
+            and self.making
+            and not self.making.is_alive()
+        ):
             self.meet()
         elif self.phase == GOING and self.hold.is_there:
             self.send()
@@ -217,7 +274,9 @@ class Adder:
             return
         try:
             self.source = Source(self.options, self.checkpoint.known, self.stream.attend, "add")
-            self.source.patience = SHORT_LOCK if self.progress.note_standbys(self.source.standbys()) else LOCK
+            self.source.patience = (
+                SHORT_LOCK if self.progress.note_standbys(self.source.standbys()) else LOCK
+            )
             self.table = self.source.narrow(self.oid)
             self.is_gone = self.table is None
             self.check_size(self.source)
@@ -228,7 +287,9 @@ class Adder:
             return
         if self.table is None:
             self.close()
-            log.warning(f"{self.remembered.text_of(self.oid)} isn't published any more: it isn't added, and the rows that it had stay")
+            log.warning(
+                f"{self.remembered.text_of(self.oid)} isn't published any more: it isn't added, and the rows that it had stay"
+            )
             self.forget(self.oid)
             return
         self.hold_stream()
@@ -236,13 +297,15 @@ class Adder:
         self.show("waits for a slot")
 
     def check_size(self, source: Source) -> None:
-        """Rejects a table whose rows commits would wait for. It is tried again later, when they may not wait any more."""
+        """Rejects a table whose rows commits would wait for. It is tried again later, when they may
+        not wait any more."""
         if self.table and self.progress.is_waited_for:
             if why := too_long(self.table, sizes_of(source.plain, [self.table]).get(self.oid, 0)):
                 raise Passing(why)
 
     def hold_stream(self) -> None:
-        """Holds the stream. Where commits wait for it, the slot is made meanwhile, and it goes on up to a gate."""
+        """Holds the stream. Where commits wait for it, the slot is made meanwhile, and it goes on
+        up to a gate."""
         assert self.source
         if not self.progress.is_waited_for:
             self.hold.begin(None, 0.0)
@@ -265,7 +328,9 @@ class Adder:
         try:
             point, snapshot = self.making.result() if self.making else self.source.make_slot(SLOT)
             if point <= (reached := max(self.confirming.reached(), self.hold.gate or 0)):
-                raise Passing(f"its slot is at {lsn_text(point)}, and the stream at {lsn_text(reached)}: is it of a standby behind?")
+                raise Passing(
+                    f"its slot is at {lsn_text(point)}, and the stream at {lsn_text(reached)}: is it of a standby behind?"
+                )
             self.source.see(snapshot)
         except (ServerError, Passing, Unfit, NoSlot) as error:
             self.hold.end()
@@ -281,19 +346,26 @@ class Adder:
         self.show(f"the stream goes on to {lsn_text(point)}")
 
     def look(self) -> None:
-        """Looks at the publications while the table is locked: what is found of it up to here is of rows that go.
+        """Looks at the publications while the table is locked: what is found of it up to here is of
+        rows that go.
 
-        Unless it was altered behind P, which makes nothing wrong of the rows at P, but of their values then.
+        Unless it was altered behind P, which makes nothing wrong of the rows at P, but of their
+        values then.
         """
         self.texts = self.remembered.found_of(self.oid) if self.is_gone else []
-        if self.is_gone or not self.table or not self.watch.look_again(self.stream.attend, self.confirming.position):
+        if (
+            self.is_gone
+            or not self.table
+            or not self.watch.look_again(self.stream.attend, self.confirming.position)
+        ):
             return
         now = self.remembered.catalog.tables.get(self.oid) if self.remembered.catalog else None
         if now and now.shape == relation_of(self.table).shape:
             self.texts = self.remembered.found_of(self.oid)
 
     def send(self) -> None:
-        """Passes on the rows. Where that fails the session ends, since a part of their transaction was passed on."""
+        """Passes on the rows. Where that fails the session ends, since a part of their transaction
+        was passed on."""
         assert self.table and self.source
         self.began = time.monotonic()
         rows = Rows(self.table, self.point, round((time.time() - EPOCH) * 1000000))
@@ -317,12 +389,16 @@ class Adder:
         assert self.table and self.source
         for it in rows.opening():
             self.push(it, [payload_of(it)])
-        for lines in () if self.is_gone else self.source.plain.copied_blocks(self.table.query(), BLOCK):
+        for lines in (
+            () if self.is_gone else self.source.plain.copied_blocks(self.table.query(), BLOCK)
+        ):
             block = rows.rows(lines)
             if rows.cost > self.options.max_buffered:
                 raise TooLarge(too_large(self.table, rows.cost, self.options.max_buffered))
             if rows.longest > self.options.max_frame:
-                raise TooLarge(f"{self.table.text()} has a row of {rows.longest} bytes: give the follower a --max-frame above that")
+                raise TooLarge(
+                    f"{self.table.text()} has a row of {rows.longest} bytes: give the follower a --max-frame above that"
+                )
             if self.progress.is_waited_for and time.monotonic() - self.began > LONGEST_WAIT:
                 raise TooLarge(WAITED)
             self.push(block, [])
@@ -347,7 +423,9 @@ class Adder:
     def forget(self, oid: int, texts: list[str] | None = None) -> None:
         """A table is no longer among those that are added; what was found of its rows goes."""
         self.checkpoint.accept(self.remembered.added(oid, texts or []))
-        self.checkpoint.write_adding({it: lsn for it, lsn in self.checkpoint.adding().items() if it != oid})
+        self.checkpoint.write_adding(
+            {it: lsn for it, lsn in self.checkpoint.adding().items() if it != oid}
+        )
         self.leaving.set({it: lsn for it, lsn in self.leaving.points.items() if it != oid})
         self.watch.show()
         self.show()
@@ -358,9 +436,17 @@ class Adder:
         sqlstate = error.sqlstate if isinstance(error, ServerError) else ""
         text = f"{self.remembered.text_of(self.oid)}: {reason(error)}"
         # (whom the server has let in before it may let in again)
-        if sqlstate and not isinstance(error, Unconnected) and not sqlstate.startswith((*PASSING, *GONE)):
+        if (
+            sqlstate
+            and not isinstance(error, Unconnected)
+            and not sqlstate.startswith((*PASSING, *GONE))
+        ):
             self.counts[self.oid, sqlstate] += 1
-            if isinstance(error, ServerError) and error.is_lasting() or self.counts[self.oid, sqlstate] >= ATTEMPTS:
+            if (
+                isinstance(error, ServerError)
+                and error.is_lasting()
+                or self.counts[self.oid, sqlstate] >= ATTEMPTS
+            ):
                 self.refuse(self.oid, text)
                 return
         self.delay = min(2 * self.delay, LONGEST_DELAY) if self.delay else FIRST_DELAY
@@ -374,7 +460,9 @@ class Adder:
         self.close()
         if oid in self.remembered.partial:
             # (its changes are left out without that, and others need the room)
-            self.checkpoint.write_adding({it: lsn for it, lsn in self.checkpoint.adding().items() if it != oid})
+            self.checkpoint.write_adding(
+                {it: lsn for it, lsn in self.checkpoint.adding().items() if it != oid}
+            )
         self.remembered.refuse(oid, why)
         text = f"table {self.remembered.text_of(oid)} can't be added: {why}"
         self.remembered.find(PUBLICATION, self.confirming.position, text, About((oid,)))
@@ -386,7 +474,9 @@ class Adder:
         """Tells the progress which tables are being added."""
         oids = dict.fromkeys((*self.checkpoint.adding(), *self.remembered.wanted))
         self.progress.adding = {
-            self.remembered.text_of(oid): self.remembered.wanted.get(oid) or (how if how and oid == self.oid else "waits") for oid in oids
+            self.remembered.text_of(oid): self.remembered.wanted.get(oid)
+            or (how if how and oid == self.oid else "waits")
+            for oid in oids
         }
 
 

@@ -1,8 +1,11 @@
-"""Replaces the rows of one table within a stream that goes on: which changes are left out, and the transaction that has the rows.
+"""Replaces the rows of one table within a stream that goes on: which changes are left out, and the
+transaction that has the rows.
 
-Let P be the consistent point of a temporary slot that is made while nothing is passed on, and above all that was. As the module `holding` says, a commit whose
-final LSN is below P is seen by the slot's snapshot, and any other isn't; P is the end of a record that is no commit (of running
-transactions), and above the final LSN of each commit that was passed on before. So the stream to the filter becomes this:
+Let P be the consistent point of a temporary slot that is made while nothing is passed on, and above
+all that was. As the module `holding` says, a commit whose final LSN is below P is seen by the
+slot's snapshot, and any other isn't; P is the end of a record that is no commit (of running
+transactions), and above the final LSN of each commit that was passed on before. So the stream to
+the filter becomes this:
 
 | What comes | Final LSN below P | P or above |
 |---|---|---|
@@ -18,38 +21,51 @@ transactions), and above the final LSN of each commit that was passed on before.
 | between transactions | passed on | kept until the rows' transaction was passed on |
 | between Begin and Commit | passed on | left out; no server sends one |
 
-As long as P isn't known, all changes of the table are left out, as below any P. The rows' transaction stands where the first Begin with
-a final LSN of P or above, or the first keepalive with such an end, would have come. It is Begin, Relation, Truncate, an Insert for each
-row that the snapshot has, Commit:
+As long as P isn't known, all changes of the table are left out, as below any P. The rows'
+transaction stands where the first Begin with a final LSN of P or above, or the first keepalive with
+such an end, would have come. It is Begin, Relation, Truncate, an Insert for each row that the
+snapshot has, Commit:
 
-- Its final LSN is P - 1 and its end is P. A server's commit has neither: records begin and end at multiples of eight, and the one that
-  ends at P is no commit. Commits before it end where that record begins or before, which is below P - 1; those behind it begin at P.
-- Its xid is 2, which no transaction of a server has (FrozenTransactionId); no other transaction is open where it begins, nor is any
-  streamed: sessions ask for whole transactions from before the slot is made until the rows are stored. Thus each Begin tells the final
-  LSN before the changes that it decides on.
-- The Truncate drops what the copy has of the table, whatever that is, so that an Insert can't clash with it.
+- Its final LSN is P - 1 and its end is P. A server's commit has neither: records begin and end at
+  multiples of eight, and the one that ends at P is no commit. Commits before it end where that
+  record begins or before, which is below P
+  - 1; those behind it begin at P.
+- Its xid is 2, which no transaction of a server has (FrozenTransactionId); no other transaction is
+  open where it begins, nor is any streamed: sessions ask for whole transactions from before the
+  slot is made until the rows are stored. Thus each Begin tells the final LSN before the changes
+  that it decides on.
+- The Truncate drops what the copy has of the table, whatever that is, so that an Insert can't clash
+  with it.
 
-So what the filter gets is a session of a history: the server's, without the changes of the table in commits below P that were not
-stored before, and with one more commit. Its LSNs rise, each change has its Relation before it in the session (those of the table come
-with its own transaction, and the server's are passed on), and each keepalive's end is below the end of every later commit with changes.
-That is proved, wherever a session is cut off: by the laws of `crates/pgadding` (specs/Laws.antt). Beyond what they take from the paragraphs
-above, and what holds of any server, they ask two things of it (specs/Around.antt):
+So what the filter gets is a session of a history: the server's, without the changes of the table in
+commits below P that were not stored before, and with one more commit. Its LSNs rise, each change
+has its Relation before it in the session (those of the table come with its own transaction, and the
+server's are passed on), and each keepalive's end is below the end of every later commit with
+changes. That is proved, wherever a session is cut off: by the laws of `crates/pgadding`
+(specs/Laws.antt). Beyond what they take from the paragraphs above, and what holds of any server,
+they ask two things of it (specs/Around.antt):
 
-- `KeepalivesTell`: what begins behind a keepalive between transactions has a final LSN of its end or above, also where it changes nothing.
-- `KeepsDefinition`: the changes behind P have the definition that came with the rows. That is the server's last one of the table in this
-  session, or the server sends another Relation message before the next change of the table.
+- `KeepalivesTell`: what begins behind a keepalive between transactions has a final LSN of its end
+  or above, also where it changes nothing.
+- `KeepsDefinition`: the changes behind P have the definition that came with the rows. That is the
+  server's last one of the table in this session, or the server sends another Relation message
+  before the next change of the table.
 
-A server keeps the second where what its changes come from is altered, as any table that isn't partitioned. It doesn't where a partitioned
-table is published under its own name (publish_via_partition_root) and altered alone, in its name or replica identity: it notes by partition
-what it has described (`maybe_send_schema` in src/backend/replication/pgoutput/pgoutput.c), and none was altered. So where the Relation
-message of the rows isn't the last one of the table that was passed on in the session, nothing behind P is passed on in it. Once the rows are
-stored it ends, and the next one begins at P and describes each table anew. That is all that it mends: where partitions log no old rows that
-fit the replica identity of their root, any new session has changes that can't be applied.
+A server keeps the second where what its changes come from is altered, as any table that isn't
+partitioned. It doesn't where a partitioned table is published under its own name
+(publish_via_partition_root) and altered alone, in its name or replica identity: it notes by
+partition what it has described (`maybe_send_schema` in
+src/backend/replication/pgoutput/pgoutput.c), and none was altered. So where the Relation message of
+the rows isn't the last one of the table that was passed on in the session, nothing behind P is
+passed on in it. Once the rows are stored it ends, and the next one begins at P and describes each
+table anew. That is all that it mends: where partitions log no old rows that fit the replica
+identity of their root, any new session has changes that can't be applied.
 
-PostgreSQL's own table synchronisation differs in that it reads the rest, from its snapshot to where the others are, from a second slot.
+PostgreSQL's own table synchronisation differs in that it reads the rest, from its snapshot to where
+the others are, from a second slot.
 
-What a fault leaves at each step. The checkpoint has `adding`: for each table the P at which its rows are stored, 0 as long as that isn't
-known. It is written durably before what it says is done:
+What a fault leaves at each step. The checkpoint has `adding`: for each table the P at which its
+rows are stored, 0 as long as that isn't known. It is written durably before what it says is done:
 
 | Cut | `adding` | The store | How it goes on |
 |---|---|---|---|
@@ -58,11 +74,12 @@ known. It is written durably before what it says is done:
 | after P is noted, before the rows are stored | P | at a position below P | P becomes 0, as the snapshot is gone, and a slot is made anew |
 | after the rows are stored | P | at P or above | the table leaves `adding` |
 
-A position of P or above tells that the rows are stored, since no commit that ends there is passed on before them; and P becomes 0 before
-a session without the snapshot passes anything on. Nothing is confirmed that isn't stored: statuses come from the filter alone, and one
-with P or above comes only once it has the rows' commit, or a keepalive or commit behind it. A session that ends within the rows'
-transaction loses it as a whole. One that is to end behind it may be lost at any time: nothing is noted of that, since each next session
-describes the tables anew.
+A position of P or above tells that the rows are stored, since no commit that ends there is passed
+on before them; and P becomes 0 before a session without the snapshot passes anything on. Nothing is
+confirmed that isn't stored: statuses come from the filter alone, and one with P or above comes only
+once it has the rows' commit, or a keepalive or commit behind it. A session that ends within the
+rows' transaction loses it as a whole. One that is to end behind it may be lost at any time: nothing
+is noted of that, since each next session describes the tables anew.
 """
 
 from __future__ import annotations
@@ -70,14 +87,15 @@ from __future__ import annotations
 import struct
 from collections.abc import Sequence
 
-from ..errors import ServerError
 from ..copy.messages import InsertHeads, begin, commit, frame, inserts, relation
+from ..errors import ServerError
 from ..follow.stream_log import BEGIN, CHANGES, COMMIT, RELATION, START, TRUNCATE, final_lsn
 from ..server.publications import Table
 
 # FrozenTransactionId.
 XID = 2
-# What CopyData and XLogData add to a message, and what the filter adds where it buffers one, in bytes.
+# What CopyData and XLogData add to a message, and what the filter adds where it buffers one, in
+# bytes.
 AROUND, BUFFERED = 30, 8
 
 
@@ -133,28 +151,36 @@ class Leaving:
         return passed
 
     def is_beyond(self, keepalive: bytes) -> bool:
-        """Whether a keepalive within a transaction says more than may be confirmed before the rows of some table are stored."""
+        """Whether a keepalive within a transaction says more than may be confirmed before the rows
+        of some table are stored."""
         end = int.from_bytes(keepalive[1:9], "big")
         return self.is_inside and any(self.lsn < it <= end for it in self.points.values())
 
     def has_described_otherwise(self, message: bytes) -> bool:
-        """Whether a Relation message of this one's table was passed on in this session, and the last of them is another one."""
+        """Whether a Relation message of this one's table was passed on in this session, and the
+        last of them is another one."""
         return self.described.get(message[1:5], message) != message
 
     def truncation(self, payload: bytes) -> bytes:
-        """A Truncate without the tables whose changes are left out; nothing where no other is left."""
+        """A Truncate without the tables whose changes are left out; nothing where no other is
+        left."""
         oids = [payload[at : at + 4] for at in range(31, len(payload) - 3, 4)]
         left = [it for it in oids if not self.leaves_out(it)]
         if len(left) == len(oids):
             return payload
-        return payload[:26] + struct.pack(">I", len(left)) + payload[30:31] + b"".join(left) if left else b""
+        return (
+            payload[:26] + struct.pack(">I", len(left)) + payload[30:31] + b"".join(left)
+            if left
+            else b""
+        )
 
 
 class Rows:
-    """The transaction of a table's rows at P, as frames: what opens it, some rows after the other, and what closes it.
+    """The transaction of a table's rows at P, as frames: what opens it, some rows after the other,
+    and what closes it.
 
-    `cost`: how much the filter buffers of it, in bytes; `longest`: the length of the longest payload so far. `clock`: when it is made,
-    in microseconds since 2000.
+    `cost`: how much the filter buffers of it, in bytes; `longest`: the length of the longest
+    payload so far. `clock`: when it is made, in microseconds since 2000.
     """
 
     def __init__(self, table: Table, point: int, clock: int) -> None:
@@ -175,7 +201,10 @@ class Rows:
         self.count += len(lines)
         self.cost += len(frames) - (AROUND - BUFFERED) * len(lines)
         # (a cell's head has five bytes, of which a separator is in the line)
-        self.longest = max(self.longest, len(max(lines, key=len)) + 4 * self.heads.width + len(self.heads.insert) + AROUND - 5)
+        self.longest = max(
+            self.longest,
+            len(max(lines, key=len)) + 4 * self.heads.width + len(self.heads.insert) + AROUND - 5,
+        )
         return frames
 
     def closing(self) -> bytes:

@@ -1,7 +1,8 @@
-"""`pgsub-connect add`: has the follower of a store copy tables anew beside what it follows, as the module `adding` says.
+"""`pgsub-connect add`: has the follower of a store copy tables anew beside what it follows, as the
+module `adding` says.
 
-What is wanted is noted in `STORE.tables`: by the follower, which is asked for it by the request file, or here, where none runs. The
-follower goes on with it whatever becomes of who asked.
+What is wanted is noted in `STORE.tables`: by the follower, which is asked for it by the request
+file, or here, where none runs. The follower goes on with it whatever becomes of who asked.
 """
 
 from __future__ import annotations
@@ -15,23 +16,33 @@ from types import MappingProxyType
 from typing import TYPE_CHECKING
 
 from pgsub_feed import log
-from .drop import locked, read_known
-from ..errors import Passing, ServerError, Stopped
-from ..server.publication_setup import names_of
-from ..verify.meeting_point import chosen
-from ..server.connection import Check, Connection
-from ..server.publications import Table, published_tables
-from ..drift.remembered import Remembered
-from ..store.at_rest import LOOK, check_there, is_followed, own_name, put_request, read_request, remove_files
-from ..server.session import settle
-from ..store.snapshot import remove
 from pgsub_feed.texts import counted
+
+from ..drift.remembered import Remembered
+from ..errors import Passing, ServerError, Stopped
+from ..server.connection import Check, Connection
+from ..server.publication_setup import names_of
+from ..server.publications import Table, published_tables
+from ..server.session import settle
+from ..store.at_rest import (
+    LOOK,
+    check_there,
+    is_followed,
+    own_name,
+    put_request,
+    read_request,
+    remove_files,
+)
+from ..store.snapshot import remove
+from ..verify.meeting_point import chosen
+from .drop import locked, read_known
 
 if TYPE_CHECKING:
     from .options import Options
 
 DONE, REFUSED = 0, 1
-# How long a follower may take until it has answered a request, in seconds: it may be about to connect, or to open its store.
+# How long a follower may take until it has answered a request, in seconds: it may be about to
+# connect, or to open its store.
 PATIENCE = 120.0
 # How often it is looked whether tables are there, in seconds.
 WAIT = 0.3
@@ -49,14 +60,26 @@ def run(options: Options, check: Check) -> int:
     """Adds tables; the exit status."""
     check_there(options.store)
     options.slot = read_known(options.store + ".connector").slot or options.slot
-    return add(options, {it.oid: it.text() for it in chosen(read_published(options, check), options.table)}, check)
+    return add(
+        options,
+        {it.oid: it.text() for it in chosen(read_published(options, check), options.table)},
+        check,
+    )
 
 
-def add(options: Options, adds: dict[int, str], check: Check, removes: Mapping[int, str] = MappingProxyType({})) -> int:
-    """Has tables added, by their OIDs, and the rows of others removed, and waits for it; the exit status."""
+def add(
+    options: Options,
+    adds: dict[int, str],
+    check: Check,
+    removes: Mapping[int, str] = MappingProxyType({}),
+) -> int:
+    """Has tables added, by their OIDs, and the rows of others removed, and waits for it; the exit
+    status."""
     tables = {**adds, **removes}
     parts = [f"adds {names_of(list(adds.values()))}"] if adds else []
-    names = " and ".join([*parts, *([f"removes the rows of {names_of(list(removes.values()))}"] if removes else [])])
+    names = " and ".join(
+        [*parts, *([f"removes the rows of {names_of(list(removes.values()))}"] if removes else [])]
+    )
     while True:
         if is_followed(options.store):
             if ask(options.store, check, add=list(adds), remove=list(removes)):
@@ -80,7 +103,11 @@ def ask(store: str, check: Check, **oids: list[int]) -> bool:
         return False
     try:
         until = time.monotonic() + PATIENCE
-        while (found := read_request(request)).get("into") == into or os.path.exists(request) and not found:
+        while (
+            (found := read_request(request)).get("into") == into
+            or os.path.exists(request)
+            and not found
+        ):
             if "error" in found:
                 raise ServerError(f"{store}: its follower adds none: {found['error']}", "42")
             if not is_followed(store):
@@ -125,7 +152,9 @@ def wait(options: Options, tables: dict[int, str], check: Check) -> int:
                 continue
             del left[oid]
         if left and not is_followed(options.store):
-            raise Passing(f"{options.store} isn't followed any more: the next start adds {names_of(list(left.values()))}")
+            raise Passing(
+                f"{options.store} isn't followed any more: the next start adds {names_of(list(left.values()))}"
+            )
         check()
         time.sleep(WAIT)
     log.info(f"{counted(len(tables), 'table')}: {'done' if status == DONE else 'not all are done'}")

@@ -9,12 +9,13 @@ import sys
 from collections.abc import Callable, Iterator
 from typing import TYPE_CHECKING
 
-from ..errors import ServerError, UsageError
-from ..server.preflight import Facts, all_facts, role_facts, server_facts, tables_facts
 from pgsub_feed.log import escaped
-from ..server.publication_setup import REFUSED, Wanted, inserts_of, keyless_text, members, names_of
-from ..server.connection import Check, Connection, never
 from pgsub_feed.texts import counted
+
+from ..errors import ServerError, UsageError
+from ..server.connection import Check, Connection, never
+from ..server.preflight import Facts, all_facts, role_facts, server_facts, tables_facts
+from ..server.publication_setup import REFUSED, Wanted, inserts_of, keyless_text, members, names_of
 from ..server.transport import CURE, OWN
 
 if TYPE_CHECKING:
@@ -22,13 +23,21 @@ if TYPE_CHECKING:
 
 OK, WARNING, ERROR = "ok", "warning", "error"
 # what a version of the server has first
-OLDEST, COPIES, STREAMS, FILTERS, STANDBYS, FAILOVER = 100000, 120000, 140000, 150000, 160000, 170000
+OLDEST, COPIES, STREAMS, FILTERS, STANDBYS, FAILOVER = (
+    100000,
+    120000,
+    140000,
+    150000,
+    160000,
+    170000,
+)
 # A walsender that has to answer more often than this may be given up by the server for a pause.
 SHORTEST_TIMEOUT = 5000
 # SQL's word for a right that is missing
 DENIED = "42501"
 # Which of the results end a copy before anything is made.
-# (Whether the role may replicate, the server has said by letting in the connection by which a copy begins.)
+# (Whether the role may replicate, the server has said by letting in the connection by which a copy
+# begins.)
 REQUIRED = ("version", "wal_level", "replication_slots", "standby", "encoding")
 
 
@@ -74,7 +83,8 @@ def judge_version(facts: Facts, purpose: Purpose) -> Judged:
     lacks = [
         what
         for since, what in (
-            (130000, "no partitioned tables in publications"), (STREAMS, "large transactions come whole, by protocol version 1"),
+            (130000, "no partitioned tables in publications"),
+            (STREAMS, "large transactions come whole, by protocol version 1"),
             (FILTERS, "no row filters and column lists"),
         )
         if version < since
@@ -82,7 +92,9 @@ def judge_version(facts: Facts, purpose: Purpose) -> Judged:
     if version < OLDEST:
         yield Result(ERROR, "version", f"{text}: logical replication needs 10")
     elif version < COPIES and purpose.copies and not purpose.has_store:
-        yield Result(ERROR, "version", f"{text}: the initial copy needs 12; --no-copy begins without rows")
+        yield Result(
+            ERROR, "version", f"{text}: the initial copy needs 12; --no-copy begins without rows"
+        )
     else:
         yield Result(OK, "version", "; ".join([text, *lacks]))
     if purpose.failover:
@@ -97,7 +109,11 @@ def judge_wal_level(facts: Facts, purpose: Purpose) -> Judged:
     if level == "logical":
         yield Result(OK, "wal_level", level)
     else:
-        yield Result(ERROR, "wal_level", f"{level}: it has to be logical, which needs a restart of the server")
+        yield Result(
+            ERROR,
+            "wal_level",
+            f"{level}: it has to be logical, which needs a restart of the server",
+        )
 
 
 def judge_slots(facts: Facts, purpose: Purpose) -> Judged:
@@ -124,13 +140,22 @@ def judge_senders(facts: Facts, purpose: Purpose) -> Judged:
 
 
 def judge_role(facts: Facts, purpose: Purpose) -> Judged:
-    """By the server's word: some let in members of a role of their own, as Amazon RDS those of rds_replication."""
+    """By the server's word: some let in members of a role of their own, as Amazon RDS those of
+    rds_replication."""
     role = facts.role
     if role.replicates or facts.has_replicated:
-        yield Result(OK, "role", f"{role.name} may replicate{'' if role.replicates else ', since the server has let it'}")
+        yield Result(
+            OK,
+            "role",
+            f"{role.name} may replicate{'' if role.replicates else ', since the server has let it'}",
+        )
     else:
         granted = f", or GRANT {facts.replicators} TO {role.name}" if facts.replicators else ""
-        yield Result(ERROR, "role", f"{role.name} lacks REPLICATION: ALTER ROLE {role.name} REPLICATION{granted}")
+        yield Result(
+            ERROR,
+            "role",
+            f"{role.name} lacks REPLICATION: ALTER ROLE {role.name} REPLICATION{granted}",
+        )
 
 
 def judge_making(facts: Facts, purpose: Purpose) -> Judged:
@@ -143,28 +168,52 @@ def judge_making(facts: Facts, purpose: Purpose) -> Judged:
     if purpose.has_store:
         yield Result(ERROR, "publication", f"not there, and the store follows it: {names}")
     elif not purpose.makes:
-        yield Result(ERROR, "publication", f"not there, and --no-copy without --create makes none: {names}")
+        yield Result(
+            ERROR, "publication", f"not there, and --no-copy without --create makes none: {names}"
+        )
     elif facts.is_standby:
         yield Result(ERROR, "publication", f"not there, and can't be made at a standby: {names}")
     elif purpose.all_tables and not role.is_superuser:
-        yield Result(ERROR, "publication", f"not there; one for all tables is made by a superuser, which {role.name} isn't: {names}")
+        yield Result(
+            ERROR,
+            "publication",
+            f"not there; one for all tables is made by a superuser, which {role.name} isn't: {names}",
+        )
     elif not role.creates:
-        yield Result(ERROR, "publication", f"not there, and {role.name} lacks CREATE on the database {facts.database}: {names}")
+        yield Result(
+            ERROR,
+            "publication",
+            f"not there, and {role.name} lacks CREATE on the database {facts.database}: {names}",
+        )
     elif foreign and not role.is_superuser:
-        yield Result(ERROR, "publication", f"not there, and {role.name} doesn't own all tables that are to be in it: {names_of(foreign)}")
+        yield Result(
+            ERROR,
+            "publication",
+            f"not there, and {role.name} doesn't own all tables that are to be in it: {names_of(foreign)}",
+        )
     else:
-        yield Result(OK, "publication", f"not there, and can be made with {counted(len(facts.tables), 'table')}: {names}")
+        yield Result(
+            OK,
+            "publication",
+            f"not there, and can be made with {counted(len(facts.tables), 'table')}: {names}",
+        )
 
 
 def judge_publications(facts: Facts, purpose: Purpose) -> Judged:
     yield from judge_making(facts, purpose)
     for name in facts.unknown:
-        yield Result(ERROR, "publication", f"no table, or none that {facts.role.name} can see: {name}")
+        yield Result(
+            ERROR, "publication", f"no table, or none that {facts.role.name} can see: {name}"
+        )
     for publication in facts.publications:
         if not publication.is_there:
             continue
         if publication.leaves_out and not publication.name.endswith(inserts_of("")):
-            yield Result(WARNING, "publication", f"{publication.name} leaves out: {', '.join(publication.leaves_out)}")
+            yield Result(
+                WARNING,
+                "publication",
+                f"{publication.name} leaves out: {', '.join(publication.leaves_out)}",
+            )
         else:
             yield Result(OK, "publication", f"{publication.name} is there")
     if not facts.tables and not facts.unknown:
@@ -177,15 +226,29 @@ def judge_identities(facts: Facts, purpose: Purpose) -> Judged:
     mixed = [name for it in facts.publications for name in it.mixed]
     if keyless:
         names = names_of(keyless)
-        yield Result(ERROR, "identity", f"published without a replica identity, so the server rejects Updates and Deletes: {names}")
+        yield Result(
+            ERROR,
+            "identity",
+            f"published without a replica identity, so the server rejects Updates and Deletes: {names}",
+        )
     if to_come and (purpose.keyless == "refuse" or purpose.all_tables):
         yield Result(ERROR, "identity", keyless_text(to_come, purpose.all_tables))
     elif to_come:
-        yield Result(WARNING, "identity", f"without a replica identity, so not published or for Inserts alone: {names_of(to_come)}")
+        yield Result(
+            WARNING,
+            "identity",
+            f"without a replica identity, so not published or for Inserts alone: {names_of(to_come)}",
+        )
     if mixed:
-        yield Result(WARNING, "identity", f"partitions with another replica identity than the table above them: {names_of(mixed)}")
+        yield Result(
+            WARNING,
+            "identity",
+            f"partitions with another replica identity than the table above them: {names_of(mixed)}",
+        )
     if not keyless and not to_come and not mixed:
-        yield Result(OK, "identity", f"{counted(len(facts.tables), 'table')} with a replica identity")
+        yield Result(
+            OK, "identity", f"{counted(len(facts.tables), 'table')} with a replica identity"
+        )
 
 
 def judge_reading(facts: Facts, purpose: Purpose) -> Judged:
@@ -205,7 +268,11 @@ def judge_reading(facts: Facts, purpose: Purpose) -> Judged:
         text = "may read some columns alone; the copy locks a table while it reads, which needs SELECT on all of it"
         yield Result(ERROR, "select", f"{role} {text}: {names_of(partly)}")
     if hidden:
-        yield Result(ERROR, "row_security", f"policies hide rows from {role}, which BYPASSRLS ends: {names_of(hidden)}")
+        yield Result(
+            ERROR,
+            "row_security",
+            f"policies hide rows from {role}, which BYPASSRLS ends: {names_of(hidden)}",
+        )
     if not closed + denied + partly + hidden:
         yield Result(OK, "select", f"{role} can read {counted(len(tables), 'table')}")
 
@@ -216,20 +283,28 @@ def judge_slot(facts: Facts, purpose: Purpose) -> Judged:
         if purpose.has_store:
             yield Result(ERROR, "slot", f"{name} isn't there, and the store follows it: copy anew")
         elif not purpose.makes:
-            yield Result(ERROR, "slot", f"{name} isn't there, and --no-copy without --create makes none")
+            yield Result(
+                ERROR, "slot", f"{name} isn't there, and --no-copy without --create makes none"
+            )
         else:
             yield Result(OK, "slot", f"{name} isn't there, and can be made")
     elif slot.plugin != "pgoutput" or not slot.is_here:
-        yield Result(ERROR, "slot", f"{name} is not one of pgoutput in the database {facts.database}")
+        yield Result(
+            ERROR, "slot", f"{name} is not one of pgoutput in the database {facts.database}"
+        )
     elif slot.is_two_phase:
         yield Result(ERROR, "slot", f"{name} is one for two-phase commits, which aren't followed")
     elif slot.wal_status == "lost" or slot.why_invalid:
         why = f" ({slot.why_invalid})" if slot.why_invalid else ""
         yield Result(ERROR, "slot", f"{name} is lost{why}: drop it and copy anew")
     elif not purpose.has_store and purpose.copies:
-        yield Result(ERROR, "slot", f"{name} is there already, and no store: drop it, or name another one")
+        yield Result(
+            ERROR, "slot", f"{name} is there already, and no store: drop it, or name another one"
+        )
     else:
-        yield from judge_slot_size(slot.wal_status, slot.safe_wal_size, f"{name}{', active' if slot.is_active else ''}")
+        yield from judge_slot_size(
+            slot.wal_status, slot.safe_wal_size, f"{name}{', active' if slot.is_active else ''}"
+        )
         if purpose.failover and not slot.is_failover:
             yield Result(WARNING, "failover", f"{name} isn't handed on to standbys")
 
@@ -250,11 +325,19 @@ def judge_keeping(facts: Facts, purpose: Purpose) -> Judged:
             text = "no limit: the log of a follower that is off is kept until the disk is full"
             yield Result(WARNING, "max_slot_wal_keep_size", text)
         else:
-            yield Result(OK, "max_slot_wal_keep_size", f"a slot that keeps more than {size} MB of log is lost")
+            yield Result(
+                OK,
+                "max_slot_wal_keep_size",
+                f"a slot that keeps more than {size} MB of log is lost",
+            )
     if "idle_replication_slot_timeout" in facts.settings:
         idle = number(facts, "idle_replication_slot_timeout")
         if idle > 0:
-            yield Result(WARNING, "idle_replication_slot_timeout", f"the slot of a follower that is off for {idle} s is lost")
+            yield Result(
+                WARNING,
+                "idle_replication_slot_timeout",
+                f"the slot of a follower that is off for {idle} s is lost",
+            )
         else:
             yield Result(OK, "idle_replication_slot_timeout", "no limit")
 
@@ -265,7 +348,9 @@ def judge_sender_timeout(facts: Facts, purpose: Purpose) -> Judged:
         text = "no limit: a connector that hangs is never given up, and may keep the server's checkpoints waiting; 1min is the default"
         yield Result(WARNING, "wal_sender_timeout", text)
     elif milliseconds < SHORTEST_TIMEOUT:
-        yield Result(WARNING, "wal_sender_timeout", f"{milliseconds} ms: any pause may end a session")
+        yield Result(
+            WARNING, "wal_sender_timeout", f"{milliseconds} ms: any pause may end a session"
+        )
     else:
         yield Result(OK, "wal_sender_timeout", f"{milliseconds} ms")
 
@@ -283,20 +368,33 @@ def judge_standby(facts: Facts, purpose: Purpose) -> Judged:
     if not facts.is_standby:
         yield Result(OK, "standby", "not a standby")
     elif facts.version < STANDBYS:
-        yield Result(ERROR, "standby", f"PostgreSQL {version_text(facts.version)} can't be followed at a standby, which needs 16")
+        yield Result(
+            ERROR,
+            "standby",
+            f"PostgreSQL {version_text(facts.version)} can't be followed at a standby, which needs 16",
+        )
     else:
-        yield Result(WARNING, "standby", "a standby: a copy waits until the primary logs its running transactions")
+        yield Result(
+            WARNING,
+            "standby",
+            "a standby: a copy waits until the primary logs its running transactions",
+        )
 
 
 def judge_prepared(facts: Facts, purpose: Purpose) -> Judged:
     if facts.prepared and not purpose.has_store:
-        yield Result(WARNING, "prepared_transactions", f"a copy waits for the end of {names_of(facts.prepared)}")
+        yield Result(
+            WARNING,
+            "prepared_transactions",
+            f"a copy waits for the end of {names_of(facts.prepared)}",
+        )
     else:
         yield Result(OK, "prepared_transactions", "none in the way")
 
 
 def judge_locks(facts: Facts, purpose: Purpose) -> Judged:
-    """The shared table of locks has room for so many a transaction, and all transactions share it."""
+    """The shared table of locks has room for so many a transaction, and all transactions share
+    it."""
     each = number(facts, "max_locks_per_transaction")
     room = each * (number(facts, "max_connections") + number(facts, "max_prepared_transactions"))
     text = f"a copy holds {facts.relations} locks, the server has room for about {room}"
@@ -304,20 +402,40 @@ def judge_locks(facts: Facts, purpose: Purpose) -> Judged:
         yield Result(OK, "locks", text)
     else:
         level = ERROR if facts.relations > room else WARNING
-        yield Result(level, "locks", f"{text}: raise max_locks_per_transaction, which needs a restart of the server")
+        yield Result(
+            level,
+            "locks",
+            f"{text}: raise max_locks_per_transaction, which needs a restart of the server",
+        )
 
 
 def judge_encoding(facts: Facts, purpose: Purpose) -> Judged:
     encoding = facts.settings.get("server_encoding", "")
     if encoding == "SQL_ASCII":
-        yield Result(WARNING, "encoding", "SQL_ASCII: text that isn't UTF-8 ends the copy, or the following")
+        yield Result(
+            WARNING, "encoding", "SQL_ASCII: text that isn't UTF-8 ends the copy, or the following"
+        )
     else:
         yield Result(OK, "encoding", encoding)
 
 
 JUDGES: tuple[Callable[[Facts, Purpose], Judged], ...] = (
-    judge_version, judge_wal_level, judge_slots, judge_senders, judge_role, judge_publications, judge_identities, judge_reading,
-    judge_slot, judge_keeping, judge_sender_timeout, judge_connection, judge_standby, judge_prepared, judge_locks, judge_encoding,
+    judge_version,
+    judge_wal_level,
+    judge_slots,
+    judge_senders,
+    judge_role,
+    judge_publications,
+    judge_identities,
+    judge_reading,
+    judge_slot,
+    judge_keeping,
+    judge_sender_timeout,
+    judge_connection,
+    judge_standby,
+    judge_prepared,
+    judge_locks,
+    judge_encoding,
 )
 
 
@@ -330,14 +448,26 @@ def purpose_of(options: Options) -> Purpose:
     has_store = bool(options.store and os.path.exists(options.store))
     # (where nothing is said of a start without a store, it is one with --create)
     makes, copies = bool(options.create) or not options.no_copy, not options.no_copy
-    return Purpose(options.slot, has_store, makes, copies, options.failover, options.keyless, options.all_tables)
+    return Purpose(
+        options.slot,
+        has_store,
+        makes,
+        copies,
+        options.failover,
+        options.keyless,
+        options.all_tables,
+    )
 
 
 def require(connection: Connection, options: Options, copies: bool) -> None:
     """Ends a start where the server can't do, before anything is made there."""
-    facts, purpose = server_facts(connection, options.slot), dataclasses.replace(purpose_of(options), copies=copies)
+    facts, purpose = server_facts(connection, options.slot), dataclasses.replace(
+        purpose_of(options), copies=copies
+    )
     if purpose.failover and facts.version < FAILOVER:
-        raise UsageError(f"--failover needs PostgreSQL 17, and this is {version_text(facts.version)}")
+        raise UsageError(
+            f"--failover needs PostgreSQL 17, and this is {version_text(facts.version)}"
+        )
     for result in results(facts, purpose):
         if result.level == ERROR and result.name in REQUIRED:
             raise ServerError(f"{result.name}: {result.text}", REFUSED)
@@ -345,7 +475,10 @@ def require(connection: Connection, options: Options, copies: bool) -> None:
 
 def require_reading(connection: Connection, publications: list[str]) -> None:
     """Ends a copy whose rows the role can't read."""
-    facts = Facts(role=role_facts(connection), tables=tables_facts(connection, " UNION ".join(map(members, publications))))
+    facts = Facts(
+        role=role_facts(connection),
+        tables=tables_facts(connection, " UNION ".join(map(members, publications))),
+    )
     texts = [it.text for it in judge_reading(facts, Purpose()) if it.level == ERROR]
     if texts:
         raise ServerError("; ".join(texts), DENIED)

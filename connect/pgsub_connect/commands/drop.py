@@ -1,4 +1,5 @@
-"""`pgsub-connect drop`: takes away a follower that isn't wanted any more: its slot, its publications and its files."""
+"""`pgsub-connect drop`: takes away a follower that isn't wanted any more: its slot, its
+publications and its files."""
 
 from __future__ import annotations
 
@@ -12,23 +13,25 @@ from collections.abc import Callable, Iterator
 from typing import TYPE_CHECKING, Any
 
 from pgsub_feed import log
+from pgsub_feed.json_texts import Unreadable, object_of, open_plain, whole_of
+from pgsub_feed.texts import identifier, literal
+
+from ..drift.remembered_lines import read_lines
+from ..errors import FileError, Passing, Unfit, understood
+from ..server.connection import TICK, Check, Connection, never
+from ..server.publication_setup import inserts_of, oid_of, other_slots
+from ..server.session import Server, database_oid, is_same_database, settle
+from ..store.at_rest import own_files
 from ..store.checkpoint import Known, has_name
 from ..store.checkpoint_lines import read_file
-from ..errors import FileError, Passing, Unfit, understood
-from pgsub_feed.json_texts import Unreadable, object_of, open_plain, whole_of
-from ..server.publication_setup import inserts_of, oid_of, other_slots
 from ..store.placing import OF_COPY, OF_STORE
-from ..server.connection import Check, Connection, TICK, never
-from ..store.at_rest import own_files
-from ..server.session import Server, database_oid, is_same_database, settle
 from ..store.snapshot import OF_FILE, meant
-from ..drift.remembered_lines import read_lines
-from pgsub_feed.texts import identifier, literal
 
 if TYPE_CHECKING:
     from .options import Options
 
-# Beside which names processes make files for themselves: copies that a follower is asked for, and exports with which a sink begins.
+# Beside which names processes make files for themselves: copies that a follower is asked for, and
+# exports with which a sink begins.
 ASKED = (".export", ".base")
 # How long a slot that was just left by its connection is waited for.
 PATIENCE = 5.0
@@ -51,7 +54,8 @@ def read_known(path: str) -> Known:
 
 
 def read_remembered(path: str) -> dict[str, Any]:
-    """What is remembered beside the store; nothing where that can't be read, since it is only asked for names."""
+    """What is remembered beside the store; nothing where that can't be read, since it is only asked
+    for names."""
     with contextlib.suppress(OSError, Unreadable):
         return read_lines(path)[0]
     return {}
@@ -66,7 +70,8 @@ def made_publications(remembered: dict[str, Any]) -> dict[str, int]:
 
 @contextlib.contextmanager
 def locked(path: str) -> Iterator[None]:
-    """Holds the checkpoint's lock, so that no connector begins meanwhile. Raises where one is at work."""
+    """Holds the checkpoint's lock, so that no connector begins meanwhile. Raises where one is at
+    work."""
     try:
         file = os.open(path, os.O_RDWR | os.O_CLOEXEC)
     except FileNotFoundError:
@@ -78,7 +83,9 @@ def locked(path: str) -> Iterator[None]:
         try:
             fcntl.flock(file, fcntl.LOCK_EX | fcntl.LOCK_NB)
         except BlockingIOError:
-            raise Passing(f"{path}: a connector or its filter is at work on this store: end it first") from None
+            raise Passing(
+                f"{path}: a connector or its filter is at work on this store: end it first"
+            ) from None
         if not has_name(file, path):
             raise Passing(f"{path} was removed meanwhile")
         yield
@@ -88,13 +95,25 @@ def locked(path: str) -> Iterator[None]:
 
 def files_of(store: str) -> list[str]:
     """The files of a store that are there, the checkpoint last."""
-    folder, there, patterns = os.path.dirname(store), list[str](), [own_files(store + it) for it in ASKED]
+    folder, there, patterns = (
+        os.path.dirname(store),
+        list[str](),
+        [own_files(store + it) for it in ASKED],
+    )
     with contextlib.suppress(FileNotFoundError):
         there = sorted(os.listdir(folder or "."))
-    asked = [os.path.join(folder, name) for name in there if any(it.fullmatch(name) for it in patterns)]
+    asked = [
+        os.path.join(folder, name) for name in there if any(it.fullmatch(name) for it in patterns)
+    ]
     # (the program has its own ones beside what a link leads to)
-    linked = [meant(store) + it for it in (*OF_COPY, *OF_FILE[1:], "")] if os.path.islink(store) else []
-    return [path for path in (*asked, *linked, *(store + it for it in OF_STORE)) if os.path.lexists(path)]
+    linked = (
+        [meant(store) + it for it in (*OF_COPY, *OF_FILE[1:], "")] if os.path.islink(store) else []
+    )
+    return [
+        path
+        for path in (*asked, *linked, *(store + it for it in OF_STORE))
+        if os.path.lexists(path)
+    ]
 
 
 Ask = Callable[[str], bool]
@@ -103,7 +122,9 @@ Ask = Callable[[str], bool]
 def ask_terminal(question: str, check: Check = never, command: str = "drop") -> bool:
     """Asks on the terminal. Nobody there is a no. What `check` raises meanwhile ends it."""
     if not sys.stdin.isatty():
-        raise Unfit(f"{command} asks on the terminal, and there is none: say --yes to {command} without asking")
+        raise Unfit(
+            f"{command} asks on the terminal, and there is none: say --yes to {command} without asking"
+        )
     sys.stderr.write(f"{log.escaped(question)} [y/N] ")
     sys.stderr.flush()
     while not select.select([sys.stdin], [], [], TICK)[0]:
@@ -130,9 +151,12 @@ class Dropper:
         self.slot = self.known.slot or options.slot
 
     def run(self) -> None:
-        """Slot first, since the server's disk fills because of it; files last, since they say what else there is."""
+        """Slot first, since the server's disk fills because of it; files last, since they say what
+        else there is."""
         if self.known.slot and self.options.slot not in ("pgsub", self.known.slot):
-            raise Unfit(f"the store follows the slot {self.known.slot}, and not {self.options.slot}")
+            raise Unfit(
+                f"the store follows the slot {self.known.slot}, and not {self.options.slot}"
+            )
         with locked(self.store + ".connector"):
             connection = Connection(self.options.dsn, name=f"{self.slot} drop", check=self.check)
             try:
@@ -154,8 +178,12 @@ class Dropper:
         system, database = connection.rows(
             "SELECT s.system_identifier, pg_catalog.current_database() FROM pg_catalog.pg_control_system() s"
         )[0]
-        server = Server(system or "", 0, 0, database or "", False, database_oid=database_oid(connection))
-        if system != known.system or not is_same_database(known.database, noted_database(self.remembered), server):
+        server = Server(
+            system or "", 0, 0, database or "", False, database_oid=database_oid(connection)
+        )
+        if system != known.system or not is_same_database(
+            known.database, noted_database(self.remembered), server
+        ):
             raise Unfit(
                 f"the store follows the database {known.database} of the server {known.system}, and this is {database} of {system}"
             )
@@ -177,10 +205,14 @@ class Dropper:
             time.sleep(0.2)
             rows = connection.rows(query)
         if rows and rows[0][0] == "t":
-            raise Passing(f"the slot {self.slot} is active: end the connector that follows it first")
+            raise Passing(
+                f"the slot {self.slot} is active: end the connector that follows it first"
+            )
         if rows and rows[0][1] != "t":
             raise Unfit(f"the slot {self.slot} is not one of pgoutput in this database")
-        if not self.ask(f"drop the slot {self.slot} of {connection.parameter('server_version')}, with all that it hasn't sent?"):
+        if not self.ask(
+            f"drop the slot {self.slot} of {connection.parameter('server_version')}, with all that it hasn't sent?"
+        ):
             log.info("the slot stays, and so do the files")
             return False
         connection.rows(f"SELECT pg_catalog.pg_drop_replication_slot({literal(self.slot)})")
@@ -202,16 +234,23 @@ class Dropper:
         return found
 
     def drop_publications(self, connection: Connection) -> None:
-        """Asks for each publication. Those that it isn't known to have made are dropped by a word on the terminal alone."""
+        """Asks for each publication. Those that it isn't known to have made are dropped by a word
+        on the terminal alone."""
         others = other_slots(connection, self.slot)
         for name, is_ours in self.candidates(connection):
             more = f"; other slots may use it: {', '.join(others)}" if others else ""
             if not is_ours and self.options.yes:
-                log.info(f"the publication {name} stays: it isn't known to be made by this connector{more}")
+                log.info(
+                    f"the publication {name} stays: it isn't known to be made by this connector{more}"
+                )
             elif others and self.options.yes:
                 log.info(f"the publication {name} stays{more}")
-            elif self.ask(f"drop the publication {name}{'' if is_ours else ', which somebody else may have made'}{more}?"):
-                connection.run(f"BEGIN READ WRITE; SET LOCAL synchronous_commit = local; DROP PUBLICATION {identifier(name)}; COMMIT")
+            elif self.ask(
+                f"drop the publication {name}{'' if is_ours else ', which somebody else may have made'}{more}?"
+            ):
+                connection.run(
+                    f"BEGIN READ WRITE; SET LOCAL synchronous_commit = local; DROP PUBLICATION {identifier(name)}; COMMIT"
+                )
                 log.info(f"dropped the publication {name}")
 
     def drop_files(self) -> None:
@@ -231,5 +270,9 @@ class Dropper:
 
 def run(options: Options, check: Check = never) -> int:
     """Drops it all; the exit status."""
-    Dropper(options, (lambda _: True) if options.yes else lambda question: ask_terminal(question, check), check).run()
+    Dropper(
+        options,
+        (lambda _: True) if options.yes else lambda question: ask_terminal(question, check),
+        check,
+    ).run()
     return 0

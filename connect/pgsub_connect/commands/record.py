@@ -1,4 +1,5 @@
-"""Recordings (`.pgx`): the bytes of sessions in hexadecimal, a frame per line, and the recorder, which only records."""
+"""Recordings (`.pgx`): the bytes of sessions in hexadecimal, a frame per line, and the recorder,
+which only records."""
 
 from __future__ import annotations
 
@@ -11,11 +12,19 @@ import time
 from typing import TYPE_CHECKING
 
 from pgsub_feed import log
+from pgsub_feed.texts import counted, identifier, lsn_text, replication_literal
+
 from ..errors import FileError, Stopped, UsageError
 from ..follow.filter import COPY_DONE, header
 from ..server.connection import COPY_BOTH, Connection
-from ..server.session import STREAMS, log_end, settle, settle_for_slot, tell_version_1, unsettle_for_slot
-from pgsub_feed.texts import counted, identifier, lsn_text, replication_literal
+from ..server.session import (
+    STREAMS,
+    log_end,
+    settle,
+    settle_for_slot,
+    tell_version_1,
+    unsettle_for_slot,
+)
 
 if TYPE_CHECKING:
     from .options import Options
@@ -28,11 +37,16 @@ HEAD = BEGUN.encode()
 
 
 class Recording:
-    """A file to which sessions are added. What would make it longer than allowed is left out, with all that follows."""
+    """A file to which sessions are added. What would make it longer than allowed is left out, with
+    all that follows."""
 
-    def __init__(self, path: str, append: bool, limit: int, mode: int = 0o600, overwrites: bool = False) -> None:
+    def __init__(
+        self, path: str, append: bool, limit: int, mode: int = 0o600, overwrites: bool = False
+    ) -> None:
         # (the file is open as long as the program runs)
-        self.out = open(opened(path, append, mode, overwrites), "a" if append else "w", encoding="ascii")  # noqa: SIM115
+        self.out = open(
+            opened(path, append, mode, overwrites), "a" if append else "w", encoding="ascii"
+        )  # noqa: SIM115
         self.path = path
         self.written = self.out.tell() if self.out.seekable() else 0
         self.limit = limit
@@ -40,7 +54,9 @@ class Recording:
 
     def write_line(self, line: str) -> None:
         if self.written + len(line) + 1 > self.limit and not self.full:
-            log.warning(f"the recording ends here: {self.limit} bytes are not to be passed (--bytes)")
+            log.warning(
+                f"the recording ends here: {self.limit} bytes are not to be passed (--bytes)"
+            )
             self.full = True
         if not self.full:
             self.out.write(line + "\n")
@@ -55,11 +71,17 @@ class Recording:
     def begin_session(self, connection: Connection, options: Options, start: int) -> None:
         if self.written:
             self.write_line("--")
-        words = [word for word in ("streaming", "binary", "messages") if getattr(options, word, False)]
+        words = [
+            word for word in ("streaming", "binary", "messages") if getattr(options, word, False)
+        ]
         names = ", ".join(options.publication)
         self.write_line(f"{BEGUN}{time.strftime('%Y-%m-%d %H:%M:%S UTC', time.gmtime())}")
-        self.write_line(f"# PostgreSQL {connection.parameter('server_version')}, slot {options.slot}, publication {names}")
-        self.write_line(f"# protocol version {options.proto}{''.join(f', {it}' for it in words)}, from {lsn_text(start)}")
+        self.write_line(
+            f"# PostgreSQL {connection.parameter('server_version')}, slot {options.slot}, publication {names}"
+        )
+        self.write_line(
+            f"# protocol version {options.proto}{''.join(f', {it}' for it in words)}, from {lsn_text(start)}"
+        )
 
     def flush(self) -> None:
         self.out.flush()
@@ -69,16 +91,25 @@ class Recording:
 
 
 def opened(path: str, append: bool, mode: int, overwrites: bool) -> int:
-    """Opens a file for a recording; a FileError says that it has something else, which stays unless it is to be written over. A pipe or
-    a terminal has nothing."""
+    """Opens a file for a recording; a FileError says that it has something else, which stays unless
+    it is to be written over. A pipe or a terminal has nothing."""
     is_file = not os.path.exists(path) or os.path.isfile(path)
-    file = os.open(path, (os.O_RDWR if is_file else os.O_WRONLY) | os.O_CREAT | os.O_CLOEXEC | (os.O_APPEND if append else 0), mode)
+    file = os.open(
+        path,
+        (os.O_RDWR if is_file else os.O_WRONLY)
+        | os.O_CREAT
+        | os.O_CLOEXEC
+        | (os.O_APPEND if append else 0),
+        mode,
+    )
     try:
         if stat.S_ISREG(os.fstat(file).st_mode):
             head = os.pread(file, len(HEAD), 0) if is_file else b""
             if head not in (b"", HEAD) and not overwrites:
                 what = f"isn't a recording of {log.PROGRAM}"
-                raise FileError(f"{path} is there and {what}: name another file, or say --overwrite to `record`")
+                raise FileError(
+                    f"{path} is there and {what}: name another file, or say --overwrite to `record`"
+                )
             if not append:
                 os.ftruncate(file, 0)
         return file
@@ -88,7 +119,8 @@ def opened(path: str, append: bool, mode: int, overwrites: bool) -> int:
 
 
 class Aside:
-    """A recording beside a follower: where it can't be written any more, it ends, and following goes on."""
+    """A recording beside a follower: where it can't be written any more, it ends, and following
+    goes on."""
 
     def __init__(self, recording: Recording) -> None:
         self.recording: Recording | None = recording
@@ -126,8 +158,8 @@ class Progress:
     asks: bool = False
 
     def note(self, payload: bytes) -> None:
-        """Notes a payload: XLogData (`w`) or a keepalive (`k`). One that is too short is recorded as
-        any other."""
+        """Notes a payload: XLogData (`w`) or a keepalive (`k`). One that is too short is recorded
+        as any other."""
         self.payloads += 1
         if payload[:1] == b"k":
             end = int.from_bytes(payload[1:9], "big")
@@ -160,14 +192,19 @@ class Recorder:
             raise Stopped
 
     def connect(self) -> Connection:
-        """Connects, and looks for what the server's version hasn't got, before anything is made there."""
+        """Connects, and looks for what the server's version hasn't got, before anything is made
+        there."""
         options = self.options
-        self.connection = connection = Connection(options.dsn, replication=True, name=options.slot, check=self.check_stop)
+        self.connection = connection = Connection(
+            options.dsn, replication=True, name=options.slot, check=self.check_stop
+        )
         settle(connection)
         if connection.version() < STREAMS:
             for name in ("streaming", "binary", "messages"):
                 if getattr(options, name):
-                    raise UsageError(f"--{name} needs PostgreSQL 14, and this is {connection.parameter('server_version')}")
+                    raise UsageError(
+                        f"--{name} needs PostgreSQL 14, and this is {connection.parameter('server_version')}"
+                    )
             if options.proto == 2:
                 tell_version_1()
                 options.proto = 1
@@ -186,7 +223,9 @@ class Recorder:
         try:
             if options.create == "temporary":
                 settle_for_slot(connection)
-                connection.run(f"CREATE_REPLICATION_SLOT {identifier(options.slot)} TEMPORARY LOGICAL pgoutput NOEXPORT_SNAPSHOT")
+                connection.run(
+                    f"CREATE_REPLICATION_SLOT {identifier(options.slot)} TEMPORARY LOGICAL pgoutput NOEXPORT_SNAPSHOT"
+                )
                 unsettle_for_slot(connection)
                 log.info("recording from now on: make changes now")
             if options.until == "now":
@@ -206,12 +245,20 @@ class Recorder:
     def command(self) -> str:
         options = self.options
         names = ", ".join(identifier(name) for name in options.publication)
-        words = [f"proto_version '{options.proto}'", f"publication_names {replication_literal(names)}"]
-        words += [f"{word} 'true'" for word in ("streaming", "binary", "messages") if getattr(options, word)]
+        words = [
+            f"proto_version '{options.proto}'",
+            f"publication_names {replication_literal(names)}",
+        ]
+        words += [
+            f"{word} 'true'"
+            for word in ("streaming", "binary", "messages")
+            if getattr(options, word)
+        ]
         return f"START_REPLICATION SLOT {identifier(options.slot)} LOGICAL {lsn_text(options.start)} ({', '.join(words)})"
 
     def send_status(self, connection: Connection) -> None:
-        """Tells the server that it is heard. Only the second number, what is flushed, lets it forget its log."""
+        """Tells the server that it is heard. Only the second number, what is flushed, lets it
+        forget its log."""
         confirmed = min(self.options.confirm, self.progress.commit_end)
         clock = int((time.time() - EPOCH) * 1000000)
         received = max(self.progress.server_end, confirmed)
@@ -245,7 +292,9 @@ class Recorder:
     def record(self, connection: Connection) -> None:
         socket = connection.socket()
         self.last_status = time.monotonic()
-        deadline = self.last_status + self.options.seconds if self.options.seconds is not None else None
+        deadline = (
+            self.last_status + self.options.seconds if self.options.seconds is not None else None
+        )
         while self.take_ready(connection):
             now = time.monotonic()
             if deadline is not None and now >= deadline:

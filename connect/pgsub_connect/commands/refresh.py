@@ -1,7 +1,8 @@
-"""`pgsub-connect refresh`: compares the publications with what the copy has, tells it, and has it mended after asking.
+"""`pgsub-connect refresh`: compares the publications with what the copy has, tells it, and has it
+mended after asking.
 
-What the copy has is known from `STORE.tables`: what was there when its rows were read, what has changed since, and what was found and not
-accepted. Of the server only the catalog is read.
+What the copy has is known from `STORE.tables`: what was there when its rows were read, what has
+changed since, and what was found and not accepted. Of the server only the catalog is read.
 
 | Told | Means | Done |
 |---|---|---|
@@ -17,18 +18,19 @@ import json
 from typing import TYPE_CHECKING, NamedTuple
 
 from pgsub_feed import log
-from . import add
-from ..server.catalog import Catalog, read_catalog
+from pgsub_feed.texts import counted
+
 from ..drift.differences import PUBLICATION, VALUES
 from ..drift.doubts import resolved
-from .drop import ask_terminal, read_known
-from ..errors import FileError
-from ..server.publication_setup import names_of
-from ..server.connection import Check, Connection
 from ..drift.remembered import Remembered
-from ..store.at_rest import check_there
+from ..errors import FileError
+from ..server.catalog import Catalog, read_catalog
+from ..server.connection import Check, Connection
+from ..server.publication_setup import names_of
 from ..server.session import settle
-from pgsub_feed.texts import counted
+from ..store.at_rest import check_there
+from . import add
+from .drop import ask_terminal, read_known
 
 if TYPE_CHECKING:
     from .options import Options
@@ -47,11 +49,14 @@ class Told(NamedTuple):
 
     def line(self) -> str:
         named = {"table": self.table, "oid": self.oid} if self.oid else {}
-        return log.escaped(json.dumps({"is": self.what, **named, "why": self.why}, ensure_ascii=False))
+        return log.escaped(
+            json.dumps({"is": self.what, **named, "why": self.why}, ensure_ascii=False)
+        )
 
 
 def compared(remembered: Remembered, now: Catalog) -> list[Told]:
-    """All that is wrong by what is remembered, which is changed by that, and by what a server has now."""
+    """All that is wrong by what is remembered, which is changed by that, and by what a server has
+    now."""
     before = remembered.catalog
     assert before is not None
     known = set(before.tables)
@@ -69,11 +74,17 @@ def compared(remembered: Remembered, now: Catalog) -> list[Told]:
     told = []
     for oid in sorted(found.keys() & now.tables.keys()):
         is_missing = oid not in known or any(remembered.about(it).is_missing for it in found[oid])
-        told.append(Told(MISSING if is_missing else CHANGED, oid, remembered.name_of(oid), found[oid]))
+        told.append(
+            Told(MISSING if is_missing else CHANGED, oid, remembered.name_of(oid), found[oid])
+        )
     for text in others:
         about = remembered.about(text)
         is_left = bool(about.gone) and not remembered.left.isdisjoint(about.tables)
-        told.append(Told(EXTRA, about.tables[0], about.gone, [text]) if is_left else Told(OTHER, 0, "", [text]))
+        told.append(
+            Told(EXTRA, about.tables[0], about.gone, [text])
+            if is_left
+            else Told(OTHER, 0, "", [text])
+        )
     return told
 
 
@@ -102,8 +113,16 @@ def run(options: Options, check: Check) -> int:
     if not tables and not extra:
         log.info("there is nothing to do")
         return DONE
-    parts = [f"copy {counted(len(tables), 'table')} anew: {names_of(list(tables.values()))}"] if tables else []
-    parts += [f"remove the rows of {counted(len(extra), 'table')}: {names_of(list(extra.values()))}"] if extra else []
+    parts = (
+        [f"copy {counted(len(tables), 'table')} anew: {names_of(list(tables.values()))}"]
+        if tables
+        else []
+    )
+    parts += (
+        [f"remove the rows of {counted(len(extra), 'table')}: {names_of(list(extra.values()))}"]
+        if extra
+        else []
+    )
     if not options.yes and not ask_terminal(f"{'; '.join(parts)}?", check, "refresh"):
         return LEFT
     return add.add(options, tables, check, extra)

@@ -9,22 +9,23 @@ import time
 from typing import TYPE_CHECKING
 
 from pgsub_feed import log
-from ..errors import Passing, Stopped, UsageError
-from pgsub_feed.tables.first_rows import keeping
 from pgsub_feed.faults import Damaged
-from pgsub_feed.reader.positions import Noted
-from pgsub_feed.reader.commits import Commit
-from pgsub_feed.reader.polling import Poll
-from pgsub_feed.reader.segments import Reader, read_confirmed, segments
-from .tables import plain_name
 from pgsub_feed.interruption import at_most
 from pgsub_feed.ownership import readable_by, readable_text
-from ..server.connection import Check
-from pgsub_feed.texts import lsn_text
+from pgsub_feed.reader.commits import Commit
+from pgsub_feed.reader.polling import Poll
+from pgsub_feed.reader.positions import Noted
+from pgsub_feed.reader.segments import Reader, read_confirmed, segments
 from pgsub_feed.sinks import nats_engine, redis_calls, redis_hashes, redis_streams
-from pgsub_feed.sinks.first_rows import base_of
 from pgsub_feed.sinks.engine import Engine, Wanted
+from pgsub_feed.sinks.first_rows import base_of
 from pgsub_feed.sinks.redis_engine import Redis
+from pgsub_feed.tables.first_rows import keeping
+from pgsub_feed.texts import lsn_text
+
+from ..errors import Passing, Stopped, UsageError
+from ..server.connection import Check
+from .tables import plain_name
 
 if TYPE_CHECKING:
     from .options import Options
@@ -51,7 +52,8 @@ NATS: subjects are STREAM.schema.table, and STREAM.commit for the last message o
 completed. --table goes by the names that tables have just then. With --reader, an LSN counts after 150 seconds, once the server has synced
 it.
 """
-# How long commits wait for others that come to be written together, and what was taken may take once the end was asked for, in seconds.
+# How long commits wait for others that come to be written together, and what was taken may take
+# once the end was asked for, in seconds.
 LONGEST, GRACE = 0.5, 0.7
 SCHEMES = {"redis": "redis", "rediss": "redis", "unix": "redis", "nats": "nats", "tls": "nats"}
 
@@ -62,31 +64,80 @@ def scheme(url: str) -> str:
 
 def url(text: str) -> str:
     if not scheme(text):
-        raise argparse.ArgumentTypeError(f"{text!r} is no URL as redis://localhost:6379/0, rediss://.., unix:///path or nats://localhost")
+        raise argparse.ArgumentTypeError(
+            f"{text!r} is no URL as redis://localhost:6379/0, rediss://.., unix:///path or nats://localhost"
+        )
     return text
 
 
 def stream_name(text: str) -> str:
     if not text or not all(it.isascii() and (it.isalnum() or it in "-_") for it in text):
-        raise argparse.ArgumentTypeError(f"{text!r} is no name of a stream: letters, digits, - and _")
+        raise argparse.ArgumentTypeError(
+            f"{text!r} is no name of a stream: letters, digits, - and _"
+        )
     return text
 
 
 def add_options(parser: argparse.ArgumentParser) -> None:
     add = parser.add_argument
-    add("url", metavar="URL", nargs="?", type=url, default="",
-        help="where to write: redis://[[USER]:PASSWORD@]HOST[:PORT][/NUMBER] or nats://HOST[:PORT]")
-    add("--url-file", metavar="FILE", help="a file whose first line is the URL, for one with a password")
+    add(
+        "url",
+        metavar="URL",
+        nargs="?",
+        type=url,
+        default="",
+        help="where to write: redis://[[USER]:PASSWORD@]HOST[:PORT][/NUMBER] or nats://HOST[:PORT]",
+    )
+    add(
+        "--url-file",
+        metavar="FILE",
+        help="a file whose first line is the URL, for one with a password",
+    )
     add("--feed", metavar="FOLDER", required=True, help="the feed")
     begin = parser.add_mutually_exclusive_group().add_argument
-    begin("--base", metavar="FILE", help="begin with the rows of this export, made by `export --text`, where nothing is kept there yet")
-    begin("--store", metavar="FILE", default="", help="begin with the rows of this store; its follower is asked for a copy")
-    add("--as", dest="form", choices=("hashes", "streams"), help="what Redis gets (default: hashes, which leave out tables without a key)")
-    add("--stream", metavar="NAME", type=stream_name, help="the stream of JetStream, made where it isn't there (default: pgsub)")
-    add("--table", action="append", default=[], help="keep this table, may be repeated (default: all)")
-    add("--reader", metavar="NAME", type=plain_name, help="keep the LSN as FOLDER/readers/NAME too, once the engine's disk has the rows")
+    begin(
+        "--base",
+        metavar="FILE",
+        help="begin with the rows of this export, made by `export --text`, where nothing is kept there yet",
+    )
+    begin(
+        "--store",
+        metavar="FILE",
+        default="",
+        help="begin with the rows of this store; its follower is asked for a copy",
+    )
+    add(
+        "--as",
+        dest="form",
+        choices=("hashes", "streams"),
+        help="what Redis gets (default: hashes, which leave out tables without a key)",
+    )
+    add(
+        "--stream",
+        metavar="NAME",
+        type=stream_name,
+        help="the stream of JetStream, made where it isn't there (default: pgsub)",
+    )
+    add(
+        "--table",
+        action="append",
+        default=[],
+        help="keep this table, may be repeated (default: all)",
+    )
+    add(
+        "--reader",
+        metavar="NAME",
+        type=plain_name,
+        help="keep the LSN as FOLDER/readers/NAME too, once the engine's disk has the rows",
+    )
     whole = parser.add_mutually_exclusive_group().add_argument
-    whole("--follow", dest="once", action="store_false", default=False, help="follow the feed until a signal asks for the end (default)")
+    whole(
+        "--follow",
+        dest="once",
+        action="store_false",
+        default=False,
+        help="follow the feed until a signal asks for the end (default)",
+    )
     whole("--once", dest="once", action="store_true", help="end once all that is there is written")
 
 
@@ -97,10 +148,15 @@ class Sink:
         self.options, self.engine = options, engine
         self.reader = Reader(options.feed, engine.at)
         self.poll = Poll(self.reader, not options.once, check)
-        self.noted = Noted(options.feed, options.reader, None, options.mode) if options.reader else None
+        self.noted = (
+            Noted(options.feed, options.reader, None, options.mode) if options.reader else None
+        )
         if self.noted and not os.path.exists(self.noted.path):
-            # (so that nothing goes before that is known to be on a disk, not even of what is written already)
-            self.noted.note(min([engine.at, *(base for base, _ in segments(options.feed)[:1])]), is_last=True)
+            # (so that nothing goes before that is known to be on a disk, not even of what is
+            # written already)
+            self.noted.note(
+                min([engine.at, *(base for base, _ in segments(options.feed)[:1])]), is_last=True
+            )
         self.check = check
         # since when commits wait to be settled
         self.begun: float | None = None
@@ -128,17 +184,25 @@ class Sink:
         return isinstance(self.options.until, int) and commit.end > self.options.until
 
     def looks_again(self) -> bool:
-        """Whether all up to the LSN at which to end was confirmed since the feed was looked at: some of it may have come since."""
+        """Whether all up to the LSN at which to end was confirmed since the feed was looked at:
+        some of it may have come since."""
         until, was_confirmed = self.options.until, self.is_confirmed
-        self.is_confirmed = was_confirmed or isinstance(until, int) and (read_confirmed(self.options.feed) or 0) >= until
+        self.is_confirmed = (
+            was_confirmed
+            or isinstance(until, int)
+            and (read_confirmed(self.options.feed) or 0) >= until
+        )
         return self.is_confirmed and not was_confirmed
 
     def check_reached(self, above: Commit | None) -> None:
-        """Rejects an end below the LSN at which to end, where the feed may still get commits up to it."""
+        """Rejects an end below the LSN at which to end, where the feed may still get commits up to
+        it."""
         until, at = self.options.until, self.engine.at
         if not isinstance(until, int) or above or at >= until or self.is_confirmed:
             return
-        raise Passing(f"{self.options.feed}: the feed has reached {lsn_text(at)}, and {lsn_text(until)} not yet")
+        raise Passing(
+            f"{self.options.feed}: the feed has reached {lsn_text(at)}, and {lsn_text(until)} not yet"
+        )
 
     def take(self, commit: Commit) -> None:
         """Takes a commit. Where its lines can't be read nothing is kept of what isn't settled."""
@@ -182,7 +246,11 @@ def wanted_of(options: Options, check: Check) -> Wanted:
             poll.rest()
         if reader.head is None:
             raise Passing(f"{options.feed}: the feed has no segment yet")
-        return Wanted(reader.head, tuple(sorted(set(options.table))), lambda at: check_after(options, at, check))
+        return Wanted(
+            reader.head,
+            tuple(sorted(set(options.table))),
+            lambda at: check_after(options, at, check),
+        )
 
 
 def check_after(options: Options, at: int, check: Check) -> None:
@@ -239,7 +307,9 @@ def follow(options: Options, engine: Engine, check: Check) -> None:
         with contextlib.closing(sink.reader):
             if not engine.finish(GRACE):
                 # (the next run completes what may be there in part)
-                raise Passing("the engine doesn't answer, so it isn't known how much of the last commits is written") from None
+                raise Passing(
+                    "the engine doesn't answer, so it isn't known how much of the last commits is written"
+                ) from None
             with at_most(GRACE):
                 sink.note(is_last=True)
         if is_to_end(options):
@@ -256,7 +326,9 @@ def run(options: Options, check: Check) -> int:
         if readable and "@" in options.url:
             log.warning(readable_text(options.url_file, readable))
         if not scheme(options.url):
-            raise UsageError(f"{options.url_file}: its first line is no URL as redis://.. or nats://..")
+            raise UsageError(
+                f"{options.url_file}: its first line is no URL as redis://.. or nats://.."
+            )
     elif "@" in options.url:
         log.warning("the password on the command line can be read by every account: use --url-file")
     with contextlib.closing(engine_of(options, check)) as engine:

@@ -7,13 +7,14 @@ import sqlite3
 from typing import TYPE_CHECKING
 
 from pgsub_feed import log
+from pgsub_feed.texts import lsn_text
+
 from ..errors import FileError, Passing, Stopped
-from ..store.placing import check_into, placed
 from ..server.connection import Check
 from ..store.at_rest import at_rest, failed
-from ..store.snapshot import LOG, copy, fold, position_in, remove
 from ..store.file import check_store, is_store
-from pgsub_feed.texts import lsn_text
+from ..store.placing import check_into, placed
+from ..store.snapshot import LOG, copy, fold, position_in, remove
 
 if TYPE_CHECKING:
     from .options import Options
@@ -21,11 +22,16 @@ if TYPE_CHECKING:
 
 def is_snapshot(path: str) -> bool:
     """Whether a file is a store that nobody follows into."""
-    return is_store(path) and not os.path.exists(path + ".connector") and not os.path.exists(path + LOG)
+    return (
+        is_store(path)
+        and not os.path.exists(path + ".connector")
+        and not os.path.exists(path + LOG)
+    )
 
 
 def check_copied(store: str, path: str, option: str = "--into") -> None:
-    """Rejects to replace a file by a copy of a store, unless it is such a copy itself. An option names it."""
+    """Rejects to replace a file by a copy of a store, unless it is such a copy itself. An option
+    names it."""
     check_into(store, path, is_snapshot, "an earlier copy of a store", option)
 
 
@@ -33,7 +39,9 @@ def run(options: Options, check: Check) -> int:
     """Copies a store; the exit status."""
     check_copied(options.store, options.into)
     try:
-        with at_rest(options.store, options.into, check) as (path, is_own), placed(options.into, options.mode) as new:
+        with at_rest(options.store, options.into, check) as (path, is_own), placed(
+            options.into, options.mode
+        ) as new:
             check_store(path, options.store)
             put(path, new, is_own, check)
             position = position_in(new)

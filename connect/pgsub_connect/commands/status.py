@@ -32,7 +32,9 @@ TIME = re.compile(rf"(\d+(?:\.\d+)?)({'|'.join(SECONDS)})?")
 SIZE = re.compile(rf"(\d+)({'|'.join(BYTES)})?")
 # Of which kind the fields are that are looked at.
 KINDS: dict[str, Callable[[Any], object]] = {
-    "lag_bytes": json_texts.whole_of, "lag_seconds": json_texts.number_of, "found": json_texts.object_of,
+    "lag_bytes": json_texts.whole_of,
+    "lag_seconds": json_texts.number_of,
+    "found": json_texts.object_of,
     **dict.fromkeys(("position", "wal_status", "tables_error", "last_error"), json_texts.text_of),
 }
 # states in which nothing follows any more
@@ -51,9 +53,15 @@ class Limit:
 def lag_limit(text: str) -> Limit:
     found = LAG.fullmatch(text)
     if not found:
-        raise argparse.ArgumentTypeError(f"{text!r} is no time and no size, as 60s, 5min, 10MB or 1GB")
+        raise argparse.ArgumentTypeError(
+            f"{text!r} is no time and no size, as 60s, 5min, 10MB or 1GB"
+        )
     number, unit = float(found[1]), found[2]
-    return Limit(text, "lag_seconds", number * SECONDS[unit]) if unit in SECONDS else Limit(text, "lag_bytes", number * BYTES[unit])
+    return (
+        Limit(text, "lag_seconds", number * SECONDS[unit])
+        if unit in SECONDS
+        else Limit(text, "lag_bytes", number * BYTES[unit])
+    )
 
 
 def duration(text: str) -> float:
@@ -72,10 +80,27 @@ def size(text: str) -> int:
 
 def add_options(parser: argparse.ArgumentParser) -> None:
     add = parser.add_argument
-    add("--status-file", metavar="FILE", required=True, help="the file that the follower replaces each second")
-    add("--max-lag", type=lag_limit, action="append", default=[], metavar="LAG",
-        help="the most that the copy may be behind: a time (60s, 5min, 1h) or a size (10MB, 1GB), may be repeated (default: any)")
-    add("--max-age", type=duration, default=30.0, metavar="TIME", help="the most that the last sign of life may be old (default: 30s)")
+    add(
+        "--status-file",
+        metavar="FILE",
+        required=True,
+        help="the file that the follower replaces each second",
+    )
+    add(
+        "--max-lag",
+        type=lag_limit,
+        action="append",
+        default=[],
+        metavar="LAG",
+        help="the most that the copy may be behind: a time (60s, 5min, 1h) or a size (10MB, 1GB), may be repeated (default: any)",
+    )
+    add(
+        "--max-age",
+        type=duration,
+        default=30.0,
+        metavar="TIME",
+        help="the most that the last sign of life may be old (default: 30s)",
+    )
     add("--strict", action="store_true", help="anything that was found is a fault")
 
 
@@ -113,7 +138,9 @@ def faults(status: dict[str, Any], age: float, options: Options) -> list[str]:
     if status.get("tables_error"):
         wrong.append("the tables don't follow any more")
     if aside := status.get("tables_aside"):
-        wrong.append(f"set aside in the tables, `pgsub-connect add` them: {', '.join(sorted(aside))}")
+        wrong.append(
+            f"set aside in the tables, `pgsub-connect add` them: {', '.join(sorted(aside))}"
+        )
     if options.strict and status.get("found"):
         wrong.append(f"found: {', '.join(sorted(status['found']))}")
     return list(dict.fromkeys(wrong))
@@ -124,13 +151,19 @@ def text_of(status: dict[str, Any], age: float, wrong: list[str]) -> str:
     parts = [status["state"]]
     if status.get("lag_bytes") is not None:
         behind = counted(status["lag_bytes"], "byte")
-        parts.append(f"{behind} and {status['lag_seconds']} s behind" if "lag_seconds" in status else f"{behind} behind")
+        parts.append(
+            f"{behind} and {status['lag_seconds']} s behind"
+            if "lag_seconds" in status
+            else f"{behind} behind"
+        )
     if "position" in status:
         parts.append(f"at {status['position']}")
     parts.append(f"heartbeat {age:.0f} s ago")
     if wrong and status.get("last_error"):
         parts.append(f"last error: {shortened(status['last_error'])}")
-    return log.escaped(f"{'; '.join(wrong) if wrong else 'ok'} ({', '.join(map(str, parts))})".replace("\n", " "))
+    return log.escaped(
+        f"{'; '.join(wrong) if wrong else 'ok'} ({', '.join(map(str, parts))})".replace("\n", " ")
+    )
 
 
 def run(options: Options) -> int:

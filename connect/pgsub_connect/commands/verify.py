@@ -1,10 +1,13 @@
-"""`pgsub-connect verify`: compares the copy of a running follower with its server, both as they were at one LSN.
+"""`pgsub-connect verify`: compares the copy of a running follower with its server, both as they
+were at one LSN.
 
-Of each table the sums of the module `digests` are compared, chunk by chunk. Of chunks that differ, as many as rows are to be shown, the
-rows are read on both sides in the order of their keys, and those that differ are printed, a JSON object on each line. A value of more
-than some hundred characters is cut, and its length and hash are told.
+Of each table the sums of the module `digests` are compared, chunk by chunk. Of chunks that differ,
+as many as rows are to be shown, the rows are read on both sides in the order of their keys, and
+those that differ are printed, a JSON object on each line. A value of more than some hundred
+characters is cut, and its length and hash are told.
 
-With `--repair` the tables that differ are then compared once more, and what differs is mended, as the module `mending` says.
+With `--repair` the tables that differ are then compared once more, and what differs is mended, as
+the module `mending` says.
 """
 
 from __future__ import annotations
@@ -19,23 +22,24 @@ from collections.abc import Callable, Collection, Iterable, Iterator, Mapping
 from typing import TYPE_CHECKING
 
 from pgsub_feed import log
-from . import add
-from ..store.checkpoint import Known
-from ..verify.digests import Field, Fields, NotText, Plan, Sums, fields_in
-from .drop import read_known
+from pgsub_feed.tables.values import Malformed
+from pgsub_feed.texts import counted, lsn_text
+
+from ..drift.remembered import Remembered
 from ..errors import Delayed, FileError, Passing, Stopped, Unfit, Unrepaired
 from ..follow.gate import CURE, TABLE
+from ..server.connection import Check, parameters
 from ..server.publication_setup import names_of
+from ..server.publications import Table, sizes_of
+from ..server.session import waits_for
+from ..store.at_rest import check_there, is_followed
+from ..store.checkpoint import Known
+from ..verify.digests import Field, Fields, NotText, Plan, Sums, fields_in
 from ..verify.meeting_point import Request, Source
 from ..verify.repair_rows import Changes, Mender
-from ..server.connection import Check, parameters
-from ..server.publications import Table, sizes_of
-from ..drift.remembered import Remembered
-from ..store.at_rest import check_there, is_followed
-from ..server.session import waits_for
 from ..verify.sides import Copy, Group, Sides
-from pgsub_feed.texts import counted, lsn_text
-from pgsub_feed.tables.values import Malformed
+from . import add
+from .drop import read_known
 
 if TYPE_CHECKING:
     from .options import Options
@@ -56,7 +60,9 @@ def shown(field: Field) -> str | None:
     text = field.decode(errors="backslashreplace")
     if len(text) <= SHOWN:
         return text
-    return f"{text[:SHOWN]}.. ({len(field)} bytes, SHA-256 {hashlib.sha256(field).hexdigest()[:16]})"
+    return (
+        f"{text[:SHOWN]}.. ({len(field)} bytes, SHA-256 {hashlib.sha256(field).hexdigest()[:16]})"
+    )
 
 
 class Verifier:
@@ -84,7 +90,9 @@ class Verifier:
         there, here = [it.name for it in table.columns], self.sides.copy.columns(table)
         self.tell({"table": table.text(), "columns": dict(zip(self.sides.names, (there, here)))})
         one, two = self.sides.places
-        log.warning(f"{table.text()}: it has other columns {one} than {two}, so its rows aren't compared")
+        log.warning(
+            f"{table.text()}: it has other columns {one} than {two}, so its rows aren't compared"
+        )
         return False
 
     def is_equal(self, plan: Plan, ours: Sums) -> bool:
@@ -110,7 +118,9 @@ class Verifier:
             if self.left > 0:
                 self.left -= 1
                 self.show_key(plan, key, theirs - ours, ours - theirs)
-        log.info(f"{plan.table.text()}: {counted(found, 'key' if plan.key else 'row')} in {counted(len(chunks), 'chunk')} differ")
+        log.info(
+            f"{plan.table.text()}: {counted(found, 'key' if plan.key else 'row')} in {counted(len(chunks), 'chunk')} differ"
+        )
 
     def show_key(self, plan: Plan, key: bytes, theirs: Group, ours: Group) -> None:
         """Prints what each side has of a key that the other hasn't."""
@@ -126,7 +136,13 @@ class Verifier:
         about = dict(zip((names[it] for it in plan.key), map(shown, fields_in(key)), strict=True))
         for one, two in itertools.zip_longest(theirs.elements(), ours.elements()):
             there, here = (None if it is None else row(fields_in(it)) for it in (one, two))
-            self.tell({"table": plan.table.text(), "key": about, **dict(zip(self.sides.names, (there, here)))})
+            self.tell(
+                {
+                    "table": plan.table.text(),
+                    "key": about,
+                    **dict(zip(self.sides.names, (there, here))),
+                }
+            )
 
     def tell(self, line: dict[str, object]) -> None:
         print(log.escaped(json.dumps(line, ensure_ascii=False)), flush=True)
@@ -139,9 +155,13 @@ def run(options: Options, check: Check) -> int:
     except Stopped:
         raise Passing("ended before all was compared") from None
     except NotText:
-        raise Unfit(f"{options.store}: it has values in binary form, which can't be compared") from None
+        raise Unfit(
+            f"{options.store}: it has values in binary form, which can't be compared"
+        ) from None
     except Malformed:
-        raise FileError(f"{options.store}: a malformed row or definition: the disk, or another program, has spoiled the file") from None
+        raise FileError(
+            f"{options.store}: a malformed row or definition: the disk, or another program, has spoiled the file"
+        ) from None
     except sqlite3.Error as error:
         raise FileError(f"{options.store}: {error}") from None
 
@@ -196,7 +216,9 @@ def repaired(options: Options, found: Compared, check: Check) -> int:
     return add.add(options, {it.oid: it.text() for it in left}, check) if left else EQUAL
 
 
-def compare(options: Options, choose: Callable[[Source], list[Table]], found: Compared, check: Check) -> None:
+def compare(
+    options: Options, choose: Callable[[Source], list[Table]], found: Compared, check: Check
+) -> None:
     """Compares, and tells what differs."""
     with met(options, choose, check) as (sides, chosen, _, point):
         found.left = left_of(chosen, sides.source.left)
@@ -228,8 +250,14 @@ def pause(seconds: float, check: Check) -> None:
 
 
 def repair_once(options: Options, found: Compared, check: Check) -> list[Table]:
-    """Compares tables once more, while the stream is held, and has the changes passed on. Returns those that are to be copied anew."""
-    with met(options, among([it.oid for it in found.different]), check, repairs=True) as (sides, chosen, request, point):
+    """Compares tables once more, while the stream is held, and has the changes passed on. Returns
+    those that are to be copied anew."""
+    with met(options, among([it.oid for it in found.different]), check, repairs=True) as (
+        sides,
+        chosen,
+        request,
+        point,
+    ):
         left = left_of(chosen, sides.source.left)
         found.left.update(left)
         with contextlib.closing(Changes(request.changes(), options.store)) as changes:
@@ -246,13 +274,17 @@ Met = tuple[Sides, list[Table], Request, int]
 
 
 @contextlib.contextmanager
-def met(options: Options, choose: Callable[[Source], list[Table]], check: Check, repairs: bool = False) -> Iterator[Met]:
+def met(
+    options: Options, choose: Callable[[Source], list[Table]], check: Check, repairs: bool = False
+) -> Iterator[Met]:
     """Brings server and copy to one LSN. `repairs`: there the stream stays held."""
     check_there(options.store)
     known = read_known(options.store + ".connector")
     options.slot = known.slot or options.slot
     with contextlib.ExitStack() as stack:
-        request = stack.enter_context(contextlib.closing(Request(options.store, options.hold, check, repairs)))
+        request = stack.enter_context(
+            contextlib.closing(Request(options.store, options.hold, check, repairs))
+        )
         if not is_followed(options.store):
             raise request.ended()
         source = stack.enter_context(contextlib.closing(Source(options, known, check)))
@@ -260,7 +292,9 @@ def met(options: Options, choose: Callable[[Source], list[Table]], check: Check,
         if repairs:
             check_sizes(options, source, tables)
         point = meet(request, source, options.hold)
-        copy = stack.enter_context(contextlib.closing(Copy(request.copied(), options.store, point, check)))
+        copy = stack.enter_context(
+            contextlib.closing(Copy(request.copied(), options.store, point, check))
+        )
         yield Sides(source, copy), tables, request, point
 
 
@@ -278,14 +312,18 @@ def check_sizes(options: Options, source: Source, tables: list[Table]) -> None:
 
 
 def settled(tables: list[Table], known: Known, partial: Collection[int] = ()) -> list[Table]:
-    """Tables none of which is being added, since of such a one the copy has no state of the server."""
+    """Tables none of which is being added, since of such a one the copy has no state of the
+    server."""
     if going := [it.text() for it in tables if str(it.oid) in known.adding or it.oid in partial]:
-        raise Passing(f"being added just now, or refused: {names_of(going)}: nothing was compared. Wait for it, or choose others by --table")
+        raise Passing(
+            f"being added just now, or refused: {names_of(going)}: nothing was compared. Wait for it, or choose others by --table"
+        )
     return tables
 
 
 def meet(request: Request, source: Source, seconds: float) -> int:
-    """Has the server seen, and the copy taken, at one LSN, which is returned. The stream is held until that is known."""
+    """Has the server seen, and the copy taken, at one LSN, which is returned. The stream is held
+    until that is known."""
     request.hold(source.maker(), source.standbys())
     point, snapshot = source.make_slot(seconds)
     request.tell(point)
@@ -295,6 +333,10 @@ def meet(request: Request, source: Source, seconds: float) -> int:
 
 def tell_left(sides: Sides) -> None:
     """Tells which rows of the copy aren't compared."""
-    if left := [it for it in sides.copy.left(sides.source.tables) if it.oid not in sides.source.left]:
+    if left := [
+        it for it in sides.copy.left(sides.source.tables) if it.oid not in sides.source.left
+    ]:
         names = names_of([it.text() for it in left])
-        log.info(f"the copy has rows of {counted(len(left), 'table')} that the publications don't have now: {names}")
+        log.info(
+            f"the copy has rows of {counted(len(left), 'table')} that the publications don't have now: {names}"
+        )

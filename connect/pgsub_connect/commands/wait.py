@@ -9,14 +9,15 @@ import sqlite3
 import time
 from typing import TYPE_CHECKING
 
-from ..errors import FileError, Passing, Stopped
-from pgsub_feed.tables.names import POSITION
-from ..server.connection import Check
-from .status import duration
-from pgsub_feed.texts import lsn_text, parse_lsn
-from pgsub_feed.tables.first_rows import is_tables, opened
 from pgsub_feed.reader.segments import Reader, read_confirmed
 from pgsub_feed.tables.file import read_folder
+from pgsub_feed.tables.first_rows import is_tables, opened
+from pgsub_feed.tables.names import POSITION
+from pgsub_feed.texts import lsn_text, parse_lsn
+
+from ..errors import FileError, Passing, Stopped
+from ..server.connection import Check
+from .status import duration
 
 if TYPE_CHECKING:
     from .options import Options
@@ -33,7 +34,13 @@ def add_options(parser: argparse.ArgumentParser) -> None:
     add = parser.add_argument
     add("--tables", metavar="FILE", required=True, help="the file with the tables")
     add("--feed", metavar="FOLDER", help="the feed (default: the one that the file follows)")
-    add("--within", metavar="TIME", type=duration, default=60.0, help="give up after this time, as 30s or 5min (default: 60s)")
+    add(
+        "--within",
+        metavar="TIME",
+        type=duration,
+        default=60.0,
+        help="give up after this time, as 30s or 5min (default: 60s)",
+    )
 
 
 def read_file(path: str) -> tuple[int, str]:
@@ -43,7 +50,8 @@ def read_file(path: str) -> tuple[int, str]:
 
 
 class Awaited:
-    """All that was committed up to an LSN. A feed says that it has all of it, and then where the last commit of it ends."""
+    """All that was committed up to an LSN. A feed says that it has all of it, and then where the
+    last commit of it ends."""
 
     def __init__(self, path: str, feed: str | None, lsn: int) -> None:
         self.path, self.feed, self.lsn = path, feed, lsn
@@ -83,7 +91,9 @@ def run(options: Options, check: Check) -> int:
                 raise Passing(f"ended before {path} has reached {lsn_text(lsn)}") from None
             if time.monotonic() > until:
                 at = lsn_text(read_file(path)[0])
-                raise Passing(f"{path} is at {at}, and {lsn_text(lsn)} wasn't reached in {options.within:g} seconds")
+                raise Passing(
+                    f"{path} is at {at}, and {lsn_text(lsn)} wasn't reached in {options.within:g} seconds"
+                )
             time.sleep(LOOK)
     except sqlite3.Error as error:
         raise FileError(f"{path}: {error}") from None

@@ -1,7 +1,9 @@
-"""The messages of the connector's own transactions, and how rows in COPY's text format become Inserts.
+"""The messages of the connector's own transactions, and how rows in COPY's text format become
+Inserts.
 
-Lines are encoded a block at a time and column by column, since a call for each value costs more than all else. Within a line
-only the server's own tabs and newlines are tabs and newlines: those of values come as `\\t` and `\\n`.
+Lines are encoded a block at a time and column by column, since a call for each value costs more
+than all else. Within a line only the server's own tabs and newlines are tabs and newlines: those of
+values come as `\\t` and `\\n`.
 """
 
 from __future__ import annotations
@@ -26,7 +28,8 @@ def frame(lsn: int, body: bytes) -> bytes:
 
 
 def begin(lsn: int, xid: int | None = None, clock: int = 0) -> bytes:
-    """A Begin; its xid is made of the LSN where none is given. `clock`: when, in microseconds since 2000."""
+    """A Begin; its xid is made of the LSN where none is given. `clock`: when, in microseconds since
+    2000."""
     return struct.pack(">cQqI", b"B", lsn, clock, lsn & 0x7FFFFFFF if xid is None else xid)
 
 
@@ -36,10 +39,22 @@ def commit(lsn: int, end: int, clock: int = 0) -> bytes:
 
 def relation(table: Table) -> bytes:
     namespace = "" if table.namespace == "pg_catalog" else table.namespace
-    parts = [b"R", struct.pack(">I", table.oid), namespace.encode(), b"\0", table.name.encode(), b"\0"]
+    parts = [
+        b"R",
+        struct.pack(">I", table.oid),
+        namespace.encode(),
+        b"\0",
+        table.name.encode(),
+        b"\0",
+    ]
     parts += [table.identity.encode(), struct.pack(">H", len(table.columns))]
     for column in table.columns:
-        parts += [bytes([column.key]), column.name.encode(), b"\0", struct.pack(">Ii", column.type_oid, column.modifier)]
+        parts += [
+            bytes([column.key]),
+            column.name.encode(),
+            b"\0",
+            struct.pack(">Ii", column.type_oid, column.modifier),
+        ]
     return b"".join(parts)
 
 
@@ -93,7 +108,8 @@ CELL_HEADS = CellHeads()
 
 
 def unescaped(text: bytes) -> bytes:
-    """The value of a text that isn't null. An escaped backslash splits it into pieces in which each other escape stands alone."""
+    """The value of a text that isn't null. An escaped backslash splits it into pieces in which each
+    other escape stands alone."""
     pieces = text.split(b"\\\\")
     for index, piece in enumerate(pieces):
         if b"\\" in piece:
@@ -104,7 +120,8 @@ def unescaped(text: bytes) -> bytes:
 
 
 def cells_length(line: bytes, width: int) -> int:
-    """How long the cells of a line are. An escape is a byte longer than what it stands for; a null is one byte, without a head.
+    """How long the cells of a line are. An escape is a byte longer than what it stands for; a null
+    is one byte, without a head.
 
     Of backslashes in a row each two are an escaped one, and a last one begins an escape.
     """
@@ -117,7 +134,9 @@ def encoded(column: list[bytes]) -> tuple[list[bytes], list[bytes]]:
     """The heads and the values of a column's texts."""
     if b"\\" not in b"".join(column):
         return list(map(CELL_HEADS.__getitem__, map(len, column))), column
-    values = [text if b"\\" not in text else None if text == NULL else unescaped(text) for text in column]
+    values = [
+        text if b"\\" not in text else None if text == NULL else unescaped(text) for text in column
+    ]
     heads = [b"n" if value is None else CELL_HEADS[len(value)] for value in values]
     return heads, [value or b"" for value in values]
 
@@ -134,7 +153,10 @@ def inserts(lines: list[bytes], heads: InsertHeads) -> bytes:
     step, extra = 2 * width + 1, 4 * width
     parts = [b""] * (len(lines) * step)
     if b"\\" in block:
-        parts[::step] = [heads[len(line) + extra if b"\\" not in line else cells_length(line, width)] for line in lines]
+        parts[::step] = [
+            heads[len(line) + extra if b"\\" not in line else cells_length(line, width)]
+            for line in lines
+        ]
     else:
         parts[::step] = [heads[len(line) + extra] for line in lines]
     for index in range(width):

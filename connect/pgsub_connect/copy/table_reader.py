@@ -1,11 +1,13 @@
-"""Reads tables under one snapshot by several connections, each table in a transaction and under a lock of its own.
+"""Reads tables under one snapshot by several connections, each table in a transaction and under a
+lock of its own.
 
-No table is locked for longer than it is read, and a lock is never waited for within the server: a table that somebody else has locked
-comes later, after those that aren't. Under its lock a table has to be what it was before the snapshot, in its name, columns and files: one
-that was truncated or written anew reads empty in an older snapshot. Any other is left out, and told.
+No table is locked for longer than it is read, and a lock is never waited for within the server: a
+table that somebody else has locked comes later, after those that aren't. Under its lock a table has
+to be what it was before the snapshot, in its name, columns and files: one that was truncated or
+written anew reads empty in an older snapshot. Any other is left out, and told.
 
-The rows come in parts of some megabytes, as the frames of a transaction without Begin and Commit. Each connection has a thread, which
-waits once a few of its parts weren't taken.
+The rows come in parts of some megabytes, as the frames of a transaction without Begin and Commit.
+Each connection has a thread, which waits once a few of its parts weren't taken.
 """
 
 from __future__ import annotations
@@ -20,17 +22,19 @@ from collections.abc import Iterator
 from typing import TYPE_CHECKING
 
 from pgsub_feed import log
+from pgsub_feed.texts import literal
+
 from ..errors import ServerError
-from .messages import InsertHeads, frame, inserts, relation
 from ..server.connection import Connection
 from ..server.publications import Table, are_so_named, stored_in
 from ..server.session import settle
-from pgsub_feed.texts import literal
+from .messages import InsertHeads, frame, inserts, relation
 
 if TYPE_CHECKING:
     from ..commands.options import Options
 
-# How many bytes a part has about, how many are encoded at a time, and how many parts of a connection wait at most.
+# How many bytes a part has about, how many are encoded at a time, and how many parts of a
+# connection wait at most.
 PART, BLOCK, AHEAD = 4 << 20, 1 << 17, 2
 # For how long a lock of somebody else is waited for, and how often it is tried, in seconds.
 PATIENCE, LOOK = 60.0, 0.1
@@ -41,7 +45,8 @@ GONE = ("42P01", "42703", "42704")
 
 @dataclasses.dataclass
 class Part:
-    """Some rows of a table, the first ones behind its Relation message. `is_last`: no others follow."""
+    """Some rows of a table, the first ones behind its Relation message. `is_last`: no others
+    follow."""
 
     table: Table
     frames: list[bytes]
@@ -66,13 +71,22 @@ class Ended(Exception):
 
 
 class Readers:
-    """The connections, from `begin` to `close`. `stored`: the files of all tables before the snapshot; `looker`: sees what is there now."""
+    """The connections, from `begin` to `close`. `stored`: the files of all tables before the
+    snapshot; `looker`: sees what is there now."""
 
-    def __init__(self, options: Options, snapshot: str, tables: list[Table], stored: dict[int, str | None], looker: Connection) -> None:
+    def __init__(
+        self,
+        options: Options,
+        snapshot: str,
+        tables: list[Table],
+        stored: dict[int, str | None],
+        looker: Connection,
+    ) -> None:
         self.options, self.snapshot, self.stored, self.looker = options, snapshot, stored, looker
         self.lock, self.looking = threading.Condition(), threading.Lock()
         self.left = collections.deque(tables)
-        # by the OID of a table: when it was tried last, and since when it is known to be locked by somebody else
+        # by the OID of a table: when it was tried last, and since when it is known to be locked by
+        # somebody else
         self.tried: dict[int, float] = {}
         self.locked: dict[int, float] = {}
         self.items: collections.deque[Item] = collections.deque()
@@ -80,7 +94,10 @@ class Readers:
         self.ended, self.working = False, 0
         self.reads, self.wakes = os.pipe()
         os.set_blocking(self.reads, False)
-        self.threads = [threading.Thread(target=self.work, daemon=True) for _ in range(max(1, min(options.jobs, len(tables))))]
+        self.threads = [
+            threading.Thread(target=self.work, daemon=True)
+            for _ in range(max(1, min(options.jobs, len(tables))))
+        ]
 
     def begin(self) -> None:
         self.working = len(self.threads)
@@ -121,7 +138,9 @@ class Readers:
     def work(self) -> None:
         """One connection: one table after the other."""
         try:
-            connection = Connection(self.options.dsn, name=f"{self.options.slot} copy", check=self.check)
+            connection = Connection(
+                self.options.dsn, name=f"{self.options.slot} copy", check=self.check
+            )
             with contextlib.closing(connection):
                 settle(connection)
                 connection.run("SET row_security = off")
@@ -180,7 +199,8 @@ class Readers:
             time.sleep(min(left, LOOK))
 
     def lock_table(self, connection: Connection, table: Table) -> str | None:
-        """Locks a table. Returns why it is left out, "" where it is locked by somebody else, None where it is as it was."""
+        """Locks a table. Returns why it is left out, "" where it is locked by somebody else, None
+        where it is as it was."""
         try:
             lock_tables(connection, [table], waits=False)
             is_same = self.is_same(connection, table)
@@ -192,11 +212,16 @@ class Readers:
             if table.oid not in self.locked:
                 log.info(f"{table.text()} is locked by others: it is read later")
             since = self.locked.setdefault(table.oid, time.monotonic())
-            return f"others have locked it for {PATIENCE:.0f} seconds" if time.monotonic() - since > PATIENCE else ""
+            return (
+                f"others have locked it for {PATIENCE:.0f} seconds"
+                if time.monotonic() - since > PATIENCE
+                else ""
+            )
         return None if is_same else "it was altered or truncated while the slot was made"
 
     def is_same(self, connection: Connection, table: Table) -> bool:
-        """Whether a table that is locked has the files, the name and the columns that it had before the snapshot."""
+        """Whether a table that is locked has the files, the name and the columns that it had before
+        the snapshot."""
         missing = object()
         files = stored_in(connection, [table])
         with self.looking:
@@ -223,11 +248,14 @@ def parts_of(connection: Connection, table: Table) -> Iterator[Part]:
 
 
 def take_snapshot(plain: Connection, snapshot: str) -> None:
-    """Lets the transaction see what the slot's snapshot has. That is gone with the connection of the slot, which may pass."""
+    """Lets the transaction see what the slot's snapshot has. That is gone with the connection of
+    the slot, which may pass."""
     try:
         plain.run(f"SET TRANSACTION SNAPSHOT {literal(snapshot)}")
     except ServerError as error:
-        raise ServerError(str(error), "" if error.sqlstate == NO_SNAPSHOT else error.sqlstate) from None
+        raise ServerError(
+            str(error), "" if error.sqlstate == NO_SNAPSHOT else error.sqlstate
+        ) from None
 
 
 def lock_tables(plain: Connection, tables: list[Table], waits: bool = True) -> None:

@@ -1,1 +1,2 @@
-"""What may make the copy wrong: changes of definitions, rows that were missed, and what was found."""
+"""What may make the copy wrong: changes of definitions, rows that were missed, and what was found.
+"""

@@ -1,4 +1,5 @@
-"""What has changed between two readings of a server's publications, and between two Relation messages, in plain words.
+"""What has changed between two readings of a server's publications, and between two Relation
+messages, in plain words.
 
 Each difference has the kind of fault that it may be in the copy:
 
@@ -17,7 +18,7 @@ from collections.abc import Iterable, Iterator
 from typing import NamedTuple
 
 from ..server.catalog import ACTIONS, Catalog, Part, Partition, Publication, Shape, Table
-from .findings import About, NOTHING
+from .findings import NOTHING, About
 
 NAMES, PUBLICATION, VALUES = "names", "publication", "values"
 KINDS = (NAMES, PUBLICATION, VALUES)
@@ -58,14 +59,20 @@ def differences(before: Catalog, now: Catalog) -> Iterator[Difference]:
         yield from type_differences(oid, before.types[oid], now.types[oid])
 
 
-def publication_differences(name: str, before: Publication, now: Publication) -> Iterator[Difference]:
+def publication_differences(
+    name: str, before: Publication, now: Publication
+) -> Iterator[Difference]:
     about = About(publication=name)
     if before.oid != now.oid:
         text = f"publication {name} was dropped and made anew: changes in between aren't sent"
         yield Difference(PUBLICATION, text, about._replace(is_missing=True))
     for word in before.actions:
         if word not in now.actions:
-            yield Difference(PUBLICATION, f"publication {name} has no {word}s any more", about._replace(lacks=word))
+            yield Difference(
+                PUBLICATION,
+                f"publication {name} has no {word}s any more",
+                about._replace(lacks=word),
+            )
     for word in now.actions:
         if word not in before.actions:
             yield Difference(PUBLICATION, f"publication {name} has {word}s only from now on", about)
@@ -78,7 +85,9 @@ def publication_differences(name: str, before: Publication, now: Publication) ->
         yield Difference(PUBLICATION, text, about)
     if before.generated != now.generated:
         generated = "only from now on" if now.generated else "no more"
-        yield Difference(PUBLICATION, f"publication {name} has generated columns {generated}", about)
+        yield Difference(
+            PUBLICATION, f"publication {name} has generated columns {generated}", about
+        )
 
 
 def table_differences(oid: int, before: Catalog, now: Catalog) -> Iterator[Difference]:
@@ -102,7 +111,10 @@ def table_differences(oid: int, before: Catalog, now: Catalog) -> Iterator[Diffe
             yield gone(oid, f"{old.namespace}.{old.name}")
     elif old is not None and new is not None:
         yield from logging_differences(f"table {new.text()}", (oid,), old.logged, new.logged)
-        parts = (part_differences(new, old.parts[name], new.parts[name]) for name in sorted(old.parts.keys() & new.parts.keys()))
+        parts = (
+            part_differences(new, old.parts[name], new.parts[name])
+            for name in sorted(old.parts.keys() & new.parts.keys())
+        )
         told = [*itertools.chain.from_iterable(parts), *sent_differences(old, new, before, now)]
         if not told and has_left(old, new, before, now):
             text = f"table {new.text()} left and joined again: changes in between weren't sent"
@@ -115,7 +127,9 @@ def table_differences(oid: int, before: Catalog, now: Catalog) -> Iterator[Diffe
         yield from shapes
 
 
-def logging_differences(name: str, tables: tuple[int, ...], old: bool, new: bool) -> Iterator[Difference]:
+def logging_differences(
+    name: str, tables: tuple[int, ...], old: bool, new: bool
+) -> Iterator[Difference]:
     """Whether changes are in the log, of what its rows were copied or not."""
     if old and not new:
         text = f"{name} is unlogged now: its changes aren't sent, and the rows that it had stay as they were"
@@ -126,14 +140,17 @@ def logging_differences(name: str, tables: tuple[int, ...], old: bool, new: bool
 
 
 def is_computed_anew(oid: int, before: Catalog, now: Catalog) -> bool:
-    """Whether an ALTER TABLE may have computed values of a table that has the same columns: by USING, without another type."""
+    """Whether an ALTER TABLE may have computed values of a table that has the same columns: by
+    USING, without another type."""
     return oid not in now.kept and bool(written_anew(oid, before, now))
 
 
 def written_anew(oid: int, before: Catalog, now: Catalog) -> list[Table | Partition]:
-    """Of a table whose columns were altered: itself or its partitions, as far as an ALTER TABLE may have written them anew.
+    """Of a table whose columns were altered: itself or its partitions, as far as an ALTER TABLE may
+    have written them anew.
 
-    That gives a table that keeps long values another place for these. VACUUM FULL, CLUSTER and TRUNCATE don't.
+    That gives a table that keeps long values another place for these. VACUUM FULL, CLUSTER and
+    TRUNCATE don't.
     """
     old, new = before.tables[oid], now.tables[oid]
     if "" in (old.altered, new.altered) or old.altered == new.altered:
@@ -141,12 +158,21 @@ def written_anew(oid: int, before: Catalog, now: Catalog) -> list[Table | Partit
     pairs: list[tuple[Table | Partition, Table | Partition]] = [(old, new)]
     if not new.node:
         both = sorted(before.partitions.keys() & now.partitions.keys())
-        pairs = [(before.partitions[it], now.partitions[it]) for it in both if root_of(it, now) == oid == root_of(it, before)]
-    return [are for was, are in pairs if was.node not in (0, are.node) and (not are.toast or are.toast != was.toast)]
+        pairs = [
+            (before.partitions[it], now.partitions[it])
+            for it in both
+            if root_of(it, now) == oid == root_of(it, before)
+        ]
+    return [
+        are
+        for was, are in pairs
+        if was.node not in (0, are.node) and (not are.toast or are.toast != was.toast)
+    ]
 
 
 def asks_rows(oid: int, before: Catalog, now: Catalog) -> list[int]:
-    """Those of them of which only their rows tell whether it was done; none where it is certain of one."""
+    """Those of them of which only their rows tell whether it was done; none where it is certain of
+    one."""
     found = written_anew(oid, before, now)
     if any(it.toast and toast_of(it.oid, before) for it in found):
         return []
@@ -167,8 +193,9 @@ def gone(oid: int, name: str) -> Difference:
 def is_complete(table: Table, before: Catalog, now: Catalog) -> bool:
     """Whether a table that joined was published from its first row on.
 
-    It was made after `before` was read, nobody has written it anew, as where it became a logged one, and it is in a publication
-    of all tables, or in one of its schema without having been moved there. Or it was made as a partition of what was published.
+    It was made after `before` was read, nobody has written it anew, as where it became a logged
+    one, and it is in a publication of all tables, or in one of its schema without having been moved
+    there. Or it was made as a partition of what was published.
     """
     if is_made_in(table.oid, before, now) or table.oid in now.fresh:
         return True
@@ -182,11 +209,17 @@ def is_complete(table: Table, before: Catalog, now: Catalog) -> bool:
 
 
 def attached(before: Catalog, now: Catalog) -> dict[int, list[str]]:
-    """The partitions that weren't published, and are by what they were attached to, which was: each with the transactions that have
-    attached it, or what it is in. Rows that are older than these weren't sent."""
+    """The partitions that weren't published, and are by what they were attached to, which was: each
+    with the transactions that have attached it, or what it is in. Rows that are older than these
+    weren't sent."""
     found = {}
     for oid, partition in now.partitions.items():
-        if oid in before.partitions or oid in before.tables or not (partition.leaf and partition.logged) or is_made_in(oid, before, now):
+        if (
+            oid in before.partitions
+            or oid in before.tables
+            or not (partition.leaf and partition.logged)
+            or is_made_in(oid, before, now)
+        ):
             continue
         ways, at = [partition.since], partition.parent
         while at and at not in before.partitions and at in now.partitions:
@@ -216,11 +249,14 @@ def part_differences(table: Table, old: Part, new: Part) -> Iterator[Difference]
 
 
 def sent_differences(old: Table, new: Table, before: Catalog, now: Catalog) -> Iterator[Difference]:
-    """What is sent of a table otherwise, by whichever publication. What one of them has altered for all its tables is told by that."""
+    """What is sent of a table otherwise, by whichever publication. What one of them has altered for
+    all its tables is told by that."""
     was, are = ways_of(old, before, now), ways_of(new, now, before)
     table, about = f"table {new.text()}", About((new.oid,))
     for word in sorted(was.keys() - are.keys(), key=ACTIONS.index):
-        yield Difference(PUBLICATION, f"{table} has no {word}s any more", about._replace(lacks=word))
+        yield Difference(
+            PUBLICATION, f"{table} has no {word}s any more", about._replace(lacks=word)
+        )
     if joined := are.keys() - was.keys():
         yield Difference(PUBLICATION, f"{table} has {words_text(joined)} only from now on", about)
     both = was.keys() & are.keys()
@@ -230,10 +266,15 @@ def sent_differences(old: Table, new: Table, before: Catalog, now: Catalog) -> I
             others.setdefault((filter_text(was[word]), filter_text(are[word])), []).append(word)
     for (earlier, later), words in sorted(others.items()):
         which = "" if len(words) == len(both - {TRUNCATE}) else f" for {words_text(words)}"
-        yield Difference(PUBLICATION, f"{table} has the row filter {later}{which} now, and before {earlier}", about)
+        yield Difference(
+            PUBLICATION,
+            f"{table} has the row filter {later}{which} now, and before {earlier}",
+            about,
+        )
 
 
-# By action and row filter, None for all rows: the parts of publications by which these rows of a table are sent.
+# By action and row filter, None for all rows: the parts of publications by which these rows of a
+# table are sent.
 Ways = dict[str, dict[str | None, dict[str, Part]]]
 
 
@@ -241,21 +282,28 @@ def ways_of(table: Table, catalog: Catalog, other: Catalog) -> Ways:
     """Those of the actions that the publications have in both readings."""
     found: Ways = {}
     for name, part in table.parts.items():
-        actions = [set(it.publications[name].actions) for it in (catalog, other) if name in it.publications]
+        actions = [
+            set(it.publications[name].actions) for it in (catalog, other) if name in it.publications
+        ]
         for word in set(ACTIONS).intersection(*actions) if actions else ():
-            found.setdefault(word, {}).setdefault(part.row_filter if word != TRUNCATE else None, {})[name] = part
+            found.setdefault(word, {}).setdefault(
+                part.row_filter if word != TRUNCATE else None, {}
+            )[name] = part
     return {word: {None: it[None]} if None in it else it for word, it in found.items()}
 
 
 def has_left(old: Table, new: Table, before: Catalog, now: Catalog) -> bool:
-    """Whether some rows that are sent of a table in both readings weren't in between, as far as that is known."""
+    """Whether some rows that are sent of a table in both readings weren't in between, as far as
+    that is known."""
     was, are = ways_of(old, before, now), ways_of(new, now, before)
     oids = {name: it.oid for name, it in before.publications.items()}
     # (what is sent by a publication that is new itself is told by that)
     kept = {name for name, it in now.publications.items() if oids.get(name) == it.oid}
     return any(
-        parts.keys() <= kept and not any(stays(was[word][row_filter].get(name), part) for name, part in parts.items())
-        for word, ways in are.items() for row_filter, parts in ways.items()
+        parts.keys() <= kept
+        and not any(stays(was[word][row_filter].get(name), part) for name, part in parts.items())
+        for word, ways in are.items()
+        for row_filter, parts in ways.items()
     )
 
 
@@ -263,11 +311,14 @@ def stays(old: Part | None, new: Part) -> bool:
     """Whether a publication had a table all the time between two readings."""
     if old is None or old.since is None or new.since is None:
         return old is not None
-    return old.since == new.since or any(is_same_way(one, other) for one in old.since for other in new.since)
+    return old.since == new.since or any(
+        is_same_way(one, other) for one in old.since for other in new.since
+    )
 
 
 def is_same_way(one: str, other: str) -> bool:
-    """Whether by both a publication has a table all the time. An earlier version of this program didn't keep who put it into a schema."""
+    """Whether by both a publication has a table all the time. An earlier version of this program
+    didn't keep who put it into a schema."""
     return one == other or ("@" in one) != ("@" in other) and PUT.sub("", one) == PUT.sub("", other)
 
 
@@ -282,7 +333,8 @@ def words_text(words: Iterable[str]) -> str:
 
 
 def shape_differences(oid: int, table: str, old: Shape, new: Shape) -> Iterator[Difference]:
-    """What of another definition may have changed values in rows that were there. Columns that only went have not."""
+    """What of another definition may have changed values in rows that were there. Columns that only
+    went have not."""
     about = About((oid,))
     return (Difference(VALUES, text, about) for text in shape_texts(table, old, new))
 
@@ -293,15 +345,22 @@ def shape_texts(table: str, old: Shape, new: Shape) -> Iterator[str]:
         same = was.get(column.name)
         if same is not None and column.number and same.number and column.number != same.number:
             yield f"column {column.name} of {table} was dropped and made anew: its values may be the old ones"
-        elif same is not None and (same.type_oid, same.modifier) != (column.type_oid, column.modifier):
+        elif same is not None and (same.type_oid, same.modifier) != (
+            column.type_oid,
+            column.modifier,
+        ):
             yield f"column {column.name} of {table} has another type: its values may be written in another way"
         elif same is None:
             yield f"column {column.name} of {table} was added or renamed: rows that were there have nulls in it"
     kept = {it.name for it in new.columns}
-    if [it.name for it in old.columns if it.name in kept] != [it.name for it in new.columns if it.name in was]:
+    if [it.name for it in old.columns if it.name in kept] != [
+        it.name for it in new.columns if it.name in was
+    ]:
         yield f"columns of {table} have changed their names among each other, or were made anew"
     if (old.identity, keys_of(old)) != (new.identity, keys_of(new)):
-        key = "all columns" if new.identity == "f" else ", ".join(keys_of(new)[:NAMED]) or "no column"
+        key = (
+            "all columns" if new.identity == "f" else ", ".join(keys_of(new)[:NAMED]) or "no column"
+        )
         yield f"table {table} has another replica identity: {key}"
 
 
@@ -310,12 +369,17 @@ def keys_of(shape: Shape) -> list[str]:
 
 
 def partition_differences(before: Catalog, now: Catalog) -> Iterator[Difference]:
-    """Those of partitions whose rows are published under another name. Any other is a published table itself."""
+    """Those of partitions whose rows are published under another name. Any other is a published
+    table itself."""
     for oid in sorted(before.partitions.keys() | now.partitions.keys()):
         was, root = root_of(oid, before), root_of(oid, now)
         if was != root and was in now.tables:
-            partition = f"partition {before.partitions[oid].name} ({oid}) of {now.tables[was].text()}"
-            yield Difference(PUBLICATION, f"{partition} was detached or dropped: its rows stay", About((was,)))
+            partition = (
+                f"partition {before.partitions[oid].name} ({oid}) of {now.tables[was].text()}"
+            )
+            yield Difference(
+                PUBLICATION, f"{partition} was detached or dropped: its rows stay", About((was,))
+            )
         if was != root and root in before.tables:
             partition = f"partition {now.partitions[oid].name} ({oid}) of {now.tables[root].text()}"
             if not now.partitions[oid].logged:
@@ -339,15 +403,22 @@ def detachments(before: Catalog, now: Catalog) -> Iterator[Difference]:
         root, at = root_of(oid, now), oid
         while root == root_of(oid, before) and root and at != root:
             old, new = before.partitions.get(at), now.partitions[at]
-            if old and "" not in (old.since, new.since) and (old.parent, old.since) != (new.parent, new.since):
+            if (
+                old
+                and "" not in (old.since, new.since)
+                and (old.parent, old.since) != (new.parent, new.since)
+            ):
                 partition = f"partition {new.name} ({at}) of {now.tables[root].text()}"
-                text = f"{partition} was detached and attached again: changes in between weren't sent"
+                text = (
+                    f"{partition} was detached and attached again: changes in between weren't sent"
+                )
                 yield Difference(PUBLICATION, text, About((root,)))
             at = new.parent
 
 
 def truncations(before: Catalog, now: Catalog) -> Iterator[Difference]:
-    """Partitions under another name whose rows are in another file: a TRUNCATE of such a one alone isn't sent."""
+    """Partitions under another name whose rows are in another file: a TRUNCATE of such a one alone
+    isn't sent."""
     for oid, root in written_partitions(before, now).items():
         # (rows that are older than the earlier reading tell that it wasn't truncated)
         if oid not in now.kept:
@@ -364,7 +435,12 @@ def written_partitions(before: Catalog, now: Catalog) -> dict[int, int]:
     parts: dict[int, list[int]] = {}
     for oid in sorted(before.partitions.keys() & now.partitions.keys() - now.tables.keys()):
         root = root_of(oid, now)
-        if root and root == root_of(oid, before) and now.partitions[oid].logged and before.partitions[oid].logged:
+        if (
+            root
+            and root == root_of(oid, before)
+            and now.partitions[oid].logged
+            and before.partitions[oid].logged
+        ):
             parts.setdefault(root, []).append(oid)
     found = dict[int, int]()
     for root, oids in parts.items():
@@ -374,7 +450,8 @@ def written_partitions(before: Catalog, now: Catalog) -> dict[int, int]:
 
 
 def root_of(oid: int, catalog: Catalog) -> int:
-    """The topmost published table that has a partition's rows, 0 where there is none, or where it is one with partitions itself."""
+    """The topmost published table that has a partition's rows, 0 where there is none, or where it
+    is one with partitions itself."""
     partition = catalog.partitions.get(oid)
     if partition is None or not partition.leaf:
         return 0
@@ -386,10 +463,23 @@ def root_of(oid: int, catalog: Catalog) -> int:
 
 
 def type_differences(oid: int, old: dict[str, str], new: dict[str, str]) -> Iterator[Difference]:
-    """Labels that were renamed, and parts of composite types. A label that was added changes no value."""
+    """Labels that were renamed, and parts of composite types. A label that was added changes no
+    value."""
     name, about = f"type {new.get('name', '')} ({oid})", About(type_oid=oid)
-    renamed = sorted(f"{old[it]} became {new[it]}" for it in old.keys() & new.keys() if it.isdigit() and old[it] != new[it])
+    renamed = sorted(
+        f"{old[it]} became {new[it]}"
+        for it in old.keys() & new.keys()
+        if it.isdigit() and old[it] != new[it]
+    )
     if renamed:
-        yield Difference(VALUES, f"{name}: {', '.join(renamed[:NAMED])}: values that were there have the old labels", about)
+        yield Difference(
+            VALUES,
+            f"{name}: {', '.join(renamed[:NAMED])}: values that were there have the old labels",
+            about,
+        )
     if {it: old[it] for it in old if it[0] == "#"} != {it: new[it] for it in new if it[0] == "#"}:
-        yield Difference(VALUES, f"{name} consists of other parts: values that were there have the old ones", about)
+        yield Difference(
+            VALUES,
+            f"{name} consists of other parts: values that were there have the old ones",
+            about,
+        )

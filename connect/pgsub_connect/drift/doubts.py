@@ -18,11 +18,12 @@ from __future__ import annotations
 import dataclasses
 import time
 
-from ..server.catalog import Catalog
-from .differences import asks_rows, attached, written_partitions
-from ..errors import ServerError, understood
-from ..server.connection import Connection, QUICK
 from pgsub_feed.texts import identifier, literal
+
+from ..errors import ServerError, understood
+from ..server.catalog import Catalog
+from ..server.connection import QUICK, Connection
+from .differences import asks_rows, attached, written_partitions
 
 # For how many seconds each table is asked at most, and all together.
 EACH, ALL = 1, 2
@@ -82,8 +83,8 @@ def has_its_values(connection: Connection, oid: int, since: str, until: float) -
 
 
 def has_older(connection: Connection, oid: int, since: str, until: float) -> bool:
-    """Whether it is certain that a row of a table is older than an earlier reading. (Ages are of one
-    moment within a query alone.)"""
+    """Whether it is certain that a row of a table is older than an earlier reading. (Ages are of
+    one moment within a query alone.)"""
     age = f"pg_catalog.age({literal(since)}::pg_catalog.xid)"
     condition = f"pg_catalog.age(r.xmin) < 0 OR pg_catalog.age(r.xmin) > {age}"
     return since != "" and has(connection, oid, condition, until) is True

@@ -1,6 +1,7 @@
 """What was found of one kind: its texts, and what each of them is about.
 
-Tables whose rows are missing or wrong are copied anew by what is kept of them, so at least one text of each table is.
+Tables whose rows are missing or wrong are copied anew by what is kept of them, so at least one text
+of each table is.
 """
 
 from __future__ import annotations
@@ -14,7 +15,8 @@ MOST = 100
 
 
 class About(NamedTuple):
-    """What a text is about: tables, or those of a publication, or those that have a column of a type."""
+    """What a text is about: tables, or those of a publication, or those that have a column of a
+    type."""
 
     tables: tuple[int, ...] = ()
     publication: str = ""
@@ -37,8 +39,12 @@ NOTHING = About()
 def about_of(said: dict[str, Any]) -> About:
     """What a file has kept of one."""
     return About(
-        tuple(int(it) for it in said.get("tables", ())), str(said.get("publication", "")), int(said.get("type_oid", 0)),
-        str(said.get("lacks", "")), bool(said.get("is_missing", False)), str(said.get("gone", "")),
+        tuple(int(it) for it in said.get("tables", ())),
+        str(said.get("publication", "")),
+        int(said.get("type_oid", 0)),
+        str(said.get("lacks", "")),
+        bool(said.get("is_missing", False)),
+        str(said.get("gone", "")),
     )
 
 
@@ -55,7 +61,8 @@ class Found:
         self.tables = {oid for it in self.texts.values() for oid in it.tables}
 
     def add(self, text: str, about: About) -> None:
-        """Notes a text. Of a table that has one already, another one may not be kept: the log has it."""
+        """Notes a text. Of a table that has one already, another one may not be kept: the log has
+        it."""
         if len(self.texts) < MOST or not self.tables.issuperset(about.tables):
             self.texts[text] = about
             self.tables.update(about.tables)

@@ -1,11 +1,14 @@
 """Changes that found no row: Updates and Deletes whose row the store doesn't have.
 
-Such a change does nothing, and tells that the copy differed before. The filter counts them from its beginning on, and says on standard
-error how many there were before it writes the status that confirms their commits. They are put on the disk before that status goes on
-to the server, so what is confirmed is counted. One that rejects a commit has said it of those before, which are stored and not confirmed.
+Such a change does nothing, and tells that the copy differed before. The filter counts them from its
+beginning on, and says on standard error how many there were before it writes the status that
+confirms their commits. They are put on the disk before that status goes on to the server, so what
+is confirmed is counted. One that rejects a commit has said it of those before, which are stored and
+not confirmed.
 
-Where a filter was killed, or its store failed, after it had stored a commit and before its status was noted, the store is found further
-than the checkpoint says, and what lies between is told as not counted.
+Where a filter was killed, or its store failed, after it had stored a commit and before its status
+was noted, the store is found further than the checkpoint says, and what lies between is told as not
+counted.
 """
 
 from __future__ import annotations
@@ -14,14 +17,15 @@ import time
 from typing import TYPE_CHECKING
 
 from pgsub_feed import log
-from ..store.checkpoint import Checkpoint, Counted, MISSING
-from ..status.progress import Progress
-from .remembered import Remembered
 from pgsub_feed.texts import counted, lsn_text
 
+from ..status.progress import Progress
+from ..store.checkpoint import MISSING, Checkpoint, Counted
+from .remembered import Remembered
+
 if TYPE_CHECKING:
-    from ..follow.filter import Missing
     from ..commands.options import Options
+    from ..follow.filter import Missing
 
 # After how many seconds more of them are told at the earliest.
 AGAIN = 10.0
@@ -32,18 +36,30 @@ def texts_of(known: Counted, remembered: Remembered) -> list[str]:
     texts = []
     if known.count:
         table = remembered.text_of(known.relation)
-        texts.append(f"{counted(known.count, 'change')} found no row, the first one of {table} in the commit that ends at {lsn_text(known.first)}")
+        texts.append(
+            f"{counted(known.count, 'change')} found no row, the first one of {table} in the commit that ends at {lsn_text(known.first)}"
+        )
     if known.gap:
         after, upto = map(lsn_text, known.gap)
-        texts.append(f"not counted in the commits that end behind {after} and up to {upto}: the filter, the connector or the machine ended before")
+        texts.append(
+            f"not counted in the commits that end behind {after} and up to {upto}: the filter, the connector or the machine ended before"
+        )
     return texts
 
 
 class Misses:
-    """Counts them. `count`: how many there were in this run; `is_new`: there were some since the caller looked last."""
+    """Counts them. `count`: how many there were in this run; `is_new`: there were some since the
+    caller looked last."""
 
-    def __init__(self, options: Options, checkpoint: Checkpoint, progress: Progress, remembered: Remembered) -> None:
-        self.options, self.checkpoint, self.progress, self.remembered = options, checkpoint, progress, remembered
+    def __init__(
+        self, options: Options, checkpoint: Checkpoint, progress: Progress, remembered: Remembered
+    ) -> None:
+        self.options, self.checkpoint, self.progress, self.remembered = (
+            options,
+            checkpoint,
+            progress,
+            remembered,
+        )
         self.count = 0
         # how many of the filter that runs are noted
         self.noted = 0
@@ -51,12 +67,16 @@ class Misses:
         self.next_telling = 0.0
 
     def begin_filter(self, position: int, has_told_all: bool) -> bool:
-        """A filter begins at a store's position. Returns whether commits were stored before that weren't counted.
+        """A filter begins at a store's position. Returns whether commits were stored before that
+        weren't counted.
 
-        `has_told_all`: the one before has begun in this run, and has said of all that it stored what found no row.
+        `has_told_all`: the one before has begun in this run, and has said of all that it stored
+        what found no row.
         """
         self.noted = 0
-        is_found = self.checkpoint.begin_counting(position, has_told_all or self.options.accepts(MISSING))
+        is_found = self.checkpoint.begin_counting(
+            position, has_told_all or self.options.accepts(MISSING)
+        )
         self.show()
         if is_found and self.checkpoint.counted:
             self.warn(texts_of(self.checkpoint.counted, self.remembered)[-1])
@@ -67,7 +87,8 @@ class Misses:
         return missing.total > self.noted
 
     def note(self, missing: Missing, position: int) -> None:
-        """Notes durably what the filter says, before its commits up to this position are confirmed."""
+        """Notes durably what the filter says, before its commits up to this position are
+        confirmed."""
         more = missing.total - self.noted
         self.checkpoint.note_missing(more, missing.first, missing.relation, position)
         self.noted, self.count = missing.total, self.count + more
@@ -77,13 +98,19 @@ class Misses:
     def show(self) -> None:
         """Tells the progress what is counted."""
         self.progress.counted = known = self.checkpoint.counted
-        self.progress.missing_in = self.remembered.text_of(known.relation) if known and known.count else ""
+        self.progress.missing_in = (
+            self.remembered.text_of(known.relation) if known and known.count else ""
+        )
         if known and (texts := texts_of(known, self.remembered)):
             self.progress.found = {**self.progress.found, MISSING: "; ".join(texts)}
 
     def tell(self, is_last: bool = False) -> None:
         """Tells the first one at once, and more of them later, with their number."""
-        if self.is_untold and (is_last or time.monotonic() >= self.next_telling) and self.checkpoint.counted:
+        if (
+            self.is_untold
+            and (is_last or time.monotonic() >= self.next_telling)
+            and self.checkpoint.counted
+        ):
             self.is_untold, self.next_telling = False, time.monotonic() + AGAIN
             self.warn(texts_of(self.checkpoint.counted, self.remembered)[0])
 

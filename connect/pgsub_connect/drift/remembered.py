@@ -1,8 +1,11 @@
-"""What is remembered of the publications that are followed, in a file beside the store, and what was found by it.
+"""What is remembered of the publications that are followed, in a file beside the store, and what
+was found by it.
 
-The file is `STORE.tables`. Its first line is an object of JSON. It is replaced as a whole: written to a new file, which gets the name once
-the disk has it. What Relation messages said since may follow, a line of JSON for each time that it was put on the disk: so that costs by what
-is new, and not by all tables. A last line that isn't complete was never synced. So a reader (`pgsub-connect names`) may look at it at any time.
+The file is `STORE.tables`. Its first line is an object of JSON. It is replaced as a whole: written
+to a new file, which gets the name once the disk has it. What Relation messages said since may
+follow, a line of JSON for each time that it was put on the disk: so that costs by what is new, and
+not by all tables. A last line that isn't complete was never synced. So a reader (`pgsub-connect
+names`) may look at it at any time.
 
 As long as nothing was copied it has the first three fields alone.
 
@@ -36,13 +39,14 @@ import os
 from collections.abc import Iterable
 from typing import Any
 
+from pgsub_feed.ownership import succeed
+from pgsub_feed.texts import lsn_text, parse_lsn, shortened
+
+from ..errors import FileError, Passing
 from ..server.catalog import Catalog, Column, Part, Partition, Publication, Shape, Table
 from .differences import NAMES, differences, gone, shape_differences
-from ..errors import FileError, Passing
-from .findings import About, Found, NOTHING, about_of
-from pgsub_feed.ownership import succeed
+from .findings import NOTHING, About, Found, about_of
 from .remembered_lines import check_said, noted_in, read_lines
-from pgsub_feed.texts import lsn_text, parse_lsn, shortened
 
 FORMAT = 1
 NEW = ".new"
@@ -69,7 +73,8 @@ Noted = tuple[Relation, int]
 
 @dataclasses.dataclass(frozen=True)
 class Sent:
-    """The last Relation message of an OID: its commit's LSN, and what it said; None where only the copy's rows are known."""
+    """The last Relation message of an OID: its commit's LSN, and what it said; None where only the
+    copy's rows are known."""
 
     lsn: int
     shape: Shape | None
@@ -77,7 +82,8 @@ class Sent:
 
 @dataclasses.dataclass
 class Name:
-    """Which OID a name has, None where its table has another name now; since when; and which ones had it before."""
+    """Which OID a name has, None where its table has another name now; since when; and which ones
+    had it before."""
 
     oid: int | None
     since: int
@@ -85,12 +91,15 @@ class Name:
 
 
 class Remembered:
-    """The file. `is_urgent`: it says what has to be on the disk before anything more is confirmed; `is_changed`: anything new;
-    `is_other`: anything but what Relation messages said, which are `noted` until they are on the disk."""
+    """The file. `is_urgent`: it says what has to be on the disk before anything more is confirmed;
+    `is_changed`: anything new; `is_other`: anything but what Relation messages said, which are
+    `noted` until they are on the disk.
+    """
 
     def __init__(self, store: str, mode: int = 0o600) -> None:
         self.path, self.mode = store + ".tables", mode
-        # the length of the file's first line, 0 where it is to be replaced, and which file it is, with its length
+        # the length of the file's first line, 0 where it is to be replaced, and which file it is,
+        # with its length
         self.first = 0
         self.file = (0, 0)
         self.forget()
@@ -116,7 +125,8 @@ class Remembered:
         self.left: set[int] = set()
         self.wanted: dict[int, str] = {}
         self.copied: dict[int, int] = {}
-        # the tables that the initial copy has left for later: what the copy has of them is a part at most
+        # the tables that the initial copy has left for later: what the copy has of them is a part
+        # at most
         self.partial: set[int] = set()
         self.unwanted: set[int] = set()
         self.news: list[str] = []
@@ -129,18 +139,28 @@ class Remembered:
 
     def is_known(self, oid: int) -> bool:
         """Whether a Relation message of this OID is no news."""
-        return self.catalog is not None and (oid in self.catalog.tables or oid in self.catalog.partitions or oid in self.sent)
+        return self.catalog is not None and (
+            oid in self.catalog.tables or oid in self.catalog.partitions or oid in self.sent
+        )
 
     def is_unpublished(self, oid: int, lsn: int) -> bool:
-        """Whether a table wasn't published under its own name at the last look, which was before a commit with this LSN."""
-        return self.catalog is not None and lsn > self.catalog.lsn and oid not in self.catalog.tables
+        """Whether a table wasn't published under its own name at the last look, which was before a
+        commit with this LSN."""
+        return (
+            self.catalog is not None and lsn > self.catalog.lsn and oid not in self.catalog.tables
+        )
 
     def is_partition(self, oid: int) -> bool:
         """Whether this is a partition whose rows are sent under another name."""
-        return self.catalog is not None and oid in self.catalog.partitions and oid not in self.catalog.tables
+        return (
+            self.catalog is not None
+            and oid in self.catalog.partitions
+            and oid not in self.catalog.tables
+        )
 
     def last_sent(self, oid: int) -> int:
-        """The LSN of the commit with the last Relation message of this OID, -1 where none has come."""
+        """The LSN of the commit with the last Relation message of this OID, -1 where none has
+        come."""
         return self.sent[oid].lsn if oid in self.sent else -1
 
     def text_of(self, oid: int) -> str:
@@ -155,14 +175,17 @@ class Remembered:
 
     def key_of(self, oid: int) -> tuple[str, str] | None:
         """The same, as schema and name, by what messages said too."""
-        return self.held.get(oid) or next((key for key, name in self.names.items() if oid in name.before), None)
+        return self.held.get(oid) or next(
+            (key for key, name in self.names.items() if oid in name.before), None
+        )
 
     def begin_copy(self, catalog: Catalog, point: int) -> None:
         """Remembers what a server had at the LSN as of which its rows are copied."""
         self.begin(dataclasses.replace(catalog, lsn=point), point)
 
     def begin(self, catalog: Catalog, copied: int | None = None) -> None:
-        """Remembers what a server has, and nothing else. `copied`: as of which LSN all rows of it are in the store."""
+        """Remembers what a server has, and nothing else. `copied`: as of which LSN all rows of it
+        are in the store."""
         made, feed = self.made, self.feed
         self.forget()
         self.catalog, self.made, self.feed = catalog, made, feed
@@ -189,12 +212,14 @@ class Remembered:
             self.save()
 
     def keep_made(self, made: dict[str, int]) -> None:
-        """Notes publications before they are there for others, and durably: so a later run knows what one that was killed has left."""
+        """Notes publications before they are there for others, and durably: so a later run knows
+        what one that was killed has left."""
         self.note_made(made)
         self.save()
 
     def look(self, now: Catalog) -> list[str]:
-        """Compares what a server has with what is remembered, and remembers it. Returns what makes nothing wrong, but is new."""
+        """Compares what a server has with what is remembered, and remembers it. Returns what makes
+        nothing wrong, but is new."""
         before = self.catalog
         assert before is not None
         harmless = []
@@ -223,7 +248,8 @@ class Remembered:
         return harmless
 
     def release_names(self, now: Catalog) -> None:
-        """Takes names from tables that have another one now, so that it doesn't matter in which order they are looked at."""
+        """Takes names from tables that have another one now, so that it doesn't matter in which
+        order they are looked at."""
         for oid, key in list(self.held.items()):
             table = now.tables.get(oid)
             if table and (table.namespace, table.name) != key:
@@ -252,7 +278,11 @@ class Remembered:
 
     def name_new(self, namespace: str, table: str, oid: int, lsn: int) -> None:
         """Notes the name of a table that wasn't there at the last look, unless that is known."""
-        if self.catalog and oid not in self.catalog.tables and (text := self.rename(namespace, table, oid, lsn)):
+        if (
+            self.catalog
+            and oid not in self.catalog.tables
+            and (text := self.rename(namespace, table, oid, lsn))
+        ):
             self.find(NAMES, lsn, text)
 
     def rename_earlier(self, namespace: str, table: str, oid: int, lsn: int) -> str:
@@ -267,7 +297,8 @@ class Remembered:
         return names_text((namespace, table), name.oid, oid)
 
     def note(self, relation: Relation, lsn: int, last: int) -> None:
-        """Takes a Relation message of a change into account. `last`: up to which commit those of this OID are known."""
+        """Takes a Relation message of a change into account. `last`: up to which commit those of
+        this OID are known."""
         if self.catalog is None or lsn <= last:
             return
         is_other = self.is_other
@@ -279,9 +310,16 @@ class Remembered:
     def take(self, relation: Relation, lsn: int, catalog: Catalog) -> None:
         oid, sent = relation.oid, self.sent.get(relation.oid)
         table = catalog.tables.get(oid)
-        # What led to what was there at the last look is told by that. Before, each message is one step after the other.
-        before = table.shape if table is not None and lsn > catalog.lsn else sent.shape if sent else None
-        told = list(shape_differences(oid, relation.text(), before, relation.shape)) if before is not None else []
+        # What led to what was there at the last look is told by that. Before, each message is one
+        # step after the other.
+        before = (
+            table.shape if table is not None and lsn > catalog.lsn else sent.shape if sent else None
+        )
+        told = (
+            list(shape_differences(oid, relation.text(), before, relation.shape))
+            if before is not None
+            else []
+        )
         for kind, text, about in told:
             self.find(kind, lsn, text, about)
         if lsn > catalog.lsn or oid not in self.held:
@@ -294,9 +332,14 @@ class Remembered:
         self.is_urgent = self.is_urgent or sent is None or sent.shape != relation.shape
         if table is not None and lsn > catalog.lsn:
             numbers = {it.name: it.number for it in table.shape.columns}
-            columns = tuple(it._replace(number=numbers.get(it.name, 0)) for it in relation.shape.columns)
+            columns = tuple(
+                it._replace(number=numbers.get(it.name, 0)) for it in relation.shape.columns
+            )
             catalog.tables[oid] = dataclasses.replace(
-                table, namespace=relation.namespace, name=relation.name, shape=Shape(relation.shape.identity, columns),
+                table,
+                namespace=relation.namespace,
+                name=relation.name,
+                shape=Shape(relation.shape.identity, columns),
                 # (the next look isn't to tell it in other words)
                 altered="" if told else table.altered,
             )
@@ -326,7 +369,8 @@ class Remembered:
         return news
 
     def forget_told(self, position: int) -> None:
-        """Forgets which texts a Relation message may give again, once those messages are in the store."""
+        """Forgets which texts a Relation message may give again, once those messages are in the
+        store."""
         self.told = {text: lsn for text, lsn in self.told.items() if lsn > position}
 
     def accept(self, kinds: list[str]) -> None:
@@ -336,18 +380,21 @@ class Remembered:
             self.touch()
 
     def want(self, oids: Iterable[int], unwanted: Iterable[int] = ()) -> None:
-        """Notes durably that the rows of tables are to be added, anew where that was refused, and that those of others are to go."""
+        """Notes durably that the rows of tables are to be added, anew where that was refused, and
+        that those of others are to go."""
         self.unwanted |= set(unwanted)
         self.wanted |= {oid: "" for oid in (*oids, *self.unwanted)}
         self.save()
 
     def want_later(self, oids: Iterable[int]) -> None:
-        """Notes durably that the initial copy leaves tables for later: no change of them is followed until their rows are added."""
+        """Notes durably that the initial copy leaves tables for later: no change of them is
+        followed until their rows are added."""
         self.partial |= set(oids)
         self.want(self.partial)
 
     def described(self, oid: int) -> Relation | None:
-        """A table as it was described last, by which its rows can go; None where that isn't known."""
+        """A table as it was described last, by which its rows can go; None where that isn't
+        known."""
         sent, key = self.sent.get(oid), self.key_of(oid)
         return Relation(oid, *key, sent.shape) if key and sent and sent.shape else None
 
@@ -357,7 +404,8 @@ class Remembered:
         self.save()
 
     def added(self, oid: int, texts: Iterable[str] = ()) -> list[str]:
-        """Notes durably that a table was added, or isn't to be any more: what was found of it goes. Returns the kinds that go by that."""
+        """Notes durably that a table was added, or isn't to be any more: what was found of it goes.
+        Returns the kinds that go by that."""
         self.wanted.pop(oid, None)
         self.partial.discard(oid)
         gone = self.are_right(oid, texts)
@@ -371,7 +419,8 @@ class Remembered:
         return gone
 
     def forget_names(self, oid: int) -> None:
-        """Forgets the names of a table that isn't published and has no rows in the store: whatever has one later is alone under it."""
+        """Forgets the names of a table that isn't published and has no rows in the store: whatever
+        has one later is alone under it."""
         self.held.pop(oid, None)
         for key, name in list(self.names.items()):
             if oid in (name.oid, *name.before):
@@ -381,7 +430,8 @@ class Remembered:
                     del self.names[key]
 
     def are_right(self, oid: int, texts: Iterable[str]) -> list[str]:
-        """Notes durably that a table's rows are right as to what was found of it. Returns the kinds that go by that."""
+        """Notes durably that a table's rows are right as to what was found of it. Returns the kinds
+        that go by that."""
         texts, gone = [it for it in texts if self.is_mended(it, oid)], []
         for kind, found in list(self.found.items()):
             found.drop(texts)
@@ -392,16 +442,21 @@ class Remembered:
         return gone
 
     def found_of(self, oid: int) -> list[str]:
-        """What was found of the rows of a table. That two tables have had one name stays so, whatever rows they have."""
-        texts = [text for kind, found in self.found.items() if kind != NAMES for text in found.texts]
+        """What was found of the rows of a table. That two tables have had one name stays so,
+        whatever rows they have."""
+        texts = [
+            text for kind, found in self.found.items() if kind != NAMES for text in found.texts
+        ]
         return [it for it in texts if oid in (self.tables_of_several(it) or self.about(it).tables)]
 
     def about(self, text: str) -> About:
-        """What a text that was found is about. Those of an earlier version of this program don't say it."""
+        """What a text that was found is about. Those of an earlier version of this program don't
+        say it."""
         return next((it.texts[text] for it in self.found.values() if text in it.texts), NOTHING)
 
     def is_mended(self, text: str, oid: int) -> bool:
-        """Notes that a table's rows are right, as to what was found of it. Returns whether so are those of the others that it is about."""
+        """Notes that a table's rows are right, as to what was found of it. Returns whether so are
+        those of the others that it is about."""
         others = self.tables_of_several(text)
         if others is None:
             return True
@@ -412,27 +467,42 @@ class Remembered:
         return True
 
     def is_so(self, text: str) -> bool:
-        """Whether changes of a kind aren't sent, as a text says: then the rows of its tables are right only for now."""
+        """Whether changes of a kind aren't sent, as a text says: then the rows of its tables are
+        right only for now."""
         about, catalog = self.about(text), self.catalog
         if catalog is None or not about.lacks:
             return False
-        parts = (name for oid in about.tables if oid in catalog.tables for name in catalog.tables[oid].parts)
+        parts = (
+            name
+            for oid in about.tables
+            if oid in catalog.tables
+            for name in catalog.tables[oid].parts
+        )
         names = {about.publication} if about.publication else set(parts)
         there = [it for name, it in catalog.publications.items() if name in names]
         return bool(there) and not any(about.lacks in it.actions for it in there)
 
     def tables_of(self, text: str) -> list[int]:
-        """The published tables that a text is about, itself or by their publication or a column's type."""
+        """The published tables that a text is about, itself or by their publication or a column's
+        type."""
         others = self.tables_of_several(text)
-        return [it for it in self.about(text).tables if self.catalog and it in self.catalog.tables] if others is None else others
+        return (
+            [it for it in self.about(text).tables if self.catalog and it in self.catalog.tables]
+            if others is None
+            else others
+        )
 
     def tables_of_several(self, text: str) -> list[int] | None:
-        """The published tables that a text is about which is of a type, of a publication that is there, or of what isn't sent; None of
-        any other."""
+        """The published tables that a text is about which is of a type, of a publication that is
+        there, or of what isn't sent; None of any other."""
         about, catalog = self.about(text), self.catalog
         tables = catalog.tables.values() if catalog else ()
         if about.type_oid:
-            return [it.oid for it in tables if any(column.type_oid == about.type_oid for column in it.shape.columns)]
+            return [
+                it.oid
+                for it in tables
+                if any(column.type_oid == about.type_oid for column in it.shape.columns)
+            ]
         if catalog and about.publication in catalog.publications:
             return [it.oid for it in tables if about.publication in it.parts]
         if about.lacks and not about.publication:
@@ -450,15 +520,21 @@ class Remembered:
         self.is_changed = self.is_other = True
 
     def replaced(self, relation: Relation, lsn: int) -> None:
-        """Notes that a table's rows are those of a commit with this LSN: a Relation message up to there tells nothing new."""
+        """Notes that a table's rows are those of a commit with this LSN: a Relation message up to
+        there tells nothing new."""
         self.sent[relation.oid] = Sent(lsn, relation.shape)
         self.is_changed = self.is_other = True
 
     def note_database(self, oid: int, name: str) -> str:
-        """Notes the database that is followed. Returns what is to be told of it, where its name was another one."""
+        """Notes the database that is followed. Returns what is to be told of it, where its name was
+        another one."""
         before, self.database = self.database, (oid, name)
         self.is_changed = self.is_changed or before != self.database
-        return f"the database {before[1]} was renamed: it is {name} now" if before and before[1] != name else ""
+        return (
+            f"the database {before[1]} was renamed: it is {name} now"
+            if before and before[1] != name
+            else ""
+        )
 
     def read(self) -> None:
         try:
@@ -479,7 +555,9 @@ class Remembered:
 
     def restore(self, said: dict[str, Any]) -> None:
         if said["format"] != FORMAT:
-            raise FileError(f"{self.path}: of a later version of this program (format {said['format']})")
+            raise FileError(
+                f"{self.path}: of a later version of this program (format {said['format']})"
+            )
         self.made = {str(name): int(oid) for name, oid in said["made"].items()}
         # (an earlier version of this program had no feeds)
         self.feed = text_of(said.get("feed", ""))
@@ -491,24 +569,31 @@ class Remembered:
         if database := said.get("database"):
             self.database = (int(database[0]), str(database[1]))
         self.sent = {
-            int(oid): Sent(parse_lsn(lsn), shape_of(*shape) if shape else None) for oid, (lsn, shape) in said["sent"].items()
+            int(oid): Sent(parse_lsn(lsn), shape_of(*shape) if shape else None)
+            for oid, (lsn, shape) in said["sent"].items()
         }
         self.names = {
             (schema, table): Name(oid, parse_lsn(since), [int(it) for it in before])
             for schema, table, oid, since, before in said["names"]
         }
         self.held = {it.oid: key for key, it in self.names.items() if it.oid is not None}
-        self.found = {kind: Found(parse_lsn(lsn), texts_of(texts), int(more)) for kind, (lsn, texts, more) in said["found"].items()}
+        self.found = {
+            kind: Found(parse_lsn(lsn), texts_of(texts), int(more))
+            for kind, (lsn, texts, more) in said["found"].items()
+        }
         self.told = {text: parse_lsn(lsn) for text, lsn in said["told"].items()}
         self.left = {int(oid) for oid in said["left"]}
-        self.mended = {text: [int(it) for it in oids] for text, oids in said.get("mended", {}).items()}
+        self.mended = {
+            text: [int(it) for it in oids] for text, oids in said.get("mended", {}).items()
+        }
         self.wanted = {int(oid): str(why) for oid, why in said.get("wanted", {}).items()}
         self.copied = {int(oid): int(end) for oid, end in said.get("copied", {}).items()}
         self.unwanted = {int(oid) for oid in said.get("unwanted", [])}
         self.partial = {int(oid) for oid in said.get("partial", [])}
 
     def follow(self, lines: list[bytes]) -> None:
-        """Takes what Relation messages said since the first line. Each line was synced before the next one, so only the last may be torn."""
+        """Takes what Relation messages said since the first line. Each line was synced before the
+        next one, so only the last may be torn."""
         for at, line in enumerate(lines):
             try:
                 noted = [noted_of(it) for it in noted_in(line)]
@@ -531,10 +616,20 @@ class Remembered:
             "feed": self.feed,
             "database": self.database,
             **catalog_written(self.catalog),
-            "sent": {oid: [lsn_text(it.lsn), it.shape and [it.shape.identity, it.shape.columns]] for oid, it in self.sent.items()},
-            "names": [[*key, it.oid, lsn_text(it.since), it.before] for key, it in sorted(self.names.items())],
+            "sent": {
+                oid: [lsn_text(it.lsn), it.shape and [it.shape.identity, it.shape.columns]]
+                for oid, it in self.sent.items()
+            },
+            "names": [
+                [*key, it.oid, lsn_text(it.since), it.before]
+                for key, it in sorted(self.names.items())
+            ],
             "found": {
-                kind: [lsn_text(it.lsn), {text: about.written() for text, about in it.texts.items()}, it.more]
+                kind: [
+                    lsn_text(it.lsn),
+                    {text: about.written() for text, about in it.texts.items()},
+                    it.more,
+                ]
                 for kind, it in self.found.items()
             },
             "mended": self.mended,
@@ -547,10 +642,15 @@ class Remembered:
         }
 
     def put(self) -> None:
-        """Puts what is new on the disk, before this returns: behind what the file has, where that is right and doesn't grow too long."""
+        """Puts what is new on the disk, before this returns: behind what the file has, where that
+        is right and doesn't grow too long."""
         line = json_text([noted_written(*it) for it in self.noted])
         inode, length = self.file
-        if self.is_other or not self.first or length + len(line) - self.first > max(self.first, LEAST):
+        if (
+            self.is_other
+            or not self.first
+            or length + len(line) - self.first > max(self.first, LEAST)
+        ):
             self.save()
             return
         self.first, first = 0, self.first
@@ -560,7 +660,12 @@ class Remembered:
                 return
         except OSError as error:
             raise Passing(f"{self.path}: {error.strerror}") from None
-        self.first, self.file, self.noted, self.is_urgent = first, (inode, length + len(line)), [], False
+        self.first, self.file, self.noted, self.is_urgent = (
+            first,
+            (inode, length + len(line)),
+            [],
+            False,
+        )
 
     def save(self) -> None:
         """Replaces the file. The disk has it before this returns."""
@@ -599,7 +704,13 @@ class Remembered:
     def lines(self) -> list[dict[str, Any]]:
         """What `pgsub-connect names` prints."""
         return [
-            {"schema": schema, "table": table, "oid": it.oid, "since": lsn_text(it.since), "before": it.before}
+            {
+                "schema": schema,
+                "table": table,
+                "oid": it.oid,
+                "since": lsn_text(it.since),
+                "before": it.before,
+            }
             for (schema, table), it in sorted(self.names.items())
         ]
 
@@ -615,7 +726,11 @@ def print_names(store: str) -> None:
 
 def texts_of(said: dict[str, Any] | list[str]) -> dict[str, About]:
     """The texts of a kind; an earlier version of this program didn't keep what they are about."""
-    return {str(it): NOTHING for it in said} if isinstance(said, list) else {text: about_of(it) for text, it in said.items()}
+    return (
+        {str(it): NOTHING for it in said}
+        if isinstance(said, list)
+        else {text: about_of(it) for text, it in said.items()}
+    )
 
 
 def text_of(it: object) -> str:
@@ -633,7 +748,8 @@ def json_text(it: object) -> bytes:
 
 
 def append(path: str, content: bytes, inode: int, length: int) -> bool:
-    """Adds to a file durably, unless it is gone, another one, or has another length. Returns whether it did."""
+    """Adds to a file durably, unless it is gone, another one, or has another length. Returns
+    whether it did."""
     try:
         number = os.open(path, os.O_WRONLY | os.O_APPEND | os.O_CLOEXEC | os.O_NOFOLLOW)
     except FileNotFoundError:
@@ -649,7 +765,8 @@ def append(path: str, content: bytes, inode: int, length: int) -> bool:
 
 
 def replace_file(path: str, content: bytes, mode: int = 0o600) -> int:
-    """Replaces a file durably: whoever reads it finds the old or the new one as a whole. Returns the number of its inode."""
+    """Replaces a file durably: whoever reads it finds the old or the new one as a whole. Returns
+    the number of its inode."""
     new = path + NEW
     try:
         with contextlib.suppress(FileNotFoundError):
@@ -678,13 +795,22 @@ def replace_file(path: str, content: bytes, mode: int = 0o600) -> int:
 
 def noted_written(relation: Relation, lsn: int) -> list[Any]:
     shape = relation.shape
-    return [lsn_text(lsn), relation.oid, relation.namespace, relation.name, shape.identity, shape.columns]
+    return [
+        lsn_text(lsn),
+        relation.oid,
+        relation.namespace,
+        relation.name,
+        shape.identity,
+        shape.columns,
+    ]
 
 
 def noted_of(said: list[Any]) -> Noted:
     """A Relation message that was noted, and the LSN of its commit."""
     lsn, oid, namespace, name, identity, columns = said
-    return Relation(int(oid), str(namespace), str(name), shape_of(identity, columns)), parse_lsn(lsn)
+    return Relation(int(oid), str(namespace), str(name), shape_of(identity, columns)), parse_lsn(
+        lsn
+    )
 
 
 def catalog_written(catalog: Catalog) -> dict[str, Any]:
@@ -697,14 +823,23 @@ def catalog_written(catalog: Catalog) -> dict[str, Any]:
         "publications": {name: dataclasses.asdict(it) for name, it in catalog.publications.items()},
         "tables": [
             {
-                "oid": it.oid, "schema": it.namespace, "name": it.name, "kind": it.kind, "identity": it.shape.identity,
-                "columns": it.shape.columns, "parts": {name: part[:3] for name, part in it.parts.items()},
-                "since": {name: part.since for name, part in it.parts.items()}, "node": it.node, "altered": it.altered,
+                "oid": it.oid,
+                "schema": it.namespace,
+                "name": it.name,
+                "kind": it.kind,
+                "identity": it.shape.identity,
+                "columns": it.shape.columns,
+                "parts": {name: part[:3] for name, part in it.parts.items()},
+                "since": {name: part.since for name, part in it.parts.items()},
+                "node": it.node,
+                "altered": it.altered,
                 "primary": it.primary,
             }
             for it in catalog.tables.values()
         ],
-        "partitions": [[it.oid, it.parent, it.name, it.leaf, it.node] for it in catalog.partitions.values()],
+        "partitions": [
+            [it.oid, it.parent, it.name, it.leaf, it.node] for it in catalog.partitions.values()
+        ],
         "attached": {it.oid: it.since for it in catalog.partitions.values()},
         "unlogged": sorted({it.oid for it in relations if not it.logged}),
         "toast": {it.oid: it.toast for it in relations if it.toast},
@@ -719,44 +854,100 @@ def catalog_of(said: dict[str, Any]) -> Catalog:
     unlogged = {int(oid) for oid in said.get("unlogged", [])}
     toast = {int(oid): int(it) for oid, it in said.get("toast", {}).items()}
     tables = {
-        it["oid"]: dataclasses.replace(table_of(it), logged=it["oid"] not in unlogged, toast=toast.get(it["oid"], 0)) for it in said["tables"]
+        it["oid"]: dataclasses.replace(
+            table_of(it), logged=it["oid"] not in unlogged, toast=toast.get(it["oid"], 0)
+        )
+        for it in said["tables"]
     }
     partitions = {
-        it[0]: partition_of(*it, since=attached.get(str(it[0]), ""), logged=it[0] not in unlogged, toast=toast.get(it[0], 0))
+        it[0]: partition_of(
+            *it,
+            since=attached.get(str(it[0]), ""),
+            logged=it[0] not in unlogged,
+            toast=toast.get(it[0], 0),
+        )
         for it in said["partitions"]
     }
-    types = {int(oid): {str(part): str(text) for part, text in it.items()} for oid, it in said["types"].items()}
+    types = {
+        int(oid): {str(part): str(text) for part, text in it.items()}
+        for oid, it in said["types"].items()
+    }
     names = tuple(str(it) for it in said["followed"])
-    return Catalog(names, parse_lsn(said["lsn"]), int(said["highest"]), publications, tables, partitions, types, int(said.get("running", 0)))
+    return Catalog(
+        names,
+        parse_lsn(said["lsn"]),
+        int(said["highest"]),
+        publications,
+        tables,
+        partitions,
+        types,
+        int(said.get("running", 0)),
+    )
 
 
 def publication_of(said: dict[str, Any]) -> Publication:
-    """A publication; an earlier version of this program didn't keep whose it is and who has written it."""
+    """A publication; an earlier version of this program didn't keep whose it is and who has written
+    it."""
     return Publication(
-        int(said["oid"]), bool(said["whole"]), tuple(said["actions"]), bool(said["via_root"]), bool(said["generated"]),
-        int(said.get("owner", 0)), str(said.get("since", "")),
+        int(said["oid"]),
+        bool(said["whole"]),
+        tuple(said["actions"]),
+        bool(said["via_root"]),
+        bool(said["generated"]),
+        int(said.get("owner", 0)),
+        str(said.get("since", "")),
     )
 
 
 def partition_of(
-    oid: int, parent: int, name: str, leaf: bool, node: int = 0, *, since: str, logged: bool, toast: int
+    oid: int,
+    parent: int,
+    name: str,
+    leaf: bool,
+    node: int = 0,
+    *,
+    since: str,
+    logged: bool,
+    toast: int,
 ) -> Partition:
-    """A partition; an earlier version of this program didn't keep the number of its file, nor who has attached it."""
-    return Partition(int(oid), int(parent), str(name), bool(leaf), node=int(node), since=since, logged=logged, toast=toast)
+    """A partition; an earlier version of this program didn't keep the number of its file, nor who
+    has attached it."""
+    return Partition(
+        int(oid),
+        int(parent),
+        str(name),
+        bool(leaf),
+        node=int(node),
+        since=since,
+        logged=logged,
+        toast=toast,
+    )
 
 
 def table_of(said: dict[str, Any]) -> Table:
-    """A table; an earlier version of this program didn't keep when its columns were altered, nor by what publications have it,
-    nor its primary key."""
-    since = {name: tuple(str(it) for it in entries) for name, entries in said.get("since", {}).items() if entries is not None}
+    """A table; an earlier version of this program didn't keep when its columns were altered, nor by
+    what publications have it, nor its primary key."""
+    since = {
+        name: tuple(str(it) for it in entries)
+        for name, entries in said.get("since", {}).items()
+        if entries is not None
+    }
     parts = {
-        name: Part(row_filter, None if listed is None else tuple(listed), bool(whole), since.get(name))
+        name: Part(
+            row_filter, None if listed is None else tuple(listed), bool(whole), since.get(name)
+        )
         for name, (row_filter, listed, whole) in said["parts"].items()
     }
     shape = shape_of(said["identity"], said["columns"])
     return Table(
-        int(said["oid"]), str(said["schema"]), str(said["name"]), str(said["kind"]), shape, parts,
-        node=int(said.get("node", 0)), altered=str(said.get("altered", "")),
+        int(said["oid"]),
+        str(said["schema"]),
+        str(said["name"]),
+        str(said["kind"]),
+        shape,
+        parts,
+        node=int(said.get("node", 0)),
+        altered=str(said.get("altered", "")),
         primary=tuple(str(it) for it in said.get("primary", ())),
     )
 
@@ -764,5 +955,8 @@ def table_of(said: dict[str, Any]) -> Table:
 def shape_of(identity: str, columns: list[Any]) -> Shape:
     return Shape(
         str(identity),
-        tuple(Column(str(name), int(oid), int(modifier), bool(key), int(number)) for name, oid, modifier, key, number in columns),
+        tuple(
+            Column(str(name), int(oid), int(modifier), bool(key), int(number))
+            for name, oid, modifier, key, number in columns
+        ),
     )

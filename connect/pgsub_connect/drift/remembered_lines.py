@@ -9,7 +9,19 @@ from __future__ import annotations
 from collections.abc import Callable
 from typing import Any
 
-from pgsub_feed.json_texts import LARGEST, Unreadable, flag_of, list_of, lsn_of, object_of, oid_of, parsed, read_plain, text_of, whole_of
+from pgsub_feed.json_texts import (
+    LARGEST,
+    Unreadable,
+    flag_of,
+    list_of,
+    lsn_of,
+    object_of,
+    oid_of,
+    parsed,
+    read_plain,
+    text_of,
+    whole_of,
+)
 from pgsub_feed.texts import is_utf_8
 
 # Raises an Unreadable where a value is of another kind.

@@ -8,11 +8,11 @@ from __future__ import annotations
 
 from collections.abc import Iterator
 
-from ..server.catalog import ACTIONS, Catalog, listed_oids, number
-from .differences import root_of
 from ..errors import understood
+from ..server.catalog import ACTIONS, Catalog, listed_oids, number
+from ..server.connection import QUICK, Connection
 from ..server.publication_setup import names_of
-from ..server.connection import Connection, QUICK
+from .differences import root_of
 
 # Types whose values are OIDs, printed as the names that these have at the moment: regproc,
 # regprocedure, regoper, regoperator, regclass, regtype, regconfig, regdictionary, regnamespace,
@@ -49,8 +49,8 @@ def unlogged_names(now: Catalog) -> list[str]:
 
 @understood("types")
 def naming_columns(connection: Connection, now: Catalog) -> list[str]:
-    """The published columns with such types in them: in arrays, domains, ranges and composites too.
-    """
+    """The published columns with such types in them: in arrays, domains, ranges and composites
+    too."""
     used = sorted(
         {column.type_oid for table in now.tables.values() for column in table.shape.columns}
     )

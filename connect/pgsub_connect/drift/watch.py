@@ -1,4 +1,5 @@
-"""Watches for what may make the copy wrong without a word: keeps what was found until somebody accepts it, and tells it."""
+"""Watches for what may make the copy wrong without a word: keeps what was found until somebody
+accepts it, and tells it."""
 
 from __future__ import annotations
 
@@ -6,25 +7,28 @@ import time
 from typing import TYPE_CHECKING
 
 from pgsub_feed import log
+
+from ..errors import Passing, ServerError, Unfit
 from ..server.catalog import Catalog, read_catalog
-from ..store.checkpoint import Checkpoint, MISSING
+from ..server.connection import QUICK, Check, Connection
+from ..server.session import settle
+from ..status.progress import Progress
+from ..store.checkpoint import MISSING, Checkpoint
 from .differences import NAMES
 from .doubts import resolved
-from ..errors import Passing, ServerError, Unfit
 from .missed_rows import texts_of
-from ..server.connection import Check, Connection, QUICK
-from ..status.progress import Progress
 from .remembered import Remembered
-from ..server.session import settle
 from .tell_once import warnings
 
 if TYPE_CHECKING:
     from ..commands.options import Options
 
-# After how many seconds the file is written where nothing in it is urgent, the publications are looked at again, and that is tried
-# again where it failed; and after how many they are looked at where no message says that anything has changed.
+# After how many seconds the file is written where nothing in it is urgent, the publications are
+# looked at again, and that is tried again where it failed; and after how many they are looked at
+# where no message says that anything has changed.
 LATER, LOOK, AGAIN, AT_LEAST = 60.0, 1.0, 10.0, 600.0
-# At most a part in so many of the time is spent to tell the progress what was found, where that takes more than so many seconds.
+# At most a part in so many of the time is spent to tell the progress what was found, where that
+# takes more than so many seconds.
 PART, LITTLE = 20, 0.005
 # For how many milliseconds a look waits for a lock. From 16 on the server opens each table for it.
 PATIENCE = 500
@@ -34,18 +38,30 @@ LOCK_TIMEOUT = "55P03"
 class Watch:
     """What was found, and the looks at the server's publications."""
 
-    def __init__(self, options: Options, checkpoint: Checkpoint, progress: Progress, remembered: Remembered) -> None:
-        self.options, self.checkpoint, self.progress, self.remembered = options, checkpoint, progress, remembered
+    def __init__(
+        self, options: Options, checkpoint: Checkpoint, progress: Progress, remembered: Remembered
+    ) -> None:
+        self.options, self.checkpoint, self.progress, self.remembered = (
+            options,
+            checkpoint,
+            progress,
+            remembered,
+        )
         self.next_look = self.next_save = 0.0
         # when the publications were looked at last
         self.looked = time.monotonic()
         self.is_told = self.is_hindered = False
-        # whether the progress has all that was found, and when it may be told again: that takes longer, the more there is
+        # whether the progress has all that was found, and when it may be told again: that takes
+        # longer, the more there is
         self.is_shown, self.next_show = True, 0.0
 
     def begin(self) -> None:
         """Accepts what is to be accepted, and tells what else was found up to now."""
-        kinds = [it for it in {*self.checkpoint.findings(), *self.remembered.found} if self.options.accepts(it)]
+        kinds = [
+            it
+            for it in {*self.checkpoint.findings(), *self.remembered.found}
+            if self.options.accepts(it)
+        ]
         self.checkpoint.accept(kinds)
         self.remembered.accept(kinds)
         if self.remembered.is_urgent:
@@ -70,23 +86,37 @@ class Watch:
         return [*found.texts, *([f"and {found.more} more"] if found.more else [])]
 
     def lasting_of(self, kind: str) -> list[str]:
-        """What was found of this kind but for tables whose rows are being added, by which it goes."""
+        """What was found of this kind but for tables whose rows are being added, by which it
+        goes."""
         going = {oid for oid, why in self.remembered.wanted.items() if not why}
-        return [it for it in self.texts_of(kind) if kind == NAMES or going.isdisjoint(self.remembered.about(it).tables)]
+        return [
+            it
+            for it in self.texts_of(kind)
+            if kind == NAMES or going.isdisjoint(self.remembered.about(it).tables)
+        ]
 
     def show(self) -> None:
         """Tells the progress what was found, and ends the following where it is to be strict."""
         began = time.monotonic()
-        self.progress.found = {kind: "; ".join(self.texts_of(kind)) for kind in self.checkpoint.findings()}
-        lasting = {kind: text for kind in self.checkpoint.findings() if (text := "; ".join(self.lasting_of(kind)))}
+        self.progress.found = {
+            kind: "; ".join(self.texts_of(kind)) for kind in self.checkpoint.findings()
+        }
+        lasting = {
+            kind: text
+            for kind in self.checkpoint.findings()
+            if (text := "; ".join(self.lasting_of(kind)))
+        }
         if lasting and self.options.strict:
             texts = "\n".join(f"{kind}: {text}" for kind, text in lasting.items())
-            raise Unfit(f"the copy may be wrong (copy anew, or take it as it is by --accept KIND)\n{texts}")
+            raise Unfit(
+                f"the copy may be wrong (copy anew, or take it as it is by --accept KIND)\n{texts}"
+            )
         took = time.monotonic() - began
         self.is_shown, self.next_show = True, began + (PART * took if took > LITTLE else 0.0)
 
     def compare(self, connection: Connection, position: int) -> bool:
-        """Compares what the server has with what is remembered. Returns false where a lock of somebody else is in the way."""
+        """Compares what the server has with what is remembered. Returns false where a lock of
+        somebody else is in the way."""
         remembered = self.remembered
         try:
             connection.run(f"SET lock_timeout = {PATIENCE}", limit=QUICK)
@@ -104,7 +134,9 @@ class Watch:
         self.tell_once(connection, now)
         if remembered.catalog is None:
             remembered.begin(now)
-            log.info(f"{remembered.path} remembers the publications as they are now: what was changed before isn't found")
+            log.info(
+                f"{remembered.path} remembers the publications as they are now: what was changed before isn't found"
+            )
         else:
             remembered.forget_told(position)
             for text in remembered.look(now):
@@ -122,7 +154,9 @@ class Watch:
     def look_again(self, check: Check, position: int) -> bool:
         """Compares on a connection of its own. Returns whether that was possible."""
         try:
-            connection = Connection(self.options.dsn, name=f"{self.options.slot} tables", check=check)
+            connection = Connection(
+                self.options.dsn, name=f"{self.options.slot} tables", check=check
+            )
             try:
                 settle(connection)
                 return self.compare(connection, position)
@@ -133,7 +167,8 @@ class Watch:
             return False
 
     def tell_hindered(self, error: ServerError) -> None:
-        """Tells once why a look isn't possible, until one is: somebody may hold a lock for hours."""
+        """Tells once why a look isn't possible, until one is: somebody may hold a lock for
+        hours."""
         if not self.is_hindered:
             log.warning(f"the publications can't be looked at now: {error}")
         self.is_hindered = True
@@ -165,7 +200,8 @@ class Watch:
         self.checkpoint.note_found(kind, lsn)
 
     def tend(self, wants_look: bool, check: Check, position: int) -> bool:
-        """Called after each lot of payloads, before anything of them is confirmed. Returns whether a look is still wanted.
+        """Called after each lot of payloads, before anything of them is confirmed. Returns whether
+        a look is still wanted.
 
         Much of what is altered isn't told by any message, so a long session looks now and then.
         """

@@ -1,7 +1,8 @@
 """Waits awake for what comes within a moment.
 
-A process that slept runs slowly at first: it has to be woken, and others have used its processor's caches meanwhile. With a fast disk that
-is more than a commit takes. So where commits at the server wait for the follower, it stays awake for a moment, where that was of use before.
+A process that slept runs slowly at first: it has to be woken, and others have used its processor's
+caches meanwhile. With a fast disk that is more than a commit takes. So where commits at the server
+wait for the follower, it stays awake for a moment, where that was of use before.
 """
 
 from __future__ import annotations
@@ -13,7 +14,8 @@ import time
 from collections.abc import Sequence
 from pathlib import Path
 
-# For how many seconds it is waited awake, and how many times at most it sleeps at once before that is tried again.
+# For how many seconds it is waited awake, and how many times at most it sleeps at once before that
+# is tried again.
 MOMENT, RARELY = 0.0005, 1023
 # How many processors it takes: the filter needs one beside it.
 NEEDED = 2.0
@@ -22,7 +24,8 @@ GROUP = Path("/proc/self/cgroup")
 
 
 def processors() -> float:
-    """How many processors this process may use at once: those that it may run on, as far as its control groups leave them to it."""
+    """How many processors this process may use at once: those that it may run on, as far as its
+    control groups leave them to it."""
     least = float(len(os.sched_getaffinity(0)))
     with contextlib.suppress(OSError):
         group = GROUPS / GROUP.read_text(encoding="utf-8").rpartition("0::")[2].strip().lstrip("/")
@@ -34,12 +37,15 @@ def processors() -> float:
 
 
 class Awake:
-    """Waits for one kind of event. Each time that none came within the moment, it sleeps twice as often before it tries that again."""
+    """Waits for one kind of event. Each time that none came within the moment, it sleeps twice as
+    often before it tries that again."""
 
     def __init__(self) -> None:
         self.sleeps = self.left = 0
 
-    def select(self, reads: Sequence[int], writes: Sequence[int], timeout: float) -> tuple[list[int], list[int]]:
+    def select(
+        self, reads: Sequence[int], writes: Sequence[int], timeout: float
+    ) -> tuple[list[int], list[int]]:
         """What is ready of these within the time, as `select.select` tells it."""
         if timeout and not self.left:
             until = time.monotonic() + min(timeout, MOMENT)

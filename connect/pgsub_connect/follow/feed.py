@@ -1,8 +1,10 @@
-"""The feed that a follower keeps beside its store: which folder has it, what the filter is told of it, and what is done in that folder.
+"""The feed that a follower keeps beside its store: which folder has it, what the filter is told of
+it, and what is done in that folder.
 
-The filter writes the segments. Beside these is `confirmed`, the LSN up to which the feed has all commits, also where a publication has
-had none for long; and `readers/NAME`, by which readers say how far they are. A thread writes the first, reads the others, and removes
-old segments: the main loop only sets what is confirmed.
+The filter writes the segments. Beside these is `confirmed`, the LSN up to which the feed has all
+commits, also where a publication has had none for long; and `readers/NAME`, by which readers say
+how far they are. A thread writes the first, reads the others, and removes old segments: the main
+loop only sets what is confirmed.
 
 | The store | The feed |
 |---|---|
@@ -24,28 +26,29 @@ from collections.abc import Callable
 from typing import TYPE_CHECKING
 
 from pgsub_feed import log
-from .tables_process import Beside
-from .tables_process import check as check_tables
-from ..store.checkpoint import Checkpoint
-from ..errors import FileError, Passing, Unfit
 from pgsub_feed.faults import Damaged
 from pgsub_feed.reader.positions import make_folder
 from pgsub_feed.reader.segments import CONFIRMED, Reader, read_confirmed, segments
-from .retention import Limits, feed_bytes, read_readers, retire
-from .filter import Filter, FilterEnded
-from ..server.connection import Check, Connection
-from ..drift.remembered import Remembered, replace_file
-from ..store.at_rest import has_log
-from ..server.session import identify, settle
-from ..store.snapshot import position_in
 from pgsub_feed.texts import counted, lsn_text
+
+from ..drift.remembered import Remembered, replace_file
+from ..errors import FileError, Passing, Unfit
+from ..server.connection import Check, Connection
+from ..server.session import identify, settle
+from ..store.at_rest import has_log
+from ..store.checkpoint import Checkpoint
+from ..store.snapshot import position_in
+from .filter import Filter, FilterEnded
+from .retention import Limits, feed_bytes, read_readers, retire
+from .tables_process import Beside
+from .tables_process import check as check_tables
 
 if TYPE_CHECKING:
     from ..commands.options import Options
     from ..status.progress import Progress
 
-# How often what is confirmed is written where a keepalive alone has moved it, and else; how often the readers are looked at, and how
-# often old segments are looked for, in seconds.
+# How often what is confirmed is written where a keepalive alone has moved it, and else; how often
+# the readers are looked at, and how often old segments are looked for, in seconds.
 QUIET, BUSY, LOOK, RETIRE = 0.25, 1.0, 1.0, 10.0
 # How long a filter that is to end is waited for, before it is looked whether the end was asked for.
 STEP = 0.5
@@ -57,7 +60,8 @@ NOT_A_FEED = "pgsub: feed 1 NotAFeed"
 
 @dataclasses.dataclass(frozen=True)
 class Reached:
-    """What a store has: the LSN up to which all commits are stored, and the end of the last of them."""
+    """What a store has: the LSN up to which all commits are stored, and the end of the last of
+    them."""
 
     confirmed: int
     position: int
@@ -70,8 +74,15 @@ def has_segments(folder: str) -> bool:
 class Feeding:
     """The folder. Nothing is written there before a filter has opened the feed."""
 
-    def __init__(self, options: Options, checkpoint: Checkpoint, progress: Progress, remembered: Remembered) -> None:
-        self.options, self.checkpoint, self.progress, self.remembered = options, checkpoint, progress, remembered
+    def __init__(
+        self, options: Options, checkpoint: Checkpoint, progress: Progress, remembered: Remembered
+    ) -> None:
+        self.options, self.checkpoint, self.progress, self.remembered = (
+            options,
+            checkpoint,
+            progress,
+            remembered,
+        )
         self.folder = os.path.abspath(options.feed) if options.feed else ""
         self.keeper: Keeper | None = None
         self.beside: Beside | None = None
@@ -79,7 +90,8 @@ class Feeding:
         self.wanted: int | None = None
 
     def check(self) -> None:
-        """Rejects a folder that can't have the store's feed, before anything is made; and makes the folder."""
+        """Rejects a folder that can't have the store's feed, before anything is made; and makes the
+        folder."""
         if os.path.exists(self.options.store):
             self.check_followed()
         elif self.folder:
@@ -92,16 +104,26 @@ class Feeding:
     def check_followed(self) -> None:
         """Rejects to leave the feed that the store has had behind."""
         was, now = self.remembered.feed, self.folder
-        if not was or self.options.without_feed or now and (os.path.realpath(was) == os.path.realpath(now) or has_segments(now)):
+        if (
+            not was
+            or self.options.without_feed
+            or now
+            and (os.path.realpath(was) == os.path.realpath(now) or has_segments(now))
+        ):
             return
-        other = f", and {now} has none of its commits: move its files there, or" if now else f": say --feed {was}, or"
+        other = (
+            f", and {now} has none of its commits: move its files there, or"
+            if now
+            else f": say --feed {was}, or"
+        )
         raise Unfit(
             f"the feed {was} has all commits of {self.options.store}, and following without it would leave a gap in it{other}"
             " --without-feed, which ends that feed for good"
         )
 
     def check_empty(self) -> None:
-        """Rejects a folder with files: the feed of a new store has nothing of an older one's, nor have its readers."""
+        """Rejects a folder with files: the feed of a new store has nothing of an older one's, nor
+        have its readers."""
         if os.path.isdir(self.folder) and os.listdir(self.folder):
             raise Unfit(
                 f"a new store begins a new feed, and the folder {self.folder} isn't empty: name another one by --feed, or remove it"
@@ -118,11 +140,15 @@ class Feeding:
         """Notes the folder with the copy, and tells the filter of it."""
         if not self.folder:
             if self.remembered.feed:
-                log.warning(f"the feed {self.remembered.feed} ends here: whoever reads it begins anew, from an export and another feed")
+                log.warning(
+                    f"the feed {self.remembered.feed} ends here: whoever reads it begins anew, from an export and another feed"
+                )
             self.remembered.note_feed("")
             return
         if self.remembered.feed and not has_segments(self.folder):
-            log.warning(f"the feed {self.folder} has no segment any more, or is another one: a new one begins")
+            log.warning(
+                f"the feed {self.folder} has no segment any more, or is another one: a new one begins"
+            )
         self.check_position(child, check)
         self.remembered.note_feed(self.folder)
         child.words += self.words(check)
@@ -131,7 +157,8 @@ class Feeding:
             self.beside = Beside(self.options, self.progress)
 
     def check_position(self, child: Filter, check: Check) -> None:
-        """Rejects an older store, before a filter cuts off what the feed has above the store's position.
+        """Rejects an older store, before a filter cuts off what the feed has above the store's
+        position.
 
         Its checkpoint may be older too, or gone. But all that was confirmed is in the right store.
         """
@@ -153,13 +180,24 @@ class Feeding:
                 " the feed would lose what it has above"
             )
         if told:
-            raise Unfit(f"the store is at {lsn_text(position)}, and {told}. Put the right one back, or say --accept gap, or --without-feed")
+            raise Unfit(
+                f"the store is at {lsn_text(position)}, and {told}. Put the right one back, or say --accept gap, or --without-feed"
+            )
 
     def words(self, check: Check) -> list[str]:
         """What the filter is told."""
         options = self.options
         system, database, slot = self.source(check)
-        words = ["--feed", self.folder, "--feed-system", system, "--feed-database", database, "--feed-slot", slot]
+        words = [
+            "--feed",
+            self.folder,
+            "--feed-system",
+            system,
+            "--feed-database",
+            database,
+            "--feed-slot",
+            slot,
+        ]
         if options.feed_segment_bytes:
             words += ["--feed-segment-bytes", str(options.feed_segment_bytes)]
         if options.feed_segment_seconds:
@@ -171,7 +209,9 @@ class Feeding:
         known, options = self.checkpoint.known, self.options
         if known.system:
             return known.system, known.database, known.slot
-        connection = Connection(options.dsn, replication=True, name=f"{options.slot} feed", check=check)
+        connection = Connection(
+            options.dsn, replication=True, name=f"{options.slot} feed", check=check
+        )
         try:
             settle(connection)
             server = identify(connection)
@@ -186,12 +226,14 @@ class Feeding:
                 it.start()
 
     def is_read(self, position: int) -> bool:
-        """Whether the tables have what the store had when this was asked first. One that is to end by itself waits for that."""
+        """Whether the tables have what the store had when this was asked first. One that is to end
+        by itself waits for that."""
         self.wanted = position if self.wanted is None else self.wanted
         return self.beside is None or self.beside.has(self.wanted)
 
     def text_of(self, said: str) -> str:
-        """What to do where the filter has ended with these words; "" where they aren't about a feed that doesn't fit."""
+        """What to do where the filter has ended with these words; "" where they aren't about a feed
+        that doesn't fit."""
         if not self.folder or said != NOT_A_FEED:
             return ""
         return (
@@ -207,23 +249,29 @@ class Feeding:
 
 
 def confirmed_above(folder: str, position: int) -> int | None:
-    """The end of a commit above a position that the feed has, and that is confirmed; None where there is none.
+    """The end of a commit above a position that the feed has, and that is confirmed; None where
+    there is none.
 
-    One that can't be read may be what a power cut has left. A segment begins where the commits of the one before it end.
+    One that can't be read may be what a power cut has left. A segment begins where the commits of
+    the one before it end.
     """
     confirmed = read_confirmed(folder) or 0
     if confirmed <= position:
         return None
-    with contextlib.suppress(Damaged, Unfit), contextlib.closing(Reader(folder, position)) as reader:
+    with contextlib.suppress(Damaged, Unfit), contextlib.closing(
+        Reader(folder, position)
+    ) as reader:
         if (commit := reader.next()) is not None:
             return commit.end if commit.end <= confirmed else None
     return next((base for base, _ in segments(folder) if position < base <= confirmed), None)
 
 
 def opened_at(child: Filter, check: Check) -> int | None:
-    """The position of a store of which only a filter can say it, since its log isn't empty; None where it is none.
+    """The position of a store of which only a filter can say it, since its log isn't empty; None
+    where it is none.
 
-    One that can't be opened now, since somebody dumps it say, is waited for: later it would be opened with its feed.
+    One that can't be opened now, since somebody dumps it say, is waited for: later it would be
+    opened with its feed.
     """
     while True:
         position = None
@@ -250,9 +298,16 @@ def opened_at(child: Filter, check: Check) -> int | None:
 class Keeper(threading.Thread):
     """Writes what is confirmed, looks after the readers, and removes old segments."""
 
-    def __init__(self, options: Options, folder: str, progress: Progress, reached: Callable[[], Reached]) -> None:
+    def __init__(
+        self, options: Options, folder: str, progress: Progress, reached: Callable[[], Reached]
+    ) -> None:
         super().__init__(daemon=True)
-        self.folder, self.progress, self.reached, self.mode = folder, progress, reached, options.mode
+        self.folder, self.progress, self.reached, self.mode = (
+            folder,
+            progress,
+            reached,
+            options.mode,
+        )
         self.limits = Limits(options.feed_max_bytes or None, options.feed_max_age)
         self.ended = threading.Event()
         # why what can't be done now can't be
@@ -273,7 +328,8 @@ class Keeper(threading.Thread):
         self.tend(time.monotonic())
 
     def tend(self, now: float) -> None:
-        """Does what it is time for. First old segments go, since a disk that is full may have room by that."""
+        """Does what it is time for. First old segments go, since a disk that is full may have room
+        by that."""
         reached = self.reached()
         if now - self.retired >= RETIRE:
             self.retired = now
@@ -287,7 +343,8 @@ class Keeper(threading.Thread):
             self.attempt(self.confirm, reached)
 
     def attempt(self, step: Callable[[Reached], None], reached: Reached) -> None:
-        """Does one of these. What can't be done is told, once for each cause, and is tried again; the others are done."""
+        """Does one of these. What can't be done is told, once for each cause, and is tried again;
+        the others are done."""
         try:
             step(reached)
             self.causes.pop(step.__name__, None)
@@ -298,11 +355,16 @@ class Keeper(threading.Thread):
             self.causes[step.__name__] = cause
 
     def confirm(self, reached: Reached) -> None:
-        """Tells readers up to where the feed has all commits: the disk has these since before the filter said so."""
+        """Tells readers up to where the feed has all commits: the disk has these since before the
+        filter said so."""
         if self.confirmed < 0:
             self.confirmed = read_confirmed(self.folder) or 0
         if reached.confirmed != self.confirmed:
-            replace_file(os.path.join(self.folder, CONFIRMED), f"{lsn_text(reached.confirmed)}\n".encode(), self.mode)
+            replace_file(
+                os.path.join(self.folder, CONFIRMED),
+                f"{lsn_text(reached.confirmed)}\n".encode(),
+                self.mode,
+            )
             self.confirmed = reached.confirmed
 
     def look(self, reached: Reached) -> None:
@@ -315,4 +377,6 @@ class Keeper(threading.Thread):
         if gone.segments:
             log.info(f"removed {counted(gone.segments, 'segment')} of the feed {self.folder}")
         for name in sorted(gone.readers):
-            log.warning(f"the reader {name} hadn't read all of that, and has to begin anew: the feed may have {self.limits.most_bytes} bytes")
+            log.warning(
+                f"the reader {name} hadn't read all of that, and has to begin anew: the feed may have {self.limits.most_bytes} bytes"
+            )

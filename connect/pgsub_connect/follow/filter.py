@@ -1,4 +1,5 @@
-"""The filter `pgsub follow` as a child: frames go to its standard input, statuses come from its standard output."""
+"""The filter `pgsub follow` as a child: frames go to its standard input, statuses come from its
+standard output."""
 
 from __future__ import annotations
 
@@ -15,14 +16,16 @@ import subprocess
 from collections.abc import Sequence
 from typing import NamedTuple
 
-from .. import version
 from pgsub_feed import log
-from .awake import Awake
-from ..errors import FilterFault, Passing
-from ..server.connection import Check, never
 from pgsub_feed.texts import parse_lsn
 
-# A status: CopyData, 34 bytes of payload that begin with `r`, and written, flushed, applied, clock and ask in them.
+from .. import version
+from ..errors import FilterFault, Passing
+from ..server.connection import Check, never
+from .awake import Awake
+
+# A status: CopyData, 34 bytes of payload that begin with `r`, and written, flushed, applied, clock
+# and ask in them.
 STATUS = 39
 STATUS_HEAD = b"d\x00\x00\x00\x26r"
 COPY_DONE = b"c\x00\x00\x00\x04"
@@ -36,14 +39,17 @@ KEPT_HEADERS = 1 << 12
 LOOK = 0.5
 # The size that the pipe to the filter is asked to have.
 PIPE = 1 << 20
-# The statuses with which a filter ends by itself, but for those of its words (2) and of a file that is no store (3).
+# The statuses with which a filter ends by itself, but for those of its words (2) and of a file that
+# is no store (3).
 REJECTED, SPOOL_FULL, FRAME_TOO_LARGE, UNOPENED, REFUSED, MEMORY, BROKEN = 1, 10, 11, 12, 13, 14, 15
 PASSING = (UNOPENED, REFUSED, MEMORY, BROKEN)
 # The status of one whose input ended, after changes that found no row.
 MISSED = 16
-# What it says of these on standard error, before the status that confirms their commits: how many there were since it began, and of the
-# first one the OID of its table and the end of its commit.
-MISSING = re.compile(r"pgsub: rows not found: ([0-9]{1,20}), first in relation ([0-9]{1,10}) at ([0-9A-F]{1,8}/[0-9A-F]{1,8})")
+# What it says of these on standard error, before the status that confirms their commits: how many
+# there were since it began, and of the first one the OID of its table and the end of its commit.
+MISSING = re.compile(
+    r"pgsub: rows not found: ([0-9]{1,20}), first in relation ([0-9]{1,10}) at ([0-9A-F]{1,8}/[0-9A-F]{1,8})"
+)
 # What a filter needs of the environment: not the passwords of a server.
 KEPT = ("PATH", "LANG", "LC_ALL", "LC_MESSAGES", "TMPDIR", "TZ", "HOME")
 
@@ -52,13 +58,18 @@ class FilterEnded(Exception):
     """The filter ended: with a status above 0 by a fault, below 0 by a signal."""
 
     def __init__(self, status: int, said: str) -> None:
-        ended = f"the filter ended with status {status}" if status >= 0 else f"signal {-status} ended the filter"
+        ended = (
+            f"the filter ended with status {status}"
+            if status >= 0
+            else f"signal {-status} ended the filter"
+        )
         super().__init__(f"{ended}: {said}" if said else ended)
         self.status = status
         self.said = said
 
     def is_rejection(self) -> bool:
-        """Whether the same would come of another try. A disk that is full, or too little memory, may pass."""
+        """Whether the same would come of another try. A disk that is full, or too little memory,
+        may pass."""
         return self.status > 0 and self.status not in (*PASSING, MISSED)
 
     def is_of_stream(self) -> bool:
@@ -67,15 +78,19 @@ class FilterEnded(Exception):
 
     def is_of_commit(self) -> bool:
         """Whether what was rejected is a commit, and not a single message."""
-        return self.status == REJECTED and self.said.startswith(("pgsub: store ", "pgsub: relation "))
+        return self.status == REJECTED and self.said.startswith(
+            ("pgsub: store ", "pgsub: relation ")
+        )
 
     def is_full(self) -> bool:
         """Whether too much of open transactions was buffered."""
         return self.status == SPOOL_FULL
 
     def has_told_all(self) -> bool:
-        """Whether it has said of all commits that it stored which of their changes found no row: also of those that came right before
-        one that it rejected, which it doesn't confirm. One that was killed hasn't, nor one whose store, memory or output failed."""
+        """Whether it has said of all commits that it stored which of their changes found no row:
+        also of those that came right before one that it rejected, which it doesn't confirm. One
+        that was killed hasn't, nor one whose store, memory or output failed.
+        """
         return self.status >= 0 and self.status not in PASSING
 
     def is_unopened(self) -> bool:
@@ -84,7 +99,8 @@ class FilterEnded(Exception):
 
 
 class Missing(NamedTuple):
-    """The changes of a filter that found no row: how many, and of the first one its commit's end and its table's OID."""
+    """The changes of a filter that found no row: how many, and of the first one its commit's end
+    and its table's OID."""
 
     total: int = 0
     first: int = 0
@@ -92,7 +108,8 @@ class Missing(NamedTuple):
 
 
 def missing_of(line: str) -> Missing | None:
-    """What a line on standard error says of changes that found no row, None where it is another one."""
+    """What a line on standard error says of changes that found no row, None where it is another
+    one."""
     found = MISSING.fullmatch(line)
     return Missing(int(found[1]), parse_lsn(found[3]), int(found[2])) if found else None
 
@@ -103,7 +120,8 @@ def flushed(payload: bytes) -> int:
 
 
 def without_received(payload: bytes) -> bytes:
-    """A status that claims no more to be received than is confirmed: what holds after a disconnection."""
+    """A status that claims no more to be received than is confirmed: what holds after a
+    disconnection."""
     return payload[:1] + payload[9:17] + payload[9:]
 
 
@@ -143,7 +161,9 @@ class Filter:
 
     child: subprocess.Popen[bytes]
 
-    def __init__(self, words: list[str], kept_open: Sequence[int], proto: int = 2, mode: int = 0o600) -> None:
+    def __init__(
+        self, words: list[str], kept_open: Sequence[int], proto: int = 2, mode: int = 0o600
+    ) -> None:
         self.words = words
         self.proto = proto
         self.kept_open = kept_open
@@ -168,10 +188,16 @@ class Filter:
         """Starts the filter. Its first status comes once it has opened its store."""
         version.check_program(self.words[0])
         try:
-            # (a session of its own: an interrupt at the terminal is for the connector, which ends the filter in its own time)
+            # (a session of its own: an interrupt at the terminal is for the connector, which ends
+            # the filter in its own time)
             self.child = subprocess.Popen(
-                [*self.words, "--proto", str(self.proto)], stdin=subprocess.PIPE, stdout=subprocess.PIPE, stderr=subprocess.PIPE,
-                start_new_session=True, pass_fds=self.kept_open, umask=0o777 & ~self.mode,
+                [*self.words, "--proto", str(self.proto)],
+                stdin=subprocess.PIPE,
+                stdout=subprocess.PIPE,
+                stderr=subprocess.PIPE,
+                start_new_session=True,
+                pass_fds=self.kept_open,
+                umask=0o777 & ~self.mode,
                 env={name: value for name, value in os.environ.items() if name in KEPT},
             )
         except OSError as error:
@@ -179,7 +205,9 @@ class Filter:
                 raise Passing(f"{self.words[0]} can't be started now: {error.strerror}") from None
             raise FilterFault(f"{self.words[0]}: {error.strerror}") from None
         assert self.child.stdin and self.child.stdout and self.child.stderr
-        self.down, self.up, self.err = (it.fileno() for it in (self.child.stdin, self.child.stdout, self.child.stderr))
+        self.down, self.up, self.err = (
+            it.fileno() for it in (self.child.stdin, self.child.stdout, self.child.stderr)
+        )
         for it in (self.down, self.up, self.err):
             os.set_blocking(it, False)
         with contextlib.suppress(OSError):
@@ -194,7 +222,8 @@ class Filter:
         self.runs = True
 
     def start(self, check: Check = never) -> int:
-        """Starts the filter, waits for its first status, and returns the LSN up to which its store confirms.
+        """Starts the filter, waits for its first status, and returns the LSN up to which its store
+        confirms.
 
         What `check` raises meanwhile ends the filter: one that opens its store has nothing to lose.
         """
@@ -212,15 +241,16 @@ class Filter:
         return flushed(self.status)
 
     def push(self, piece: bytes) -> None:
-        """Gives the filter bytes of the session, at once as far as the pipe takes them. A frame may come in several pieces, one right
-        after the other."""
+        """Gives the filter bytes of the session, at once as far as the pipe takes them. A frame may
+        come in several pieces, one right after the other."""
         self.in_session = True
         done = self.written_of(piece) if self.takes and not self.waiting else 0
         if done < len(piece):
             self.keep(memoryview(piece)[done:])
 
     def keep(self, rest: memoryview) -> None:
-        """Keeps what waits until the pipe takes it, and copies of small pieces together: a long one may be a row of any size."""
+        """Keeps what waits until the pipe takes it, and copies of small pieces together: a long one
+        may be a row of any size."""
         pending = self.pending
         last = pending[-1] if pending else None
         if len(rest) >= PIECE:
@@ -232,7 +262,8 @@ class Filter:
         self.waiting += len(rest)
 
     def push_payloads(self, payloads: list[bytes]) -> None:
-        """Gives the filter CopyData with these payloads. A long one isn't copied together with others: it may be the last only."""
+        """Gives the filter CopyData with these payloads. A long one isn't copied together with
+        others: it may be the last only."""
         if not payloads:
             return
         parts = [b""] * (2 * len(payloads))
@@ -251,14 +282,16 @@ class Filter:
             self.status = without_received(self.status)
 
     def room(self) -> int:
-        """How many bytes may be pushed before others are to be written; a last frame may be longer."""
+        """How many bytes may be pushed before others are to be written; a last frame may be
+        longer."""
         return ROOM - self.waiting
 
     def has_room(self) -> bool:
         return self.waiting < ROOM
 
     def finish(self) -> None:
-        """Ends the filter's input. What it hasn't read is dropped: a frame that ends early is no fault."""
+        """Ends the filter's input. What it hasn't read is dropped: a frame that ends early is no
+        fault."""
         if self.takes:
             self.takes = False
             self.pending.clear()
@@ -267,10 +300,15 @@ class Filter:
                 self.child.stdin.close()
 
     def serve(
-        self, timeout: float, reads: Sequence[int] = (), writes: Sequence[int] = (), awake: Awake | None = None
+        self,
+        timeout: float,
+        reads: Sequence[int] = (),
+        writes: Sequence[int] = (),
+        awake: Awake | None = None,
     ) -> tuple[list[int], list[int], list[bytes]]:
-        """Waits until something is ready, asleep or awake at first, moves bytes both ways, and returns what of `reads` and `writes` is
-        ready and the filter's new statuses. What it said before these is read then, too."""
+        """Waits until something is ready, asleep or awake at first, moves bytes both ways, and
+        returns what of `reads` and `writes` is ready and the filter's new statuses. What it said
+        before these is read then, too."""
         takes = [self.down] if self.waiting and self.takes else []
         tells = [self.up, self.err] if self.speaks else [self.up]
         if awake:
@@ -297,7 +335,8 @@ class Filter:
                 self.written = 0
 
     def written_of(self, piece: bytes | memoryview) -> int:
-        """Writes as much as the pipe takes. Of one that has ended, its end tells why nothing is written."""
+        """Writes as much as the pipe takes. Of one that has ended, its end tells why nothing is
+        written."""
         try:
             done = os.write(self.down, piece)
             self.taken += done
@@ -313,7 +352,8 @@ class Filter:
         return self.speaks and bool(self.hearing.poll(0))
 
     def read_err(self) -> None:
-        """Takes all that the filter has said: notes how many changes found no row, passes on the rest, and keeps its last line."""
+        """Takes all that the filter has said: notes how many changes found no row, passes on the
+        rest, and keeps its last line."""
         length = PIECE
         # (a pipe has no more than that at a time)
         while self.speaks and length == PIECE:

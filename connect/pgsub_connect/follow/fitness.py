@@ -1,40 +1,47 @@
-"""What is looked at before a session: whether this is the server whose changes the store has, and whether its history and its slot fit
-the store.
+"""What is looked at before a session: whether this is the server whose changes the store has, and
+whether its history and its slot fit the store.
 
-What doesn't fit raises: a ServerError where it may pass, as with a standby that is behind, and else Unfit. A history or a slot that
-doesn't fit is a finding, too. The position is everywhere that of the store: the end of its last commit.
+What doesn't fit raises: a ServerError where it may pass, as with a standby that is behind, and else
+Unfit. A history or a slot that doesn't fit is a finding, too. The position is everywhere that of
+the store: the end of its last commit.
 """
 
 from __future__ import annotations
 
 from typing import TYPE_CHECKING
 
-from ..store import checkpoint as known_of
 from pgsub_feed import log
-from ..server import transport
-from ..store.checkpoint import Checkpoint, check_gap
+from pgsub_feed.texts import lsn_text
+
+from ..drift.watch import Watch
 from ..errors import ServerError, Unfit
+from ..server import transport
 from ..server.connection import Check, Connection
 from ..server.session import Server, is_same_database, left_at, settle, slot_position
-from pgsub_feed.texts import lsn_text
-from ..drift.watch import Watch
+from ..store import checkpoint as known_of
+from ..store.checkpoint import Checkpoint, check_gap
 
 if TYPE_CHECKING:
     from ..commands.options import Options
 
 
 class Fitting:
-    """Compares what a store's checkpoint says with a server, and notes there whose changes the store has."""
+    """Compares what a store's checkpoint says with a server, and notes there whose changes the
+    store has."""
 
     def __init__(self, options: Options, checkpoint: Checkpoint, watch: Watch) -> None:
         self.options, self.checkpoint, self.watch = options, checkpoint, watch
 
     def check_server(self, server: Server, confirmed: int, position: int) -> None:
-        """Checks that this is the server whose changes the store has, and that it has all of them. On another timeline it needn't be
-        beyond what a keepalive alone has confirmed: a standby that was promoted never had what isn't published behind its last commit."""
+        """Checks that this is the server whose changes the store has, and that it has all of them.
+        On another timeline it needn't be beyond what a keepalive alone has confirmed: a standby
+        that was promoted never had what isn't published behind its last commit.
+        """
         known, options, remembered = self.checkpoint.known, self.options, self.watch.remembered
         is_same = is_same_database(known.database, remembered.database, server)
-        if known.system and ((server.system, options.slot) != (known.system, known.slot) or not is_same):
+        if known.system and (
+            (server.system, options.slot) != (known.system, known.slot) or not is_same
+        ):
             raise Unfit(
                 f"the store follows slot {known.slot} of database {known.database} of the server {known.system}, "
                 f"and not slot {options.slot} of {server.database} of {server.system}"
@@ -61,32 +68,46 @@ class Fitting:
         raise Unfit(f"the server has no slot {self.options.slot}")
 
     def check_timeline(self, connection: Connection, server: Server, position: int) -> int | None:
-        """Checks that what the store has is in the server's history too, where its timeline isn't that of the last session.
+        """Checks that what the store has is in the server's history too, where its timeline isn't
+        that of the last session.
 
-        A server that was promoted or put back has a timeline of its own. It left the old one at an LSN; what the store has above that is
-        of commits that the server hasn't, and the server has others there. But a standby that was promoted since without being started
-        anew has all that it ever sent.
+        A server that was promoted or put back has a timeline of its own. It left the old one at an
+        LSN; what the store has above that is of commits that the server hasn't, and the server has
+        others there. But a standby that was promoted since without being started anew has all that
+        it ever sent.
 
-        Returns None where the history goes on as it was, and else the LSN above which what was confirmed is of the other one.
+        Returns None where the history goes on as it was, and else the LSN above which what was
+        confirmed is of the other one.
         """
         known = self.checkpoint.known
         if not known.timeline or server.timeline == known.timeline:
             return None
         if known.started and known.started == server.started:
-            log.info(f"the server was promoted while it was followed: it is on the timeline {server.timeline} now")
+            log.info(
+                f"the server was promoted while it was followed: it is on the timeline {server.timeline} now"
+            )
             return None
-        left = left_at(connection, server.timeline, known.timeline) if server.timeline > known.timeline else None
+        left = (
+            left_at(connection, server.timeline, known.timeline)
+            if server.timeline > known.timeline
+            else None
+        )
         if left is None or position > left:
             self.note_history(server, left, position)
         shared = max(left or 0, position)
-        log.warning(f"the server went on from the timeline {known.timeline} to {server.timeline} at {lsn_text(left or 0)}")
-        self.checkpoint.write(True, timeline=server.timeline, confirmed=min(known.confirmed, shared))
+        log.warning(
+            f"the server went on from the timeline {known.timeline} to {server.timeline} at {lsn_text(left or 0)}"
+        )
+        self.checkpoint.write(
+            True, timeline=server.timeline, confirmed=min(known.confirmed, shared)
+        )
         self.watch.show()
         return shared
 
     def note_history(self, server: Server, left: int | None, position: int) -> None:
-        """Notes that the server has another history than the store. Where that is accepted, it sends nothing that ends up to the store's
-        position, so its own commits up to there are passed over, and that is what is found then."""
+        """Notes that the server has another history than the store. Where that is accepted, it
+        sends nothing that ends up to the store's position, so its own commits up to there are
+        passed over, and that is what is found then."""
         known, at = self.checkpoint.known, lsn_text(position)
         if not self.options.accepts("history"):
             when = "never" if left is None else f"at {lsn_text(left)}"
@@ -104,8 +125,12 @@ class Fitting:
     def check_start(self, slot_at: int, position: int) -> None:
         """Rejects a gap between store and slot, unless it was said to be wanted."""
         known, options = self.checkpoint.known, self.options
-        if options.accepts("gap") or (known.phase == known_of.NEW and options.no_copy and position == 0):
-            log.warning(f"whatever changed before {lsn_text(slot_at)} and isn't in the store stays missing")
+        if options.accepts("gap") or (
+            known.phase == known_of.NEW and options.no_copy and position == 0
+        ):
+            log.warning(
+                f"whatever changed before {lsn_text(slot_at)} and isn't in the store stays missing"
+            )
             options.accept = [it for it in options.accept if it not in ("gap", "slot", "all")]
             self.checkpoint.forget_server()
             self.checkpoint.write(False, confirmed=max(slot_at, position), position=position)
@@ -120,13 +145,21 @@ class Fitting:
         # (a feed keeps the name that it has begun with)
         database = known.database if known.database and remembered.feed else server.database
         self.checkpoint.write(
-            True, confirmed=max(confirmed, known.confirmed), phase=known_of.FOLLOWING, system=server.system, timeline=server.timeline,
-            started=server.started, database=database, slot=self.options.slot, position=max(position, known.position),
+            True,
+            confirmed=max(confirmed, known.confirmed),
+            phase=known_of.FOLLOWING,
+            system=server.system,
+            timeline=server.timeline,
+            started=server.started,
+            database=database,
+            slot=self.options.slot,
+            position=max(position, known.position),
             encrypted=transport.OWN.was_encrypted,
         )
 
     def check_slot(self, position: int, check: Check) -> None:
-        """Checks the slot again once it is ours: what somebody confirmed since it was looked at would be passed over."""
+        """Checks the slot again once it is ours: what somebody confirmed since it was looked at
+        would be passed over."""
         connection = Connection(self.options.dsn, name=f"{self.options.slot} check", check=check)
         try:
             settle(connection)

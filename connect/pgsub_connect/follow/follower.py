@@ -1,6 +1,7 @@
 """Follows a server: sessions one after the other, with the filter kept alive between them.
 
-What is looked at before a session is in the module `fitting`, and which statuses are passed on in `confirming`.
+What is looked at before a session is in the module `fitting`, and which statuses are passed on in
+`confirming`.
 """
 
 from __future__ import annotations
@@ -13,50 +14,78 @@ from collections.abc import Sequence
 from typing import TYPE_CHECKING
 
 from pgsub_feed import log
-from . import too_large
-from ..add.adder import Adder
-from .awake import Awake, NEEDED, processors
-from ..store.checkpoint import Checkpoint
-from .statuses import Confirming
-from ..drift.differences import PUBLICATION
-from ..errors import FileError, FilterFault, LOGIN, Passing, Renewed, ServerError, Stopped, Unconnected, Unfit
-from .feed import Feeding
-from .filter import Filter, FilterEnded, MISSED, PIECE
-from .fitness import Fitting
-from ..drift.findings import About, NOTHING
-from .gate import LOOK as GATE
-from .gate import Gating, WAITED
-from ..server.lost_slot import Repeats, lost_error
-from ..drift.missed_rows import Misses
-from .stream_log import Noting
-from ..server.connection import COPY_BOTH, Connection
-from ..status.progress import Progress
-from ..server.publications import with_cure
-from ..commands.record import Aside
-from ..drift.remembered import Remembered
-from .repair import Repairing
-from ..server.session import ABORTS_IN_VERSION_1, STREAMS, Server, identify, is_lost, log_end, postmaster_start, sender_timeout, settle, tell_version_1, waits_for
-from .skip import Skipping
-from ..store.snapshot import SOON, Snapshots
-from .stall import Standing
 from pgsub_feed.texts import counted, identifier, lsn_text, replication_literal
+
+from ..add.adder import Adder
+from ..commands.record import Aside
+from ..drift.differences import PUBLICATION
+from ..drift.findings import NOTHING, About
+from ..drift.missed_rows import Misses
+from ..drift.remembered import Remembered
 from ..drift.watch import Watch
+from ..errors import (
+    LOGIN,
+    FileError,
+    FilterFault,
+    Passing,
+    Renewed,
+    ServerError,
+    Stopped,
+    Unconnected,
+    Unfit,
+)
+from ..server.connection import COPY_BOTH, Connection
+from ..server.lost_slot import Repeats, lost_error
+from ..server.publications import with_cure
+from ..server.session import (
+    ABORTS_IN_VERSION_1,
+    STREAMS,
+    Server,
+    identify,
+    is_lost,
+    log_end,
+    postmaster_start,
+    sender_timeout,
+    settle,
+    tell_version_1,
+    waits_for,
+)
+from ..status.progress import Progress
+from ..store.checkpoint import Checkpoint
+from ..store.snapshot import SOON, Snapshots
+from . import too_large
+from .awake import NEEDED, Awake, processors
+from .feed import Feeding
+from .filter import MISSED, PIECE, Filter, FilterEnded
+from .fitness import Fitting
+from .gate import LOOK as GATE
+from .gate import WAITED, Gating
+from .repair import Repairing
+from .skip import Skipping
+from .stall import Standing
+from .statuses import Confirming
+from .stream_log import Noting
 
 if TYPE_CHECKING:
     from ..commands.options import Options
 
 # After how many seconds a lost session is begun anew, at first and at most.
 FIRST_DELAY, LONGEST_DELAY = 1.0, 60.0
-# How long the server and the filter are waited for, and how long it is slept, before it is looked whether the end was asked for.
+# How long the server and the filter are waited for, and how long it is slept, before it is looked
+# whether the end was asked for.
 STEP, SLEEP = 0.5, 0.2
-# After how many seconds each a store that can't be opened is tried again, the last one again and again.
+# After how many seconds each a store that can't be opened is tried again, the last one again and
+# again.
 OPENED_AFTER = (1, 2, 4, 8, 15, 30)
-# An error that the server doesn't expect of itself. PostgreSQL 15 has one (`could not map filenode .. to relation OID`) where it
-# streams a transaction beside a TRUNCATE, at each try. The same transaction comes well once it is whole, or not at all.
+# An error that the server doesn't expect of itself. PostgreSQL 15 has one (`could not map filenode
+# .. to relation OID`) where it streams a transaction beside a TRUNCATE, at each try. The same
+# transaction comes well once it is whole, or not at all.
 INTERNAL = "XX000"
-# How often the server is asked how far it has read its log, where the copy is to be taken at an LSN, in seconds.
+# How often the server is asked how far it has read its log, where the copy is to be taken at an
+# LSN, in seconds.
 ASK = 0.3
-# What a standby says that can't be followed: it has no such feature, or the slot is one that it only keeps for its promotion.
+# What a standby says that can't be followed: it has no such feature, or the slot is one that it
+# only keeps for its promotion.
 NOT_AT_STANDBYS = ("0A", "55000")
 
 
@@ -66,8 +95,15 @@ class Follower:
     connection: Connection | None
 
     def __init__(
-        self, options: Options, checkpoint: Checkpoint, child: Filter, progress: Progress, recording: Aside | None,
-        snapshots: Snapshots, remembered: Remembered, feeding: Feeding | None = None,
+        self,
+        options: Options,
+        checkpoint: Checkpoint,
+        child: Filter,
+        progress: Progress,
+        recording: Aside | None,
+        snapshots: Snapshots,
+        remembered: Remembered,
+        feeding: Feeding | None = None,
     ) -> None:
         self.options = options
         self.filter, self.progress, self.recording = child, progress, recording
@@ -85,10 +121,36 @@ class Follower:
         self.misses = Misses(options, checkpoint, progress, remembered)
         self.skipping = Skipping(options.skip, checkpoint, progress, remembered)
         self.fitting = Fitting(options, checkpoint, self.watch)
-        self.confirming = confirming = Confirming(checkpoint, child, progress, self.noting, self.misses)
-        self.adder = Adder(options, checkpoint, progress, remembered, self.watch, self.noting, confirming, snapshots.hold, self)
-        self.repairing = Repairing(options, checkpoint, progress, remembered, self.watch, self.noting, confirming, snapshots, self)
-        snapshots.adds, snapshots.is_streaming, snapshots.reached = self.adder.take, self.is_streaming, confirming.reached
+        self.confirming = confirming = Confirming(
+            checkpoint, child, progress, self.noting, self.misses
+        )
+        self.adder = Adder(
+            options,
+            checkpoint,
+            progress,
+            remembered,
+            self.watch,
+            self.noting,
+            confirming,
+            snapshots.hold,
+            self,
+        )
+        self.repairing = Repairing(
+            options,
+            checkpoint,
+            progress,
+            remembered,
+            self.watch,
+            self.noting,
+            confirming,
+            snapshots,
+            self,
+        )
+        snapshots.adds, snapshots.is_streaming, snapshots.reached = (
+            self.adder.take,
+            self.is_streaming,
+            confirming.reached,
+        )
         snapshots.delays_commits = progress.note_standbys
         self.gating = Gating(options, progress, snapshots.hold, self.serve_server, self.let_go)
         self.kills, self.repeats = too_large.Kills(), Repeats(options)
@@ -96,10 +158,13 @@ class Follower:
         # when the server was heard last, as far as anything of it was waited for
         self.heard = time.monotonic()
         self.until = options.until if isinstance(options.until, int) else None
-        # whether whole transactions are asked for because of tables that are added, or rows that are repaired
+        # whether whole transactions are asked for because of tables that are added, or rows that
+        # are repaired
         self.is_whole = False
         # how statuses and commits are waited for where commits at the server wait for this
-        self.for_statuses, self.for_commits = (Awake(), Awake()) if processors() >= NEEDED else (None, None)
+        self.for_statuses, self.for_commits = (
+            (Awake(), Awake()) if processors() >= NEEDED else (None, None)
+        )
 
     def run(self) -> None:
         """Follows until a signal asks for the end. Raises where going on makes no sense."""
@@ -131,7 +196,8 @@ class Follower:
         self.snapshots.wait()
 
     def leave_filter(self) -> None:
-        """Ends the filter in its own time where something else ends the run: what a killed one has stored may not be counted."""
+        """Ends the filter in its own time where something else ends the run: what a killed one has
+        stored may not be counted."""
         with contextlib.suppress(FileError, FilterEnded, FilterFault, Passing):
             self.finish_filter()
 
@@ -141,9 +207,11 @@ class Follower:
             raise Stopped
 
     def note_error(self, error: ServerError) -> None:
-        """Notes what the server said. Raises where the same would come of another try, or where it was never reached.
+        """Notes what the server said. Raises where the same would come of another try, or where it
+        was never reached.
 
-        Whom it has let in before it may let in again, once the password is the new one here too, or what it asks for it is back.
+        Whom it has let in before it may let in again, once the password is the new one here too, or
+        what it asks for it is back.
         """
         is_of_connecting = isinstance(error, Unconnected) or error.sqlstate.startswith(LOGIN)
         if error.is_lasting() and not (self.was_connected and is_of_connecting):
@@ -159,7 +227,9 @@ class Follower:
 
     def note_end(self, ended: FilterEnded) -> None:
         """Notes why the filter ended. Raises where the same would come of another try."""
-        if not (ended.is_full() and self.stop_streaming("open transactions were too much at a time")):
+        if not (
+            ended.is_full() and self.stop_streaming("open transactions were too much at a time")
+        ):
             largest = self.noting.largest()
             if text := too_large.text_of(ended, self.options, largest, self.noting.longest):
                 log.error(text)
@@ -174,7 +244,8 @@ class Follower:
         self.progress.restarts += 1
 
     def tell_rejected(self, ended: FilterEnded) -> None:
-        """Tells which commit the filter has rejected: the first one above its store's position. All up to there is counted."""
+        """Tells which commit the filter has rejected: the first one above its store's position. All
+        up to there is counted."""
         if not ended.is_of_stream():
             return
         with contextlib.suppress(FilterEnded, Stopped):
@@ -195,10 +266,12 @@ class Follower:
         return True
 
     def holds_for_snapshot(self) -> bool:
-        """Copies the store for readers, where that is due, once all commits that were passed on are stored.
+        """Copies the store for readers, where that is due, once all commits that were passed on are
+        stored.
 
-        Until then nothing more is passed on, nor where the stream is held for a copy at one LSN: returns whether so. The filter has
-        nothing to write meanwhile, and what it has buffered of open transactions isn't in the store.
+        Until then nothing more is passed on, nor where the stream is held for a copy at one LSN:
+        returns whether so. The filter has nothing to write meanwhile, and what it has buffered of
+        open transactions isn't in the store.
         """
         if self.stop_asked:
             return False
@@ -219,7 +292,11 @@ class Follower:
         """Keeps server and status file content while something takes long."""
         self.progress.beat()
         confirming = self.confirming
-        if confirming.connection and self.filter.is_running() and time.monotonic() - confirming.last_sent >= self.heartbeat:
+        if (
+            confirming.connection
+            and self.filter.is_running()
+            and time.monotonic() - confirming.last_sent >= self.heartbeat
+        ):
             confirming.repeat()
 
     def start_filter(self) -> None:
@@ -244,7 +321,9 @@ class Follower:
                 if not ended.is_unopened():
                     raise
             delay = OPENED_AFTER[min(tried, len(OPENED_AFTER) - 1)]
-            log.warning(f"the store can't be opened now: it is tried again in {counted(delay, 'second')}")
+            log.warning(
+                f"the store can't be opened now: it is tried again in {counted(delay, 'second')}"
+            )
             self.sleep(delay)
         raise AssertionError
 
@@ -263,7 +342,9 @@ class Follower:
         if not self.stop_asked:
             self.progress.state = "waiting to connect again"
         until = time.monotonic() + self.delay
-        while not self.stop_asked and ((left := until - time.monotonic()) > 0 or self.standing.lasts()):
+        while not self.stop_asked and (
+            (left := until - time.monotonic()) > 0 or self.standing.lasts()
+        ):
             self.progress.beat()
             self.holds_for_snapshot()
             if not self.filter.is_running():
@@ -279,7 +360,9 @@ class Follower:
         """Connects, checks that the store and the slot fit together, and starts the session."""
         options = self.options
         self.progress.state = "connecting"
-        connection = Connection(options.dsn, replication=True, name=options.slot, check=self.check_stop)
+        connection = Connection(
+            options.dsn, replication=True, name=options.slot, check=self.check_stop
+        )
         self.connection = connection
         settle(connection)
         server = identify(connection)
@@ -298,12 +381,21 @@ class Follower:
         self.progress.sessions += 1
         log.info(f"following slot {options.slot} from {lsn_text(max(at, slot_at))}")
         if self.recording:
-            self.recording.begin_session(connection, dataclasses.replace(options, proto=self.proto, streaming=self.is_streaming()), at)
+            self.recording.begin_session(
+                connection,
+                dataclasses.replace(options, proto=self.proto, streaming=self.is_streaming()),
+                at,
+            )
         return connection
 
     def fit(self, connection: Connection, server: Server) -> int:
-        """Checks that store, server and slot fit together, and notes whose changes the store has. Returns from where the slot sends."""
-        fitting, position, confirmed = self.fitting, self.confirming.position, self.filter.confirmed()
+        """Checks that store, server and slot fit together, and notes whose changes the store has.
+        Returns from where the slot sends."""
+        fitting, position, confirmed = (
+            self.fitting,
+            self.confirming.position,
+            self.filter.confirmed(),
+        )
         fitting.check_server(server, confirmed, position)
         slot_at = fitting.find_slot(connection, server)
         shared = fitting.check_timeline(connection, server, position)
@@ -317,13 +409,17 @@ class Follower:
         return slot_at
 
     def prepare(self, connection: Connection) -> None:
-        """Has what takes part in a session begin it, which tells what it asks for, and reads the settings that it depends on."""
+        """Has what takes part in a session begin it, which tells what it asks for, and reads the
+        settings that it depends on."""
         options, progress = self.options, self.progress
-        # (on another connection: what a session's process has in its caches, it would decode older changes by)
+        # (on another connection: what a session's process has in its caches, it would decode older
+        # changes by)
         if not self.watch.look_again(self.check_stop, self.confirming.position):
             self.noting.wants_look = True
         self.skipping.begin_session(self.filter.confirmed())
-        adds, repairs = self.adder.begin_session(self.confirming.position, self.streams), self.repairing.begin_session(self.streams)
+        adds, repairs = self.adder.begin_session(
+            self.confirming.position, self.streams
+        ), self.repairing.begin_session(self.streams)
         self.is_whole = adds or repairs
         self.noting.begin_session()
         if options.until == "now" and self.until is None:
@@ -331,22 +427,32 @@ class Follower:
         timeout = sender_timeout(connection)
         self.heartbeat = min(options.heartbeat, timeout / 3) if timeout else options.heartbeat
         progress.name = connection.parameter("application_name")
-        progress.is_waited_for = waits_for(connection.text("SHOW synchronous_standby_names"), progress.name)
+        progress.is_waited_for = waits_for(
+            connection.text("SHOW synchronous_standby_names"), progress.name
+        )
 
     def start_replication(self, connection: Connection, server: Server) -> None:
-        """Asks for the changes. A standby rejects that where it has no slots of its own, until it is promoted."""
+        """Asks for the changes. A standby rejects that where it has no slots of its own, until it
+        is promoted."""
         try:
-            connection.run(self.command(self.filter.confirmed()), wanted=COPY_BOTH, limit=self.options.silence)
+            connection.run(
+                self.command(self.filter.confirmed()), wanted=COPY_BOTH, limit=self.options.silence
+            )
         except ServerError as error:
-            if server.is_standby and error.sqlstate.startswith(NOT_AT_STANDBYS) and not is_lost(connection, self.options.slot):
+            if (
+                server.is_standby
+                and error.sqlstate.startswith(NOT_AT_STANDBYS)
+                and not is_lost(connection, self.options.slot)
+            ):
                 raise ServerError(f"the server is a standby: {error}") from None
             raise lost_error(connection, self.options, error) if error.sqlstate else error from None
 
     def choose_protocol(self, version: int) -> None:
         """Chooses the version of the protocol, and has the filter read it.
 
-        Servers from 18 on abort a transaction that they know to be rolled back even where they stream none. In version 2 that message
-        is legal and has no effect, so version 1 of them is version 2 without streaming.
+        Servers from 18 on abort a transaction that they know to be rolled back even where they
+        stream none. In version 2 that message is legal and has no effect, so version 1 of them is
+        version 2 without streaming.
         """
         if version < STREAMS and self.proto == 2:
             tell_version_1()
@@ -373,7 +479,8 @@ class Follower:
     def session(self) -> None:
         """One session, from its start to its end on either side.
 
-        What comes is passed on first: all else is done while the filter stores it, since a commit at the server may wait for that.
+        What comes is passed on first: all else is done while the filter stores it, since a commit
+        at the server may wait for that.
         """
         connection = self.connect()
         self.progress.state = "following"
@@ -384,16 +491,32 @@ class Follower:
         while not self.is_over():
             if self.ends_for_another(connection):
                 return
-            room, listens = not self.holds_for_snapshot() and self.filter.has_room(), time.monotonic()
+            room, listens = (
+                not self.holds_for_snapshot() and self.filter.has_room(),
+                time.monotonic(),
+            )
             readable, writable, statuses = self.serve(
-                self.longest_wait(bool(more) and room), [socket] if room else [], [socket] if connection.unsent else [], self.awake()
+                self.longest_wait(bool(more) and room),
+                [socket] if room else [],
+                [socket] if connection.unsent else [],
+                self.awake(),
             )
             # (what else takes long, as a copy of the store does, is none of the server's silence)
             silent = 0.0 if socket in readable or not room else silent + time.monotonic() - listens
             if statuses or confirming.held:
                 confirming.forward(statuses)
-            # (what was read already of an encrypted connection doesn't wake select, nor what is read where a flush would block)
-            if room and not more and (socket in readable or socket in writable or is_wrapped or not (readable or writable)):
+            # (what was read already of an encrypted connection doesn't wake select, nor what is
+            # read where a flush would block)
+            if (
+                room
+                and not more
+                and (
+                    socket in readable
+                    or socket in writable
+                    or is_wrapped
+                    or not (readable or writable)
+                )
+            ):
                 connection.consume()
                 more = True
             if room and more:
@@ -402,7 +525,9 @@ class Follower:
                 self.note_left_out(connection.left_out)
             self.tend_misses()
             self.noting.show()
-            self.noting.wants_look = self.watch.tend(self.noting.wants_look, self.serve_server, confirming.position)
+            self.noting.wants_look = self.watch.tend(
+                self.noting.wants_look, self.serve_server, confirming.position
+            )
             if more is None:
                 log.warning("the server ended the session")
                 return
@@ -417,13 +542,18 @@ class Follower:
         self.end_session_by_ourselves()
 
     def ends_for_another(self, connection: Connection) -> bool:
-        """Goes on with tables that are added, and rows that are repaired. Returns whether another session is to begin for them."""
+        """Goes on with tables that are added, and rows that are repaired. Returns whether another
+        session is to begin for them."""
         self.progress.beat()
         if self.progress.was_promoted:
             raise ServerError("the standby was promoted: a session with the new primary is begun")
         # (behind a repair nothing is passed on in this session)
         self.repairing.step()
-        if self.repairing.wants_session() or not self.snapshots.hold.keeps and self.adder.wants_session():
+        if (
+            self.repairing.wants_session()
+            or not self.snapshots.hold.keeps
+            and self.adder.wants_session()
+        ):
             self.renew(connection)
             return True
         self.adder.step()
@@ -442,19 +572,22 @@ class Follower:
             self.adder.let_go(why)
 
     def serve_copy(self) -> None:
-        """Keeps the server content while the store is copied. Ends one for which commits have waited for too long."""
+        """Keeps the server content while the store is copied. Ends one for which commits have
+        waited for too long."""
         self.serve_server()
         if self.gating.is_over():
             raise OSError(0, WAITED)
 
     def awake(self) -> Awake | None:
-        """Waits for what the filter says of a commit, or for the next one, where commits at the server wait for that."""
+        """Waits for what the filter says of a commit, or for the next one, where commits at the
+        server wait for that."""
         if not self.progress.is_waited_for:
             return None
         return self.for_statuses if self.noting.ends else self.for_commits
 
     def longest_wait(self, has_more: bool) -> float:
-        """For how many seconds a session waits at most until something comes. `has_more`: something has come already."""
+        """For how many seconds a session waits at most until something comes. `has_more`: something
+        has come already."""
         confirming = self.confirming
         wait = 0.0 if has_more else self.heartbeat - (time.monotonic() - confirming.last_sent)
         if confirming.held:
@@ -473,16 +606,20 @@ class Follower:
         return self.stop_asked
 
     def keep_alive(self, silent: float) -> None:
-        """Repeats the last status at each heartbeat. A server that has been silent is asked for an answer, and given up."""
+        """Repeats the last status at each heartbeat. A server that has been silent is asked for an
+        answer, and given up."""
         limit = self.options.silence
         if silent > limit:
             raise ServerError(f"the server said nothing for {limit:.0f} seconds")
         waits = self.snapshots.hold.is_going()
-        if time.monotonic() - self.confirming.last_sent >= (ASK if waits else min(self.heartbeat, limit / 4)):
+        if time.monotonic() - self.confirming.last_sent >= (
+            ASK if waits else min(self.heartbeat, limit / 4)
+        ):
             self.confirming.repeat(asks=waits or silent > limit / 2)
 
     def renew(self, connection: Connection) -> None:
-        """Ends a session so that another one begins, with whole transactions where rows come from here, or again without."""
+        """Ends a session so that another one begins, with whole transactions where rows come from
+        here, or again without."""
         log.info("a session begins anew, because of rows that are added or repaired")
         self.delay, self.is_renewed = 0.0, True
         connection.end_copy()
@@ -500,13 +637,19 @@ class Follower:
         self.standing.check(self.options.silence)
 
     def require_server(self) -> None:
-        """Asks the server on another connection whether it is there, where nothing has come for too long: of the session nothing is read
-        meanwhile, and it may need that long for what is waited for."""
+        """Asks the server on another connection whether it is there, where nothing has come for too
+        long: of the session nothing is read meanwhile, and it may need that long for what is waited
+        for."""
         limit = self.options.silence
         if time.monotonic() - self.heard <= limit:
             return
         try:
-            connection = Connection(self.options.dsn, name=f"{self.options.slot} check", quiet=True, check=self.serve_server)
+            connection = Connection(
+                self.options.dsn,
+                name=f"{self.options.slot} check",
+                quiet=True,
+                check=self.serve_server,
+            )
             with contextlib.closing(connection):
                 is_there = postmaster_start(connection) == self.progress.server_started
         except ServerError as error:
@@ -526,14 +669,20 @@ class Follower:
             self.attend()
 
     def serve_server(self) -> None:
-        """Keeps the server content while another connection is waited for, or a copy is made. Raises where the end was asked for."""
+        """Keeps the server content while another connection is waited for, or a copy is made.
+        Raises where the end was asked for."""
         self.check_stop()
         self.tick()
 
     def take_payloads(self, connection: Connection) -> bool | None:
-        """Passes on what has come. Returns false where there is no more yet, true where there may be, None after the end."""
+        """Passes on what has come. Returns false where there is no more yet, true where there may
+        be, None after the end."""
         hold = self.snapshots.hold
-        payloads, more = (hold.take_kept(), True) if hold.kept else connection.payloads(self.filter.room(), PIECE)
+        payloads, more = (
+            (hold.take_kept(), True)
+            if hold.kept
+            else connection.payloads(self.filter.room(), PIECE)
+        )
         if not payloads:
             return more
         if hold.limit() is not None:
@@ -553,7 +702,8 @@ class Follower:
         return True if hold.kept and more is not None else more
 
     def note_left_out(self, said: list[str]) -> None:
-        """Finds what the server has said of publications that weren't there yet at this place in the log: it leaves out their changes.
+        """Finds what the server has said of publications that weren't there yet at this place in
+        the log: it leaves out their changes.
 
         Up to 17 that is an error. It comes before whatever confirms the transactions.
         """
@@ -565,9 +715,14 @@ class Follower:
             self.watch.remembered.find(PUBLICATION, self.confirming.position, text, about)
 
     def serve(
-        self, timeout: float, reads: Sequence[int] = (), writes: Sequence[int] = (), awake: Awake | None = None
+        self,
+        timeout: float,
+        reads: Sequence[int] = (),
+        writes: Sequence[int] = (),
+        awake: Awake | None = None,
     ) -> tuple[list[int], list[int], list[bytes]]:
-        """Serves the filter. What it says of changes that found no row is on the disk before anybody sees the statuses that follow."""
+        """Serves the filter. What it says of changes that found no row is on the disk before
+        anybody sees the statuses that follow."""
         statuses: list[bytes] = []
         try:
             readable, writable, statuses = self.filter.serve(timeout, reads, writes, awake)
@@ -576,7 +731,8 @@ class Follower:
             self.confirming.note_missing(statuses)
 
     def tend_misses(self) -> None:
-        """Tells what is new of changes that found no row. Raises where the following is to be strict."""
+        """Tells what is new of changes that found no row. Raises where the following is to be
+        strict."""
         self.misses.tell()
         if self.misses.is_new:
             self.misses.is_new = False
@@ -627,7 +783,8 @@ class Follower:
 
 
 def check_end(ended: FilterEnded) -> None:
-    """Looks at how a filter has ended that was to end. Raises where the next one would end in the same way."""
+    """Looks at how a filter has ended that was to end. Raises where the next one would end in the
+    same way."""
     if ended.is_rejection():
         raise ended
     if ended.status not in (0, MISSED):

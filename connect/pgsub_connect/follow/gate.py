@@ -32,15 +32,16 @@ import time
 from collections.abc import Callable
 from typing import TYPE_CHECKING
 
-from ..errors import NoSlot, Passing, ServerError, Stopped, Unfit, understood
-from .hold import Hold
-from ..server.connection import Check, Connection, QUICK
-from ..status.progress import Progress
 from pgsub_feed.texts import parse_lsn
 
+from ..errors import NoSlot, Passing, ServerError, Stopped, Unfit, understood
+from ..server.connection import QUICK, Check, Connection
+from ..status.progress import Progress
+from .hold import Hold
+
 if TYPE_CHECKING:
-    from ..verify.meeting_point import Source
     from ..commands.options import Options
+    from ..verify.meeting_point import Source
 
 # How often it is looked whether the slot still waits, and again where the server couldn't be asked,
 # in seconds.
@@ -70,7 +71,11 @@ class Gating:
     `let_go` is told why."""
 
     def __init__(
-        self, options: Options, progress: Progress, hold: Hold, check: Check,
+        self,
+        options: Options,
+        progress: Progress,
+        hold: Hold,
+        check: Check,
         let_go: Callable[[str], None],
     ) -> None:
         self.options, self.progress, self.hold = options, progress, hold

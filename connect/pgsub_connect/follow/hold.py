@@ -1,26 +1,33 @@
-"""Stops the stream between two commits, so that the copy is exactly that of one LSN: for `pgsub-connect verify`, or to add or repair rows.
+"""Stops the stream between two commits, so that the copy is exactly that of one LSN: for
+`pgsub-connect verify`, or to add or repair rows.
 
-That LSN is a slot's consistent point P, and the server is read under the snapshot that the slot exports. It "will show exactly the
-state of the database after which all changes will be included in the change stream" (PostgreSQL's documentation, Logical Decoding
-Concepts, Exported Snapshots). In its source, src/backend/replication/logical: P is the end of the record at which decoding became
-consistent (`DecodingContextFindStartpoint` in logical.c: `confirmed_flush = reader->EndRecPtr`), and a commit is passed over where its
-record starts before P (`SnapBuildXactNeedsSkip` in snapbuild.c: `ptr < start_decoding_at`, called by `DecodeCommit` in decode.c with
-`buf->origptr`). Records don't overlap and P is the end of one, so of each commit's record one of two things holds:
+That LSN is a slot's consistent point P, and the server is read under the snapshot that the slot
+exports. It "will show exactly the state of the database after which all changes will be included in
+the change stream" (PostgreSQL's documentation, Logical Decoding Concepts, Exported Snapshots). In
+its source, src/backend/replication/logical: P is the end of the record at which decoding became
+consistent (`DecodingContextFindStartpoint` in logical.c: `confirmed_flush = reader->EndRecPtr`),
+and a commit is passed over where its record starts before P (`SnapBuildXactNeedsSkip` in
+snapbuild.c: `ptr < start_decoding_at`, called by `DecodeCommit` in decode.c with `buf->origptr`).
+Records don't overlap and P is the end of one, so of each commit's record one of two things holds:
 
-- it ends at P or before: the snapshot sees the commit. Its final LSN, which is the record's start, is below P, and its end LSN, which is
-  the record's end, isn't above P;
-- it starts at P or behind: the snapshot doesn't see it. Its final LSN is P or above, and its end LSN is above P.
+- it ends at P or before: the snapshot sees the commit. Its final LSN, which is the record's start,
+  is below P, and its end LSN, which is the record's end, isn't above P;
+- it starts at P or behind: the snapshot doesn't see it. Its final LSN is P or above, and its end
+  LSN is above P.
 
-Commits come in the order of their records. So all that the snapshot sees have come, and no other has, before the first of these: a
-Begin with a final LSN of P or above; a Stream Commit with an end LSN above P; a keepalive between transactions with an end of P or
-above, since a server says there up to where it has read its log and sent what commits in it. Blocks of open transactions may pass: what
-they hold isn't in the store.
+Commits come in the order of their records. So all that the snapshot sees have come, and no other
+has, before the first of these: a Begin with a final LSN of P or above; a Stream Commit with an end
+LSN above P; a keepalive between transactions with an end of P or above, since a server says there
+up to where it has read its log and sent what commits in it. Blocks of open transactions may pass:
+what they hold isn't in the store.
 
-The stream is held before the slot is made, so P is above all that was passed on: its record is written later than each commit that the
-server has sent. Where commits at the server wait for the follower, it goes on up to a gate, as the module `gating` says, which P is above.
-No frame is made up or left out, and statuses go on meanwhile.
+The stream is held before the slot is made, so P is above all that was passed on: its record is
+written later than each commit that the server has sent. Where commits at the server wait for the
+follower, it goes on up to a gate, as the module `gating` says, which P is above. No frame is made
+up or left out, and statuses go on meanwhile.
 
-The request is a dialog in the file `STORE.request`, which is locked (flock) by whoever asks: with the lock goes the hold.
+The request is a dialog in the file `STORE.request`, which is locked (flock) by whoever asks: with
+the lock goes the hold.
 
 | Field | Written by | Means |
 |---|---|---|
@@ -31,7 +38,8 @@ The request is a dialog in the file `STORE.request`, which is locked (flock) by 
 | `held` | the follower | nothing is passed on from now on; its position |
 | `point` | verify | P: the stream goes on up to there, then the copy is taken, and the request goes |
 
-Where rows are to be repaired, as the module `repairing` says, the request has `repair` from its beginning on, and the stream stays held:
+Where rows are to be repaired, as the module `repairing` says, the request has `repair` from its
+beginning on, and the stream stays held:
 
 | Field | Written by | Means |
 |---|---|---|
@@ -51,6 +59,7 @@ from collections.abc import Sequence
 from typing import Any
 
 from pgsub_feed.json_texts import Unreadable, object_of, open_plain, parsed, read_whole
+
 from .stream_log import BEGIN, COMMIT, STREAM_COMMIT, final_lsn
 
 # The most seconds that a request may ask for.
@@ -61,7 +70,8 @@ KEEPALIVE = b"k"
 
 
 class Hold:
-    """Whether payloads are held, and which of them come before the LSN at which the copy is taken."""
+    """Whether payloads are held, and which of them come before the LSN at which the copy is
+    taken."""
 
     def __init__(self) -> None:
         self.is_held = False
@@ -69,14 +79,17 @@ class Hold:
         self.into: str | None = None
         self.point: int | None = None
         self.until = 0.0
-        # whether it stays held once the copy was taken, since rows may be repaired; whether it was taken; the tables of the changes that
-        # are to be passed on, None as long as these aren't told; and whether they were passed on
+        # whether it stays held once the copy was taken, since rows may be repaired; whether it was
+        # taken; the tables of the changes that are to be passed on, None as long as these aren't
+        # told; and whether they were passed on
         self.keeps = self.is_copied = self.is_sent = False
         self.tables: list[int] | None = None
-        # where commits wait for the follower: the process that makes the slot, and what may pass until that is made
+        # where commits wait for the follower: the process that makes the slot, and what may pass
+        # until that is made
         self.maker = 0
         self.gate: int | None = None
-        # whether all commits up to the point, or to the gate, have come in this session, and what came behind them
+        # whether all commits up to the point, or to the gate, have come in this session, and what
+        # came behind them
         self.is_there = self.is_at_gate = False
         self.kept: list[bytes] = []
 
@@ -129,7 +142,8 @@ class Hold:
         return self.point is not None and not self.is_there
 
     def passing(self, payloads: list[bytes], is_inside: bool) -> list[bytes]:
-        """Those that are to be passed on; the rest is kept. `is_inside`: they begin between a Begin and its Commit."""
+        """Those that are to be passed on; the rest is kept. `is_inside`: they begin between a Begin
+        and its Commit."""
         limit = self.limit()
         if limit is None:
             return payloads
@@ -141,8 +155,13 @@ class Hold:
         self.is_there = bool(self.kept)
         if not self.keeps:
             return payloads[:count]
-        # (within a transaction no server tells of the point or more; before the changes nothing may)
-        return [it for it in payloads[:count] if it[:1] != KEEPALIVE or int.from_bytes(it[1:9], "big") < self.point]
+        # (within a transaction no server tells of the point or more; before the changes nothing
+        # may)
+        return [
+            it
+            for it in payloads[:count]
+            if it[:1] != KEEPALIVE or int.from_bytes(it[1:9], "big") < self.point
+        ]
 
     def take_kept(self) -> list[bytes]:
         kept, self.kept = self.kept, []
@@ -150,7 +169,8 @@ class Hold:
 
 
 def count_below(payloads: Sequence[bytes], point: int, is_inside: bool) -> int:
-    """How many payloads come before the first one that tells that all commits with an end up to this LSN have come."""
+    """How many payloads come before the first one that tells that all commits with an end up to
+    this LSN have come."""
     for index, payload in enumerate(payloads):
         letter = payload[25] if len(payload) > 25 else 0
         if letter == BEGIN:
@@ -168,8 +188,8 @@ def count_below(payloads: Sequence[bytes], point: int, is_inside: bool) -> int:
 
 
 def read_locked(path: str) -> tuple[dict[str, Any], bool] | None:
-    """A request's fields, none where it is being written, and whether whoever asks is alive; None where there is no request, or it is of
-    another account."""
+    """A request's fields, none where it is being written, and whether whoever asks is alive; None
+    where there is no request, or it is of another account."""
     try:
         file = open_plain(path, follows=False)
     except (OSError, Unreadable):

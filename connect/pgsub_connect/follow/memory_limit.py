@@ -14,7 +14,8 @@ LEAST = 64 << 20
 
 
 def memory() -> int | None:
-    """The memory that this process may have, in bytes: that of the machine, or less where its control groups say so."""
+    """The memory that this process may have, in bytes: that of the machine, or less where its
+    control groups say so."""
     found = []
     with contextlib.suppress(ValueError, OSError):
         found.append(os.sysconf("SC_PAGE_SIZE") * os.sysconf("SC_PHYS_PAGES"))
@@ -25,7 +26,9 @@ def memory() -> int | None:
 def group_files() -> list[str]:
     """The files with the limits of the control groups that this process is in, of both versions."""
     paths = ["/sys/fs/cgroup/memory/memory.limit_in_bytes"]
-    with contextlib.suppress(OSError, ValueError), open("/proc/self/cgroup", encoding="utf-8") as file:
+    with contextlib.suppress(OSError, ValueError), open(
+        "/proc/self/cgroup", encoding="utf-8"
+    ) as file:
         for line in file:
             number, controllers, path = line.rstrip("\n").split(":", 2)
             if number != "0" or controllers:

@@ -1,23 +1,28 @@
-"""Passes on the changes that make rows of the copy those of the server, as one transaction within the stream.
+"""Passes on the changes that make rows of the copy those of the server, as one transaction within
+the stream.
 
-They come from a comparison at an LSN P, which is held as the module `holding` says: all that was committed up to P is stored and in the
-copy that was compared, and nothing else. The transaction is Begin, for each table Relation and its changes, Commit. For it holds what the
-module `replacing` says of the rows of a table that is added:
+They come from a comparison at an LSN P, which is held as the module `holding` says: all that was
+committed up to P is stored and in the copy that was compared, and nothing else. The transaction is
+Begin, for each table Relation and its changes, Commit. For it holds what the module `replacing`
+says of the rows of a table that is added:
 
 - Its xid is 2, its final LSN P - 1 and its end P, which no server's commit has.
-- It stands between transactions, before the first Begin with a final LSN of P or above and the first keepalive with such an end. The
-  session asks for whole transactions, so that no block is under way; a keepalive within a transaction before it that tells of P or more,
-  as no server's does, is left out.
-- The session ends behind it, and the next one begins at P and describes each table anew. So it doesn't matter whether the session had
-  described the tables otherwise.
+- It stands between transactions, before the first Begin with a final LSN of P or above and the
+  first keepalive with such an end. The session asks for whole transactions, so that no block is
+  under way; a keepalive within a transaction before it that tells of P or more, as no server's
+  does, is left out.
+- The session ends behind it, and the next one begins at P and describes each table anew. So it
+  doesn't matter whether the session had described the tables otherwise.
 
-Unlike there no change is left out, and nothing is noted: where the session is lost before the transaction is stored the copy is as it
-was, and all that the server sends comes again. The changes find their rows and clash with none, since the copy was compared at P.
-That is proved by the laws of `crates/pgadding` (specs/Repaired.antt): what is passed on is sessions of a history, and the copy is the
-server's from P on. Of the changes they ask that no key comes twice, and no order. They speak of one repair, and not of a table that is
-added in the same session.
+Unlike there no change is left out, and nothing is noted: where the session is lost before the
+transaction is stored the copy is as it was, and all that the server sends comes again. The changes
+find their rows and clash with none, since the copy was compared at P. That is proved by the laws of
+`crates/pgadding` (specs/Repaired.antt): what is passed on is sessions of a history, and the copy is
+the server's from P on. Of the changes they ask that no key comes twice, and no order. They speak of
+one repair, and not of a table that is added in the same session.
 
-What was found of the tables' rows before they were compared, and may have made them wrong, goes with the repair.
+What was found of the tables' rows before they were compared, and may have made them wrong, goes
+with the repair.
 """
 
 from __future__ import annotations
@@ -30,22 +35,23 @@ from collections.abc import Iterator
 from typing import TYPE_CHECKING, Protocol
 
 from pgsub_feed import log
-from ..errors import ServerError
-from .hold import CHANGES
-from ..copy.messages import begin, commit, frame
-from .stream_log import EPOCH, relation_of
-from ..status.progress import Progress
-from ..add.replacement import XID, payload_of
 from pgsub_feed.texts import counted, lsn_text
 
+from ..add.replacement import XID, payload_of
+from ..copy.messages import begin, commit, frame
+from ..errors import ServerError
+from ..status.progress import Progress
+from .hold import CHANGES
+from .stream_log import EPOCH, relation_of
+
 if TYPE_CHECKING:
-    from ..store.checkpoint import Checkpoint
-    from .statuses import Confirming
-    from .stream_log import Noting
     from ..commands.options import Options
     from ..drift.remembered import Remembered
-    from ..store.snapshot import Snapshots
     from ..drift.watch import Watch
+    from ..store.checkpoint import Checkpoint
+    from ..store.snapshot import Snapshots
+    from .statuses import Confirming
+    from .stream_log import Noting
 
 # How many bytes of the file are passed on at a time.
 BLOCK = 1 << 17
@@ -56,7 +62,8 @@ class Stream(Protocol):
     """The follower, as far as rows are repaired by it."""
 
     def attend(self) -> None:
-        """Keeps server and filter content in a session while something else is waited for. Raises where the end was asked for."""
+        """Keeps server and filter content in a session while something else is waited for. Raises
+        where the end was asked for."""
 
     def is_streaming(self) -> bool:
         """Whether large transactions come while they run."""
@@ -70,7 +77,8 @@ class Unusable(Exception):
 
 
 def messages_in(path: str, most: int) -> Iterator[list[bytes]]:
-    """The messages of a file, in lots. One that isn't ours or root's isn't heard, nor one that has other messages."""
+    """The messages of a file, in lots. One that isn't ours or root's isn't heard, nor one that has
+    other messages."""
     with contextlib.ExitStack() as stack:
         try:
             number = os.open(path, os.O_RDONLY | os.O_NOFOLLOW | os.O_NONBLOCK | os.O_CLOEXEC)
@@ -82,7 +90,9 @@ def messages_in(path: str, most: int) -> Iterator[list[bytes]]:
             raise Unusable(f"{path}: a file of somebody else")
         if about.st_size > most:
             more = "choose tables by --table, or give the follower a --max-buffered above that"
-            raise Unusable(f"the changes have {about.st_size} bytes, and {most} may be buffered: {more}")
+            raise Unusable(
+                f"the changes have {about.st_size} bytes, and {most} may be buffered: {more}"
+            )
         file = stack.enter_context(open(number, "rb", closefd=False))
         lot, size = list[bytes](), 0
         while head := file.read(4):
@@ -101,12 +111,33 @@ class Repairing:
     """What becomes of a request to repair rows."""
 
     def __init__(
-        self, options: Options, checkpoint: Checkpoint, progress: Progress, remembered: Remembered, watch: Watch, noting: Noting,
-        confirming: Confirming, snapshots: Snapshots, stream: Stream,
+        self,
+        options: Options,
+        checkpoint: Checkpoint,
+        progress: Progress,
+        remembered: Remembered,
+        watch: Watch,
+        noting: Noting,
+        confirming: Confirming,
+        snapshots: Snapshots,
+        stream: Stream,
     ) -> None:
-        self.options, self.checkpoint, self.progress, self.remembered, self.watch = options, checkpoint, progress, remembered, watch
-        self.noting, self.confirming, self.snapshots, self.hold, self.stream = noting, confirming, snapshots, snapshots.hold, stream
-        # whether the session asks for whole transactions because of this, and whether it ends since a repair is stored
+        self.options, self.checkpoint, self.progress, self.remembered, self.watch = (
+            options,
+            checkpoint,
+            progress,
+            remembered,
+            watch,
+        )
+        self.noting, self.confirming, self.snapshots, self.hold, self.stream = (
+            noting,
+            confirming,
+            snapshots,
+            snapshots.hold,
+            stream,
+        )
+        # whether the session asks for whole transactions because of this, and whether it ends since
+        # a repair is stored
         self.is_whole = self.ends_session = False
         # whether the progress was told that the stream is held for a repair
         self.is_shown = False
@@ -135,10 +166,15 @@ class Repairing:
         self.ends_session = self.is_shown = False
 
     def is_stored(self) -> bool:
-        return self.hold.is_sent and self.hold.point is not None and self.confirming.position >= self.hold.point
+        return (
+            self.hold.is_sent
+            and self.hold.point is not None
+            and self.confirming.position >= self.hold.point
+        )
 
     def look(self) -> None:
-        """Looks at the publications before the copy is taken: what was found up to here is of rows that are compared then."""
+        """Looks at the publications before the copy is taken: what was found up to here is of rows
+        that are compared then."""
         self.texts = set()
         if self.watch.look_again(self.stream.attend, self.confirming.position):
             self.texts = {text for found in self.remembered.found.values() for text in found.texts}
@@ -177,7 +213,9 @@ class Repairing:
         """Messages that the filter takes. Their definitions are known then."""
         for message in lot:
             if len(message) > self.options.max_frame - 25:
-                raise Unusable(f"a row has {len(message)} bytes: give the follower a --max-frame above that")
+                raise Unusable(
+                    f"a row has {len(message)} bytes: give the follower a --max-frame above that"
+                )
             if message[:1] == b"R" and self.hold.point and (relation := relation_of(message[1:])):
                 self.remembered.replaced(relation, self.hold.point - 1)
         return lot
@@ -195,14 +233,17 @@ class Repairing:
         for oid in tables:
             texts = [it for it in self.remembered.found_of(oid) if it in self.texts]
             self.checkpoint.accept(self.remembered.are_right(oid, texts))
-        log.info(f"rows of {counted(len(tables), 'table')} were repaired as of {lsn_text(hold.point)}")
+        log.info(
+            f"rows of {counted(len(tables), 'table')} were repaired as of {lsn_text(hold.point)}"
+        )
         self.snapshots.answer(hold.into, None)
         hold.end()
         self.ends_session = True
         self.watch.show()
 
     def give_up(self, why: str, lasts: bool, delays: bool = False) -> None:
-        """Lets the stream go. `lasts`: another try would end in the same way; `delays`: commits had to wait for it."""
+        """Lets the stream go. `lasts`: another try would end in the same way; `delays`: commits had
+        to wait for it."""
         log.warning(f"no row is repaired: {why}")
         assert self.hold.into
         self.snapshots.reject(self.hold.into, why, lasts, delays)

@@ -1,7 +1,9 @@
-"""Which segments of a feed are kept: old ones go, by their size, by their age, or once all readers have them.
+"""Which segments of a feed are kept: old ones go, by their size, by their age, or once all readers
+have them.
 
-A reader is known by its file `FOLDER/readers/NAME`. What it hasn't read stays, unless the feed would get larger than it may. The last
-segment stays, and whatever has the commit at the store's position or one above it, as opening the feed needs it.
+A reader is known by its file `FOLDER/readers/NAME`. What it hasn't read stays, unless the feed
+would get larger than it may. The last segment stays, and whatever has the commit at the store's
+position or one above it, as opening the feed needs it.
 """
 
 from __future__ import annotations
@@ -10,15 +12,17 @@ import contextlib
 import dataclasses
 import os
 
-from ..errors import FileError
-from pgsub_feed.texts import parse_lsn
 from pgsub_feed.reader.positions import READERS
 from pgsub_feed.reader.segments import segments
+from pgsub_feed.texts import parse_lsn
+
+from ..errors import FileError
 
 
 @dataclasses.dataclass(frozen=True)
 class Limits:
-    """How many bytes a feed may have, and how old a segment that nobody needs may get, in seconds since it was written last."""
+    """How many bytes a feed may have, and how old a segment that nobody needs may get, in seconds
+    since it was written last."""
 
     most_bytes: int | None = None
     oldest: float | None = None
@@ -43,7 +47,8 @@ class Retired:
 
 
 def read_readers(folder: str) -> dict[str, int]:
-    """The LSN of each reader, by name. What else may be there is passed over: folders, and what an NFS leaves of a file in use."""
+    """The LSN of each reader, by name. What else may be there is passed over: folders, and what an
+    NFS leaves of a file in use."""
     path, found = os.path.join(folder, READERS), dict[str, int]()
     with contextlib.suppress(FileNotFoundError), os.scandir(path) as there:
         for it in there:
@@ -83,7 +88,9 @@ def retire(folder: str, limits: Limits, position: int, now: float) -> Retired:
     for it in complete(folder):
         behind = {name for name, lsn in readers.items() if lsn < it.end}
         is_too_much = limits.most_bytes is not None and total > limits.most_bytes
-        is_done = not behind and (bool(readers) if limits.oldest is None else now - it.written > limits.oldest)
+        is_done = not behind and (
+            bool(readers) if limits.oldest is None else now - it.written > limits.oldest
+        )
         if it.end >= position or not (is_too_much or is_done):
             break
         os.unlink(it.path)

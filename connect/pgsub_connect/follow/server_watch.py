@@ -1,5 +1,5 @@
-"""Asks the server beside the session: where its log ends, how long the slot is safe, whether commits wait for the follower, and whether a
-standby was promoted."""
+"""Asks the server beside the session: where its log ends, how long the slot is safe, whether
+commits wait for the follower, and whether a standby was promoted."""
 
 from __future__ import annotations
 
@@ -8,21 +8,23 @@ import time
 from typing import TYPE_CHECKING
 
 from pgsub_feed import log
-from ..errors import ServerError, Stopped, Unfit, understood
-from ..server.connection import Connection, QUICK
-from ..status.progress import Progress
-from ..server.session import END, exact_end, postmaster_start, waits_for
 from pgsub_feed.texts import counted, literal, parse_lsn
+
+from ..errors import ServerError, Stopped, Unfit, understood
+from ..server.connection import QUICK, Connection
+from ..server.session import END, exact_end, postmaster_start, waits_for
+from ..status.progress import Progress
 
 if TYPE_CHECKING:
     from ..commands.options import Options
 
-# After how many seconds the server is asked again: where a file shows it or nothing of the session is read, and else, where only warnings
-# come of it.
+# After how many seconds the server is asked again: where a file shows it or nothing of the session
+# is read, and else, where only warnings come of it.
 SHOWN, UNSHOWN = 2.0, 60.0
 # The first version that says of a slot how long it is safe.
 SAFETY = 130000
-# A slot is close to its end where less than a tenth of what it may keep is left, and isn't any more once a fifth is.
+# A slot is close to its end where less than a tenth of what it may keep is left, and isn't any more
+# once a fifth is.
 CLOSE, FAR = 10, 5
 
 
@@ -33,7 +35,8 @@ class SlotWarning:
         self.slot, self.state = slot, ""
 
     def note(self, status: str, safe: int | None, most: int) -> None:
-        """`safe`: how many bytes of log may come before it is lost; `most`: how many it may keep, not above 0 where all."""
+        """`safe`: how many bytes of log may come before it is lost; `most`: how many it may keep,
+        not above 0 where all."""
         state = status if status in ("unreserved", "lost") else self.closeness(safe, most)
         if state != self.state:
             self.state = state
@@ -47,11 +50,17 @@ class SlotWarning:
     def tell(self, safe: int, most: int) -> None:
         slot = f"the slot {self.slot}"
         if self.state == "close":
-            log.warning(f"{slot} is lost after {counted(safe, 'byte')} of log more (max_slot_wal_keep_size is {most}): following is too slow")
+            log.warning(
+                f"{slot} is lost after {counted(safe, 'byte')} of log more (max_slot_wal_keep_size is {most}): following is too slow"
+            )
         elif self.state == "unreserved":
-            log.warning(f"{slot} is lost at the server's next checkpoint, unless it is followed up to then (wal_status unreserved)")
+            log.warning(
+                f"{slot} is lost at the server's next checkpoint, unless it is followed up to then (wal_status unreserved)"
+            )
         elif self.state == "lost":
-            log.warning(f"{slot} is lost: the server has removed log that wasn't followed. Drop it and copy anew")
+            log.warning(
+                f"{slot} is lost: the server has removed log that wasn't followed. Drop it and copy anew"
+            )
         else:
             log.info(f"{slot} is safe again")
 
@@ -100,10 +109,13 @@ class Asker(threading.Thread):
 
     @understood("its settings")
     def connect(self) -> Connection:
-        self.connection = Connection(self.options.dsn, name=f"{self.options.slot} status", quiet=True, check=self.check)
+        self.connection = Connection(
+            self.options.dsn, name=f"{self.options.slot} status", quiet=True, check=self.check
+        )
         self.started = postmaster_start(self.connection)
         text = self.connection.value(
-            "SELECT pg_catalog.pg_size_bytes(pg_catalog.current_setting('max_slot_wal_keep_size', true))", QUICK
+            "SELECT pg_catalog.pg_size_bytes(pg_catalog.current_setting('max_slot_wal_keep_size', true))",
+            QUICK,
         )
         self.most = int(text) if text else -1
         return self.connection
@@ -117,7 +129,9 @@ class Asker(threading.Thread):
     def note(self, connection: Connection) -> None:
         """Asks, and notes what the server says."""
         progress, asked = self.progress, time.time()
-        columns = "s.wal_status, s.safe_wal_size" if connection.version() >= SAFETY else "NULL, NULL"
+        columns = (
+            "s.wal_status, s.safe_wal_size" if connection.version() >= SAFETY else "NULL, NULL"
+        )
         standby, end, flushed, segment, clock, standbys, there, status, safe = connection.rows(
             f"SELECT pg_catalog.pg_is_in_recovery(), {END}, pg_catalog.date_part('epoch', pg_catalog.clock_timestamp()),"
             f" pg_catalog.current_setting('synchronous_standby_names'), s.slot_name, {columns} FROM (SELECT 1) one"
@@ -132,5 +146,10 @@ class Asker(threading.Thread):
             progress.slot.safe_wal_size = int(safe) if safe else None
             progress.slot.told = time.monotonic()
             self.warning.note(progress.slot.wal_status, progress.slot.safe_wal_size, self.most)
-        if progress.is_standby and standby == "f" and self.started and self.started == progress.server_started:
+        if (
+            progress.is_standby
+            and standby == "f"
+            and self.started
+            and self.started == progress.server_started
+        ):
             progress.was_promoted = True

@@ -1,17 +1,31 @@
-"""`--skip LSN`: passes over the changes of one commit, the one with this final LSN, as PostgreSQL's ALTER SUBSCRIPTION .. SKIP does.
+"""`--skip LSN`: passes over the changes of one commit, the one with this final LSN, as PostgreSQL's
+ALTER SUBSCRIPTION .. SKIP does.
 
-While it is to come, whole transactions are asked for, so that Begin tells that it is the one. Its changes are left out, and its
-Begin, Commit, Relation, Type and Origin stay: it becomes a commit without changes, with which the store's position moves on.
+While it is to come, whole transactions are asked for, so that Begin tells that it is the one. Its
+changes are left out, and its Begin, Commit, Relation, Type and Origin stay: it becomes a commit
+without changes, with which the store's position moves on.
 """
 
 from __future__ import annotations
 
 from pgsub_feed import log
-from ..store.checkpoint import Checkpoint
-from .stream_log import BEGIN, CHANGES, COMMIT, OUTSIDE, TRUNCATE, TRUNCATED, changes_text, count_truncates, final_lsn, xid_of
-from ..status.progress import Progress
-from ..drift.remembered import Remembered
 from pgsub_feed.texts import lsn_text
+
+from ..drift.remembered import Remembered
+from ..status.progress import Progress
+from ..store.checkpoint import Checkpoint
+from .stream_log import (
+    BEGIN,
+    CHANGES,
+    COMMIT,
+    OUTSIDE,
+    TRUNCATE,
+    TRUNCATED,
+    changes_text,
+    count_truncates,
+    final_lsn,
+    xid_of,
+)
 
 MESSAGE = 0x4D
 LEFT_OUT = bytes([*CHANGES, TRUNCATE, MESSAGE])
@@ -20,22 +34,33 @@ LEFT_OUT = bytes([*CHANGES, TRUNCATE, MESSAGE])
 class Skipping:
     """The commit that is to be skipped, if any. `is_pending`: it is still to come."""
 
-    def __init__(self, lsn: int, checkpoint: Checkpoint, progress: Progress, remembered: Remembered) -> None:
+    def __init__(
+        self, lsn: int, checkpoint: Checkpoint, progress: Progress, remembered: Remembered
+    ) -> None:
         self.lsn = lsn
         self.checkpoint, self.progress, self.remembered = checkpoint, progress, remembered
         self.is_pending = self.is_told = False
-        # the Begin of the commit that is skipped, while it comes; whether any other transaction is under way
+        # the Begin of the commit that is skipped, while it comes; whether any other transaction is
+        # under way
         self.begun, self.is_inside = b"", False
         self.counts: dict[bytes, int] = {}
         progress.skipped = checkpoint.known.skipped
 
     def begin_session(self, at: int) -> None:
-        """A session starts at an LSN. A commit that ends above it comes in it, so one that has its final LSN there or above does."""
+        """A session starts at an LSN. A commit that ends above it comes in it, so one that has its
+        final LSN there or above does."""
         self.begun, self.is_inside = b"", False
         self.is_pending = bool(self.lsn) and at <= self.lsn
-        if self.lsn and not self.is_pending and not self.is_told and self.checkpoint.known.skipped != lsn_text(self.lsn):
+        if (
+            self.lsn
+            and not self.is_pending
+            and not self.is_told
+            and self.checkpoint.known.skipped != lsn_text(self.lsn)
+        ):
             self.is_told = True
-            log.warning(f"--skip {lsn_text(self.lsn)}: the store is at {lsn_text(at)}, so nothing is skipped")
+            log.warning(
+                f"--skip {lsn_text(self.lsn)}: the store is at {lsn_text(at)}, so nothing is skipped"
+            )
 
     def passes(self, payload: bytes) -> bool:
         """Whether a payload is to be passed on."""
@@ -84,4 +109,6 @@ class Skipping:
 
     def miss(self, lsn: int) -> None:
         self.is_pending = False
-        log.warning(f"--skip {lsn_text(self.lsn)}: the server is at {lsn_text(lsn)}, and there was no such commit: nothing is skipped")
+        log.warning(
+            f"--skip {lsn_text(self.lsn)}: the server is at {lsn_text(lsn)}, and there was no such commit: nothing is skipped"
+        )

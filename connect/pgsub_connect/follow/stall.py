@@ -13,10 +13,11 @@ from __future__ import annotations
 import contextlib
 import time
 
-from ..errors import ServerError
-from .filter import Filter
-from ..status.progress import Progress
 from pgsub_feed.texts import counted
+
+from ..errors import ServerError
+from ..status.progress import Progress
+from .filter import Filter
 
 # How often it is looked at what the system says of the filter, and after how many seconds the
 # server is asked for the slot's state.

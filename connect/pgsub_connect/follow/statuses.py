@@ -1,4 +1,5 @@
-"""Which of the filter's statuses are passed on to the server, when, and what of them is on the disk before that.
+"""Which of the filter's statuses are passed on to the server, when, and what of them is on the disk
+before that.
 
 | What a status confirms | When it is passed on | When it is noted |
 |---|---|---|
@@ -12,28 +13,44 @@ from __future__ import annotations
 import time
 from collections.abc import Sequence
 
+from ..drift.missed_rows import Misses
+from ..server.connection import Connection
+from ..status.progress import Progress
 from ..store.checkpoint import Checkpoint
 from .feed import Reached
 from .filter import Filter, asking, flushed, lowered
-from ..drift.missed_rows import Misses
 from .stream_log import Noting, final_lsn
-from ..server.connection import Connection
-from ..status.progress import Progress
 
-# How often a position that a keepalive alone has moved is passed on, in seconds. Each time costs a sync of the checkpoint. Where commits
-# at the server wait for that, as those of tables that aren't published do: so often that at most a part in so many of the time is spent.
+# How often a position that a keepalive alone has moved is passed on, in seconds. Each time costs a
+# sync of the checkpoint. Where commits at the server wait for that, as those of tables that aren't
+# published do: so often that at most a part in so many of the time is spent.
 QUIET, PART = 1.0, 5
 
 
 class Confirming:
-    """What is confirmed. `position`: the greatest end of a commit that was passed on and is confirmed."""
+    """What is confirmed. `position`: the greatest end of a commit that was passed on and is
+    confirmed."""
 
-    def __init__(self, checkpoint: Checkpoint, child: Filter, progress: Progress, noting: Noting, misses: Misses) -> None:
-        self.checkpoint, self.filter, self.progress, self.noting, self.misses = checkpoint, child, progress, noting, misses
+    def __init__(
+        self,
+        checkpoint: Checkpoint,
+        child: Filter,
+        progress: Progress,
+        noting: Noting,
+        misses: Misses,
+    ) -> None:
+        self.checkpoint, self.filter, self.progress, self.noting, self.misses = (
+            checkpoint,
+            child,
+            progress,
+            noting,
+            misses,
+        )
         self.position = 0
         # where statuses go; None where no session is open
         self.connection: Connection | None = None
-        # the last status that was passed on, and one that moves a position by a keepalive alone and waits for its time
+        # the last status that was passed on, and one that moves a position by a keepalive alone and
+        # waits for its time
         self.told = b""
         self.held: bytes | None = None
         # when one was sent last, and when one that confirms more than those before
@@ -46,16 +63,22 @@ class Confirming:
         self.position, self.held = position, None
 
     def begin_session(self, connection: Connection) -> None:
-        """A session is about to begin. Its statuses say what the filter confirms, also where the last one ended before that was noted: the
-        caller notes that before anything is sent."""
+        """A session is about to begin. Its statuses say what the filter confirms, also where the
+        last one ended before that was noted: the caller notes that before anything is sent."""
         self.note_missing([])
-        self.connection, self.told, self.held, self.last_sent = connection, self.filter.status, None, 0.0
+        self.connection, self.told, self.held, self.last_sent = (
+            connection,
+            self.filter.status,
+            None,
+            0.0,
+        )
 
     def end_session(self) -> None:
         self.connection = self.held = None
 
     def stored(self) -> Reached:
-        """What the store has, for another thread. (Each of the two is at most what it has, whenever it is looked at.)"""
+        """What the store has, for another thread. (Each of the two is at most what it has, whenever
+        it is looked at.)"""
         return Reached(max(self.checkpoint.known.confirmed, self.filter.confirmed()), self.position)
 
     def is_stored(self) -> bool:
@@ -66,12 +89,22 @@ class Confirming:
     def reached(self) -> int:
         """An LSN that no commit or keepalive that was passed on is above."""
         begun = final_lsn(self.noting.begun) if self.noting.begun else 0
-        return max(self.position, self.filter.confirmed(), begun, int.from_bytes(self.progress.sent_to, "big"))
+        return max(
+            self.position,
+            self.filter.confirmed(),
+            begun,
+            int.from_bytes(self.progress.sent_to, "big"),
+        )
 
     def note_missing(self, statuses: Sequence[bytes]) -> None:
-        """Notes durably what is new of changes that found no row, in the commits up to the last of these statuses."""
+        """Notes durably what is new of changes that found no row, in the commits up to the last of
+        these statuses."""
         if self.misses.is_news(self.filter.missing):
-            position = self.noting.stored(flushed(statuses[-1]), self.position) if statuses else self.position
+            position = (
+                self.noting.stored(flushed(statuses[-1]), self.position)
+                if statuses
+                else self.position
+            )
             self.misses.note(self.filter.missing, position)
 
     def note_statuses(self, statuses: list[bytes]) -> None:
@@ -91,8 +124,8 @@ class Confirming:
     def forward(self, statuses: list[bytes]) -> None:
         """Passes on the last of new statuses, which confirms what those before it do.
 
-        What is above the last commit was moved by a keepalive alone, and may wait, since noting it costs a sync. A commit at the
-        server may wait for the rest.
+        What is above the last commit was moved by a keepalive alone, and may wait, since noting it
+        costs a sync. A commit at the server may wait for the rest.
         """
         for status in statuses[-1:]:
             lsn = flushed(status)
@@ -103,7 +136,10 @@ class Confirming:
             self.forget_confirmed(lsn)
             if self.checkpoint.known.confirmed < self.position < lsn:
                 self.pass_on(lowered(status, self.position))
-            if lsn <= max(self.position, self.checkpoint.known.confirmed) or self.noting.asked is not None:
+            if (
+                lsn <= max(self.position, self.checkpoint.known.confirmed)
+                or self.noting.asked is not None
+            ):
                 self.pass_on(status)
             else:
                 self.held = status
@@ -115,10 +151,12 @@ class Confirming:
         return min(QUIET, PART * self.noted_in) if self.progress.is_waited_for else QUIET
 
     def pass_on(self, status: bytes) -> None:
-        """Sends a status, and notes it: first where only this tells the next start of it, and else afterwards.
+        """Sends a status, and notes it: first where only this tells the next start of it, and else
+        afterwards.
 
-        What else the checkpoint has of a commit is on the disk before: which of its changes found no row since the status was read, that
-        it was skipped since its end was passed on, and what was found by its Relation messages since these were passed on.
+        What else the checkpoint has of a commit is on the disk before: which of its changes found
+        no row since the status was read, that it was skipped since its end was passed on, and what
+        was found by its Relation messages since these were passed on.
         """
         lsn, began = flushed(status), time.monotonic()
         if lsn > self.checkpoint.known.confirmed:
@@ -142,7 +180,8 @@ class Confirming:
             self.pass_on(self.held)
 
     def repeat(self, asks: bool = False) -> None:
-        """Sends the last status again, the one that waits before it. `asks`: the server is to answer."""
+        """Sends the last status again, the one that waits before it. `asks`: the server is to
+        answer."""
         self.release()
         self.send(asking(self.told) if asks else self.told)
 

@@ -1,11 +1,12 @@
-"""What is noted of the payloads that are passed on: counts, the ends of commits, and of the transactions that are under way which
-tables their changes touch and how these are described.
+"""What is noted of the payloads that are passed on: counts, the ends of commits, and of the
+transactions that are under way which tables their changes touch and how these are described.
 
-What is done for a change is little: it is counted for its table, and nothing of it is kept. So memory goes by the tables that a transaction
-changes and by what describes them, and not by its bytes: tests/test_noting_memory.py says how much that is for each kind of message.
+What is done for a change is little: it is counted for its table, and nothing of it is kept. So
+memory goes by the tables that a transaction changes and by what describes them, and not by its
+bytes: tests/test_noting_memory.py says how much that is for each kind of message.
 
-PROTOCOL.md has the layouts; the letter is byte 25 of an XLogData, and in a block the xid of who made a change or sent a Relation follows
-it.
+PROTOCOL.md has the layouts; the letter is byte 25 of an XLogData, and in a block the xid of who
+made a change or sent a Relation follows it.
 """
 
 from __future__ import annotations
@@ -16,18 +17,19 @@ import struct
 import time
 from collections.abc import Callable, Sequence
 
+from pgsub_feed.texts import counted, lsn_text
+
+from ..drift.remembered import Relation, Remembered
 from ..server.catalog import Column, Shape
 from ..status.progress import Progress
-from ..drift.remembered import Relation, Remembered
-from pgsub_feed.texts import counted, lsn_text
 
 BEGIN, COMMIT, RELATION, TRUNCATE = b"BCRT"
 START, STOP, STREAM_COMMIT, ABORT = b"SEcA"
 CHANGES = b"IUD"
 # Where the OID of a change ends, outside of a block and in one.
 OUTSIDE, INSIDE = 30, 34
-# The letter under which a TRUNCATE is counted for a table: the count of relations, which follows that of the message, is no OID. And the
-# OID under which it is for all tables that aren't known.
+# The letter under which a TRUNCATE is counted for a table: the count of relations, which follows
+# that of the message, is no OID. And the OID under which it is for all tables that aren't known.
 TRUNCATED, UNKNOWN = b"t", bytes(4)
 # How many OIDs are looked at together.
 AT_ONCE = 1024
@@ -39,13 +41,15 @@ NAMED = 5
 EPOCH = 946684800
 
 
-# A commit that was passed on: the message that has its xid and final LSN (Begin or Stream Commit), how many changes it has by letter
-# and OID as they came, whether some of them may have been rolled back, and how many bytes it had.
+# A commit that was passed on: the message that has its xid and final LSN (Begin or Stream Commit),
+# how many changes it has by letter and OID as they came, whether some of them may have been rolled
+# back, and how many bytes it had.
 Passed = tuple[bytes, dict[bytes, int], bool, int]
 
 
 class Described:
-    """The Relation messages of a transaction that is under way, in order: each with who sent it, b"" outside of blocks."""
+    """The Relation messages of a transaction that is under way, in order: each with who sent it,
+    b"" outside of blocks."""
 
     __slots__ = ("bodies", "makers", "oids", "listed")
 
@@ -66,7 +70,9 @@ class Described:
     def has(self, oid: int) -> bool:
         """Whether one of them is of this table, or was before it was rolled back."""
         self.oids = self.oids or set()
-        self.oids.update(number(body[:4]) for _, body in itertools.islice(self.bodies, self.listed, None))
+        self.oids.update(
+            number(body[:4]) for _, body in itertools.islice(self.bodies, self.listed, None)
+        )
         self.listed = len(self.bodies)
         return oid in self.oids
 
@@ -82,7 +88,8 @@ class Described:
 
 
 class Streamed:
-    """A transaction that comes in blocks: its changes, its Relation messages, and its bytes so far."""
+    """A transaction that comes in blocks: its changes, its Relation messages, and its bytes so
+    far."""
 
     __slots__ = ("counts", "relations", "size", "about")
 
@@ -99,7 +106,8 @@ class Streamed:
             self.counts[key] = self.counts.get(key, 0) + count
 
     def has_items(self) -> bool:
-        """Whether anything of it is buffered. One of which nothing is costs the filter nothing of a limit, so it isn't kept here."""
+        """Whether anything of it is buffered. One of which nothing is costs the filter nothing of a
+        limit, so it isn't kept here."""
         return bool(self.counts or self.relations.bodies)
 
     def abort(self, subxid: bytes) -> None:
@@ -109,14 +117,16 @@ class Streamed:
 
 
 class Noting:
-    """Notes payloads. `wants_look`: a table came that isn't among those that are remembered, or wasn't published when these were."""
+    """Notes payloads. `wants_look`: a table came that isn't among those that are remembered, or
+    wasn't published when these were."""
 
     def __init__(self, progress: Progress, remembered: Remembered) -> None:
         self.progress, self.remembered = progress, remembered
         self.changes = self.commits = 0
         self.wants_look = False
         self.strangers: set[int] = set()
-        # the last Relation message of each table that was compared with what is remembered, as it came
+        # the last Relation message of each table that was compared with what is remembered, as it
+        # came
         self.compared: dict[int, bytes] = {}
         self.counts: dict[bytes, int] = {}
         self.begin_store()
@@ -138,8 +148,8 @@ class Noting:
         # the end of a keepalive that asks for a status
         self.asked: int | None = None
         self.last = self.begun = b""
-        # how many bytes have come, how many of them the progress was told of, and how many came before the transaction or block that
-        # is under way
+        # how many bytes have come, how many of them the progress was told of, and how many came
+        # before the transaction or block that is under way
         self.total = self.shown = self.began = 0
         # (what was passed on of a transaction that isn't complete was passed on all the same)
         self.changes += sum(self.counts.values())
@@ -153,7 +163,8 @@ class Noting:
         self.end = OUTSIDE
 
     def note_all(self, payloads: Sequence[bytes]) -> None:
-        """Notes payloads that were passed on, in one loop: a call for each would cost more than all that is done for it."""
+        """Notes payloads that were passed on, in one loop: a call for each would cost more than all
+        that is done for it."""
         counts, end, total = self.counts, self.end, self.total
         for payload in payloads:
             total += len(payload)
@@ -187,7 +198,8 @@ class Noting:
         self.last = payloads[-1][:AT] if payloads else self.last
 
     def note_rows(self, oid: int, count: int, size: int) -> None:
-        """Notes Inserts of a table in the transaction that is under way, of so many bytes together."""
+        """Notes Inserts of a table in the transaction that is under way, of so many bytes
+        together."""
         key = b"I" + oid.to_bytes(4, "big")
         self.counts[key] = self.counts.get(key, 0) + count
         self.total += size
@@ -201,13 +213,18 @@ class Noting:
             self.note_block(letter, payload)
 
     def note_relation(self, payload: bytes) -> None:
-        """Keeps a Relation message until its commit. One that came before in the same words costs no more than that it came."""
+        """Keeps a Relation message until its commit. One that came before in the same words costs
+        no more than that it came."""
         body = payload[self.end - 4 :]
         compared = self.compared.get(number(body[:4]))
-        self.relations.add(payload[26:30] if self.current else b"", compared if compared == body else body)
+        self.relations.add(
+            payload[26:30] if self.current else b"", compared if compared == body else body
+        )
 
     def note_truncate(self, payload: bytes) -> None:
-        count_truncates(self.counts, TRUNCATED + payload[26 : self.end - 4], payload, self.end + 1, self.is_met)
+        count_truncates(
+            self.counts, TRUNCATED + payload[26 : self.end - 4], payload, self.end + 1, self.is_met
+        )
 
     def is_met(self, oid: int) -> bool:
         """Whether a table is known, or described by what has come."""
@@ -229,7 +246,9 @@ class Noting:
             self.leave()
         elif letter == STREAM_COMMIT:
             it = self.open.pop(xid, None) or Streamed()
-            self.commit((payload[:HEAD], it.counts, it.about, it.size), it.relations, payload[39:47])
+            self.commit(
+                (payload[:HEAD], it.counts, it.about, it.size), it.relations, payload[39:47]
+            )
         elif payload[26:30] == payload[30:34]:
             self.open.pop(xid, None)
         elif xid in self.open:
@@ -245,14 +264,17 @@ class Noting:
     def describe(self, passed: Passed, relations: Described) -> None:
         """Compares the Relation messages of tables that a commit changes with what is remembered.
 
-        One of a partition comes with that of the table under whose name its rows are sent, and no change has it, as long as it is one.
+        One of a partition comes with that of the table under whose name its rows are sent, and no
+        change has it, as long as it is one.
         """
         changed, lsn = {number(key[-4:]): None for key in passed[1]}, final_lsn(passed[0])
         oids = [number(body[:4]) for _, body in relations.bodies]
         for oid, (_, body) in zip(oids, relations.bodies):
             if oid in changed or not self.remembered.is_partition(oid):
                 self.described.setdefault(oid, []).append(body)
-            if self.remembered.is_known(oid) and not (oid in changed and self.remembered.is_unpublished(oid, lsn)):
+            if self.remembered.is_known(oid) and not (
+                oid in changed and self.remembered.is_unpublished(oid, lsn)
+            ):
                 self.strangers.discard(oid)
             elif oid not in self.strangers:
                 self.strangers.add(oid)
@@ -275,7 +297,8 @@ class Noting:
                 self.remembered.note(relation, lsn, last)
 
     def show(self) -> None:
-        """Tells the progress what came, and how far the transaction that isn't complete has come. Called after each lot of payloads."""
+        """Tells the progress what came, and how far the transaction that isn't complete has come.
+        Called after each lot of payloads."""
         last = self.last
         progress = self.progress
         if self.total != self.shown:
@@ -287,12 +310,14 @@ class Noting:
         self.show_waiting()
 
     def show_waiting(self) -> None:
-        """Tells the progress how old the first commit is that was passed on, or is being, and isn't confirmed."""
+        """Tells the progress how old the first commit is that was passed on, or is being, and isn't
+        confirmed."""
         first = self.passed[0][0] if self.passed else self.begun
         self.progress.lag.waits_since = commit_time(first) if first else None
 
     def confirm(self, confirmed: int, position: int) -> int:
-        """Forgets commits that are confirmed. Returns the store's position by them, at least `position`."""
+        """Forgets commits that are confirmed. Returns the store's position by them, at least
+        `position`."""
         ends, passed = self.ends, self.passed
         if not ends or ends[0] > confirmed:
             return position
@@ -304,13 +329,15 @@ class Noting:
         return position
 
     def stored(self, confirmed: int, position: int) -> int:
-        """The store's position where this is confirmed, by commits that were passed on; at least `position`."""
+        """The store's position where this is confirmed, by commits that were passed on; at least
+        `position`."""
         if self.ends and position <= self.ends[-1] <= confirmed:
             return self.ends[-1]
         return max((end for end in self.ends if end <= confirmed), default=position)
 
     def rejected_text(self, position: int) -> str:
-        """What is said of the first commit above a store's position, which its filter has rejected; "" where there is none."""
+        """What is said of the first commit above a store's position, which its filter has rejected;
+        "" where there is none."""
         for end, (message, counts, about, _) in zip(self.ends, self.passed):
             if end > position:
                 lsn, most = lsn_text(final_lsn(message)), "at most " if about else ""
@@ -321,7 +348,8 @@ class Noting:
         return ""
 
     def largest(self) -> tuple[int, int]:
-        """The xid of the largest transaction that isn't confirmed, and how many bytes of it were passed on."""
+        """The xid of the largest transaction that isn't confirmed, and how many bytes of it were
+        passed on."""
         sizes = {xid_of(it[0]): it[3] for it in self.passed}
         sizes |= {xid: it.size for xid, it in self.open.items()}
         if self.current:
@@ -331,9 +359,11 @@ class Noting:
         return max(sizes.items(), key=lambda it: it[1], default=(0, 0))
 
 
-def count_truncates(counts: dict[bytes, int], head: bytes, payload: bytes, first: int, is_met: Callable[[int], bool]) -> None:
-    """Counts a TRUNCATE, whose OIDs begin at `first`, for each table that is met elsewhere, and for all others together: these are as many
-    as anybody sends."""
+def count_truncates(
+    counts: dict[bytes, int], head: bytes, payload: bytes, first: int, is_met: Callable[[int], bool]
+) -> None:
+    """Counts a TRUNCATE, whose OIDs begin at `first`, for each table that is met elsewhere, and for
+    all others together: these are as many as anybody sends."""
     for at in range(first, len(payload) - 3, 4 * AT_ONCE):
         some = payload[at : at + 4 * AT_ONCE]
         oids = struct.unpack_from(f">{len(some) // 4}I", some)
@@ -367,7 +397,10 @@ def changes_text(counts: dict[bytes, int], remembered: Remembered) -> str:
     for key, count in counts.items():
         tables[number(key[-4:])] += count
     others = tables.pop(number(UNKNOWN), 0)
-    parts = [f"{counted(count, 'change')} of {remembered.text_of(oid)}" for oid, count in tables.most_common(NAMED)]
+    parts = [
+        f"{counted(count, 'change')} of {remembered.text_of(oid)}"
+        for oid, count in tables.most_common(NAMED)
+    ]
     if len(tables) > NAMED:
         parts.append(f"and of {counted(len(tables) - NAMED, 'table')} more")
     if others:

@@ -1,7 +1,9 @@
-"""The tables that `follow --tables` keeps: `pgsub-connect tables` as a process beside the follower, from whose feed it reads.
+"""The tables that `follow --tables` keeps: `pgsub-connect tables` as a process beside the follower,
+from whose feed it reads.
 
-It begins with a copy of the store, for which it asks the follower as any other program does. It is a reader of the feed with a name,
-so that the feed has what it lacks. It ends with the follower: a signal ends it, and where the follower is killed, the end of its input.
+It begins with a copy of the store, for which it asks the follower as any other program does. It is
+a reader of the feed with a name, so that the feed has what it lacks. It ends with the follower: a
+signal ends it, and where the follower is killed, the end of its input.
 """
 
 from __future__ import annotations
@@ -17,44 +19,65 @@ import time
 from typing import TYPE_CHECKING
 
 from pgsub_feed import log
-from ..errors import FileError, Unfit
-from pgsub_feed.tables.set_aside import shown_asides
-from pgsub_feed.tables.first_rows import is_tables, opened
-from .retention import read_lsn
 from pgsub_feed.reader.positions import READERS
-from .filter import KEPT
+from pgsub_feed.tables.first_rows import is_tables, opened
+from pgsub_feed.tables.set_aside import shown_asides
+
+from ..errors import FileError, Unfit
 from ..status.progress import Progress
+from .filter import KEPT
+from .retention import read_lsn
 
 if TYPE_CHECKING:
     from ..commands.options import Options
 
 READER = "tables"
-# The statuses that another try doesn't mend; one that was killed by a signal has none above 0. And that of one that can't be started now.
+# The statuses that another try doesn't mend; one that was killed by a signal has none above 0. And
+# that of one that can't be started now.
 LASTING, PASSING = (1, 2, 3, 5, 6), 7
-# After how many seconds it is started again, at first and at most, and how long it has to run until that is forgotten.
+# After how many seconds it is started again, at first and at most, and how long it has to run until
+# that is forgotten.
 FIRST_DELAY, LONGEST_DELAY, FORGET = 1.0, 60.0, 60.0
 # How long it may take to end, in seconds: it ends between two transactions.
 PATIENCE = 60.0
-TOP = os.path.dirname(os.path.dirname(os.path.realpath(__file__)))
+TOP = os.path.dirname(os.path.dirname(os.path.dirname(os.path.realpath(__file__))))
 # (the working directory, which is the first of its path, may have modules of others)
 CODE = f"import sys; sys.path[:] = [{TOP!r}, *filter(None, sys.path)]; from pgsub_connect.cli import run; run()"
 
 
 def check(options: Options) -> None:
-    """Rejects a file that can't be one of tables that follow this store's feed, before anything is made."""
+    """Rejects a file that can't be one of tables that follow this store's feed, before anything is
+    made."""
     path = options.tables
     if not os.path.lexists(path):
         if not os.path.isdir(os.path.dirname(os.path.abspath(path))):
-            raise FileError(f"--tables {path}: there is no folder {os.path.dirname(os.path.abspath(path))}")
+            raise FileError(
+                f"--tables {path}: there is no folder {os.path.dirname(os.path.abspath(path))}"
+            )
     elif not (os.path.isfile(path) and is_tables(path)):
-        raise FileError(f"{path} is there and has no tables that follow a feed: remove it, or name another file by --tables")
+        raise FileError(
+            f"{path} is there and has no tables that follow a feed: remove it, or name another file by --tables"
+        )
     elif not os.path.exists(options.store):
-        raise Unfit(f"{path} has the tables of an older copy, and a new one begins: remove it, or name another file by --tables")
+        raise Unfit(
+            f"{path} has the tables of an older copy, and a new one begins: remove it, or name another file by --tables"
+        )
 
 
 def words_of(options: Options) -> list[str]:
     """How it is started."""
-    words = [sys.executable, "-c", CODE, "tables", "--feed", options.feed, "--into", options.tables, "--store", options.store]
+    words = [
+        sys.executable,
+        "-c",
+        CODE,
+        "tables",
+        "--feed",
+        options.feed,
+        "--into",
+        options.tables,
+        "--store",
+        options.store,
+    ]
     words += ["--reader", READER, "--mode", f"{options.mode:o}", "--while-input"]
     words += ["--digests"] if options.digests else []
     return words + (["--init", options.init] if options.init else [])
@@ -83,10 +106,14 @@ class Beside(threading.Thread):
                 return
             if status in LASTING:
                 self.progress.tables_error = self.said or f"status {status}"
-                log.error(f"{self.path} follows no more, status {status}: {self.progress.tables_error}")
+                log.error(
+                    f"{self.path} follows no more, status {status}: {self.progress.tables_error}"
+                )
                 return
             delay = FIRST_DELAY if time.monotonic() - began > FORGET else delay
-            log.warning(f"{self.path}: what follows has ended with status {status}: it is started again in {delay:.0f} s")
+            log.warning(
+                f"{self.path}: what follows has ended with status {status}: it is started again in {delay:.0f} s"
+            )
             if self.ended.wait(delay):
                 return
             delay = min(2 * delay, LONGEST_DELAY)
@@ -97,11 +124,21 @@ class Beside(threading.Thread):
         with self.lock:
             if self.ended.is_set():
                 return 0
-            environment = {name: value for name, value in os.environ.items() if name in KEPT or name.startswith("PYTHON")}
-            # (a session of its own: an interrupt at the terminal is for the follower, which ends it)
+            environment = {
+                name: value
+                for name, value in os.environ.items()
+                if name in KEPT or name.startswith("PYTHON")
+            }
+            # (a session of its own: an interrupt at the terminal is for the follower, which ends
+            # it)
             try:
                 child = subprocess.Popen(
-                    self.words, stdin=subprocess.PIPE, stdout=subprocess.DEVNULL, stderr=subprocess.PIPE, start_new_session=True, env=environment,
+                    self.words,
+                    stdin=subprocess.PIPE,
+                    stdout=subprocess.DEVNULL,
+                    stderr=subprocess.PIPE,
+                    start_new_session=True,
+                    env=environment,
                 )
             except OSError as error:
                 # (processes or memory may be too few)
@@ -133,7 +170,9 @@ class Beside(threading.Thread):
         with contextlib.suppress(OSError, sqlite3.Error, ValueError):
             if os.path.exists(self.path):
                 with contextlib.closing(opened(self.path)) as db:
-                    self.progress.tables_aside = {it.name(): it.text() for it in shown_asides(db).values()}
+                    self.progress.tables_aside = {
+                        it.name(): it.text() for it in shown_asides(db).values()
+                    }
 
     def has(self, lsn: int) -> bool:
         """Whether the disk has the tables at this LSN, or they don't follow any more."""

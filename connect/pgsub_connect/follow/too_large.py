@@ -1,10 +1,11 @@
-"""What is said of a transaction or a row that was too large for the filter, with the size that it had reached and the option to give."""
+"""What is said of a transaction or a row that was too large for the filter, with the size that it
+had reached and the option to give."""
 
 from __future__ import annotations
 
 from typing import TYPE_CHECKING
 
-from .filter import FRAME_TOO_LARGE, FilterEnded, SPOOL_FULL
+from .filter import FRAME_TOO_LARGE, SPOOL_FULL, FilterEnded
 from .memory_limit import LONGEST_FRAME
 
 if TYPE_CHECKING:
@@ -15,7 +16,8 @@ LEAST = 1 << 20
 
 
 class KilledTwice(FilterEnded):
-    """The filter was killed twice in the same transaction: another try would end in the same way."""
+    """The filter was killed twice in the same transaction: another try would end in the same
+    way."""
 
     def is_rejection(self) -> bool:
         return True
@@ -28,24 +30,30 @@ class Kills:
         self.xid = 0
 
     def note(self, ended: FilterEnded, xid: int, size: int) -> None:
-        """Notes the end of a filter and the largest transaction at that time. Raises where a second one was killed in it."""
+        """Notes the end of a filter and the largest transaction at that time. Raises where a second
+        one was killed in it."""
         if ended.status >= 0 or size < LEAST:
             return
         if xid != self.xid:
             self.xid = xid
             return
-        raise KilledTwice(ended.status, f"twice in the transaction {xid}, of which {size} bytes were passed on. {memory_text(size)}")
+        raise KilledTwice(
+            ended.status,
+            f"twice in the transaction {xid}, of which {size} bytes were passed on. {memory_text(size)}",
+        )
 
 
 def memory_text(size: int) -> str:
     return f"It needs more memory than there was (a unit's MemoryMax), and --max-buffered of {size} bytes at least"
 
 
-def text_of(ended: FilterEnded, options: Options, transaction: tuple[int, int], longest: int) -> str:
+def text_of(
+    ended: FilterEnded, options: Options, transaction: tuple[int, int], longest: int
+) -> str:
     """What is said where a limit ended the filter, "" where none did.
 
-    `transaction` is the xid of the largest one that isn't stored, and how many bytes of it were passed on, and `longest` the length of the
-    longest message.
+    `transaction` is the xid of the largest one that isn't stored, and how many bytes of it were
+    passed on, and `longest` the length of the longest message.
     """
     if ended.status == SPOOL_FULL:
         return full_text(options, *transaction)
@@ -55,7 +63,11 @@ def text_of(ended: FilterEnded, options: Options, transaction: tuple[int, int], 
 
 
 def full_text(options: Options, xid: int, size: int) -> str:
-    which = f"transaction {xid} had {size} bytes so far, and" if size else "the open transactions had more than"
+    which = (
+        f"transaction {xid} had {size} bytes so far, and"
+        if size
+        else "the open transactions had more than"
+    )
     allowed = f"{options.max_buffered} may be buffered of all that are open"
     wanted = 2 * max(options.max_buffered, size)
     more = "how much more comes until the commit isn't known, so that may be too little"
@@ -64,7 +76,11 @@ def full_text(options: Options, xid: int, size: int) -> str:
 
 def frame_text(options: Options, longest: int) -> str:
     """A frame is four bytes longer than its message."""
-    which = f"a message had {longest} bytes, and" if longest + 4 > options.max_frame else "a message had more than the"
+    which = (
+        f"a message had {longest} bytes, and"
+        if longest + 4 > options.max_frame
+        else "a message had more than the"
+    )
     text = f"{which} {options.max_frame} are accepted"
     wanted = min(2 * max(options.max_frame, longest + 4), LONGEST_FRAME)
     if wanted <= options.max_frame:

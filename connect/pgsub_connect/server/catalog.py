@@ -1,4 +1,5 @@
-"""What a server has of the publications that are followed: their options, tables and partitions, at one moment."""
+"""What a server has of the publications that are followed: their options, tables and partitions, at
+one moment."""
 
 from __future__ import annotations
 
@@ -6,15 +7,17 @@ import dataclasses
 from collections.abc import Iterator
 from typing import NamedTuple
 
-from ..errors import WrongAnswer, understood
-from .connection import Connection, QUICK
 from pgsub_feed.texts import literal, parse_lsn
+
+from ..errors import WrongAnswer, understood
+from .connection import QUICK, Connection
 
 ACTIONS = ("insert", "update", "delete", "truncate")
 
 
 class Column(NamedTuple):
-    """A published column. `number` is its attribute number, 0 where a Relation message is all that is known of it."""
+    """A published column. `number` is its attribute number, 0 where a Relation message is all that
+    is known of it."""
 
     name: str
     type_oid: int
@@ -33,7 +36,8 @@ class Shape:
 
 @dataclasses.dataclass(frozen=True)
 class Publication:
-    """A publication's options. `whole`: it is for all tables; `since`: which transaction has written them, "" where that isn't known."""
+    """A publication's options. `whole`: it is for all tables; `since`: which transaction has
+    written them, "" where that isn't known."""
 
     oid: int
     whole: bool
@@ -45,8 +49,9 @@ class Publication:
 
 
 class Part(NamedTuple):
-    """Which rows and columns a publication has of a table. `whole`: with every table, or every one of the schema; `since`: what says
-    that the publication has the table, none where it has all, None where that isn't known."""
+    """Which rows and columns a publication has of a table. `whole`: with every table, or every one
+    of the schema; `since`: what says that the publication has the table, none where it has all,
+    None where that isn't known."""
 
     row_filter: str | None
     listed: tuple[int, ...] | None
@@ -56,10 +61,12 @@ class Part(NamedTuple):
 
 @dataclasses.dataclass(frozen=True)
 class Table:
-    """A published table. `untouched`: nobody has renamed it or moved it since it was made; `unwritten`: nor written it anew; `node`:
-    the number of the file with its rows, 0 where that isn't known; `altered`: which transactions have made or altered its columns;
-    `logged`: its changes are in the log; `toast`: the OID of what keeps its long values, 0 where it has none, or that isn't known;
-    `primary`: the columns of its primary key, none where that is deferrable, or isn't known."""
+    """A published table. `untouched`: nobody has renamed it or moved it since it was made;
+    `unwritten`: nor written it anew; `node`: the number of the file with its rows, 0 where that
+    isn't known; `altered`: which transactions have made or altered its columns; `logged`: its
+    changes are in the log; `toast`: the OID of what keeps its long values, 0 where it has none, or
+    that isn't known; `primary`: the columns of its primary key, none where that is deferrable, or
+    isn't known."""
 
     oid: int
     namespace: str
@@ -81,9 +88,10 @@ class Table:
 
 @dataclasses.dataclass(frozen=True)
 class Partition:
-    """A partition or a partitioned table; `parent` is 0 of one that is in no other. `made`: it was made there, and not attached;
-    `node`: the number of the file with its rows, 0 where that isn't known; `since`: which transaction has attached it, "" where that
-    isn't known; `logged` and `toast` as of a table."""
+    """A partition or a partitioned table; `parent` is 0 of one that is in no other. `made`: it was
+    made there, and not attached; `node`: the number of the file with its rows, 0 where that isn't
+    known; `since`: which transaction has attached it, "" where that isn't known; `logged` and
+    `toast` as of a table."""
 
     oid: int
     parent: int
@@ -98,8 +106,8 @@ class Partition:
 
 @dataclasses.dataclass(frozen=True)
 class Catalog:
-    """All of it, of the publications with these names. `lsn`: nothing that was committed above it is in there; `highest`: the
-    greatest OID of any relation."""
+    """All of it, of the publications with these names. `lsn`: nothing that was committed above it
+    is in there; `highest`: the greatest OID of any relation."""
 
     names: tuple[str, ...]
     lsn: int
@@ -107,13 +115,14 @@ class Catalog:
     publications: dict[str, Publication]
     tables: dict[int, Table]
     partitions: dict[int, Partition]
-    # by the OIDs of types that published columns have in them: `name`, the labels of enumerations, by OID, and what composite
-    # types consist of, by `#` and the number of the part
+    # by the OIDs of types that published columns have in them: `name`, the labels of enumerations,
+    # by OID, and what composite types consist of, by `#` and the number of the part
     types: dict[int, dict[str, str]]
     # the first transaction that may have run when it was read, 0 where that isn't known
     running: int = dataclasses.field(default=0, compare=False)
-    # what the rows themselves have told, as the module `doubting` says: tables that have the values that they had, though their columns
-    # and their file were altered, and partitions that had no rows when they were attached
+    # what the rows themselves have told, as the module `doubting` says: tables that have the values
+    # that they had, though their columns and their file were altered, and partitions that had no
+    # rows when they were attached
     kept: frozenset[int] = dataclasses.field(default=frozenset(), compare=False)
     fresh: frozenset[int] = dataclasses.field(default=frozenset(), compare=False)
 
@@ -122,7 +131,9 @@ class Catalog:
 def read_catalog(connection: Connection, names: list[str]) -> Catalog:
     """Reads it, with a number of queries that doesn't depend on that of the tables."""
     connection.run("SET jit = off", limit=QUICK)
-    running = connection.text("SELECT pg_catalog.txid_snapshot_xmin(pg_catalog.txid_current_snapshot())")
+    running = connection.text(
+        "SELECT pg_catalog.txid_snapshot_xmin(pg_catalog.txid_current_snapshot())"
+    )
     publications = read_publications(connection, names)
     tables = read_tables(connection, list(publications))
     partitions = read_partitions(connection, list(publications))
@@ -133,7 +144,9 @@ def read_catalog(connection: Connection, names: list[str]) -> Catalog:
         "SELECT CASE WHEN pg_catalog.pg_is_in_recovery() THEN pg_catalog.pg_last_wal_replay_lsn()"
         " ELSE pg_catalog.pg_current_wal_insert_lsn() END"
     )
-    return Catalog(tuple(names), parse_lsn(end), highest, publications, tables, partitions, types, int(running))
+    return Catalog(
+        tuple(names), parse_lsn(end), highest, publications, tables, partitions, types, int(running)
+    )
 
 
 def listed_names(names: list[str]) -> str:
@@ -159,9 +172,15 @@ def read_publications(connection: Connection, names: list[str]) -> dict[str, Pub
         QUICK,
     )
     return {
-        name or "": Publication(
-            number(oid), whole == "t", tuple(word for word, it in zip(ACTIONS, more) if it == "t"), more[4] == "t", more[5] == "t",
-            number(more[6]), more[7] or "",
+        name
+        or "": Publication(
+            number(oid),
+            whole == "t",
+            tuple(word for word, it in zip(ACTIONS, more) if it == "t"),
+            more[4] == "t",
+            more[5] == "t",
+            number(more[6]),
+            more[7] or "",
         )
         for name, oid, whole, *more in rows
     }
@@ -175,22 +194,25 @@ def is_whole(connection: Connection, relation: str) -> str:
     return f"(p.puballtables OR EXISTS (SELECT FROM {schemas}))"
 
 
-# Whether nothing has changed the row type `y` of a relation since it was made: a column of the same transaction and command is
-# still there. A renamed or moved table, and one that was attached as a partition, has no such column.
+# Whether nothing has changed the row type `y` of a relation since it was made: a column of the same
+# transaction and command is still there. A renamed or moved table, and one that was attached as a
+# partition, has no such column.
 UNTOUCHED = (
     "EXISTS (SELECT FROM pg_catalog.pg_attribute b WHERE b.attrelid = y.typrelid AND b.attnum > 0"
     " AND b.xmin = y.xmin AND b.cmin = y.cmin)"
 )
 # Whether nothing has written a relation `c` anew, as TRUNCATE, SET LOGGED and others do.
 UNWRITTEN = "COALESCE(pg_catalog.pg_relation_filenode(c.oid) = c.oid, true)"
-# The transactions that have made or altered the columns of a relation `c`. VACUUM FULL, CLUSTER and TRUNCATE alter none.
+# The transactions that have made or altered the columns of a relation `c`. VACUUM FULL, CLUSTER and
+# TRUNCATE alter none.
 ALTERED = (
     "(SELECT pg_catalog.string_agg(DISTINCT b.xmin::pg_catalog.text, ' ') FROM pg_catalog.pg_attribute b"
     " WHERE b.attrelid = c.oid AND b.attnum > 0 AND NOT b.attisdropped)"
 )
 
 
-# Whether changes of a relation `c` are in the log: not of a foreign table, nor of one that is unlogged.
+# Whether changes of a relation `c` are in the log: not of a foreign table, nor of one that is
+# unlogged.
 LOGGED = "c.relpersistence = 'p' AND c.relkind <> 'f'"
 
 
@@ -214,16 +236,41 @@ def read_tables(connection: Connection, names: list[str]) -> dict[int, Table]:
     oids = sorted({number(row[1]) for row in rows})
     columns, keys = read_columns(connection, oids), read_keys(connection, oids)
     tables: dict[int, Table] = {}
-    for publication, relid, namespace, name, kind, identity, where, own, attributes, whole, *more in rows:
+    for (
+        publication,
+        relid,
+        namespace,
+        name,
+        kind,
+        identity,
+        where,
+        own,
+        attributes,
+        whole,
+        *more,
+    ) in rows:
         oid, (untouched, unwritten, node, altered, logged, toast) = number(relid), more
         part = Part(where, numbers(own), whole == "t")
         if oid in tables:
             tables[oid].parts[publication or ""] = part
             continue
-        shape = Shape(identity or "", sent_columns(connection, columns.get(oid, []), numbers(attributes)))
+        shape = Shape(
+            identity or "", sent_columns(connection, columns.get(oid, []), numbers(attributes))
+        )
         tables[oid] = Table(
-            oid, namespace or "", name or "", kind or "", shape, {publication or "": part}, untouched == "t", unwritten == "t",
-            number(node), altered or "", logged == "t", number(toast), tuple(keys.get(oid, ())),
+            oid,
+            namespace or "",
+            name or "",
+            kind or "",
+            shape,
+            {publication or "": part},
+            untouched == "t",
+            unwritten == "t",
+            number(node),
+            altered or "",
+            logged == "t",
+            number(toast),
+            tuple(keys.get(oid, ())),
         )
     return tables
 
@@ -235,14 +282,19 @@ def numbers(text: str | None) -> tuple[int, ...] | None:
 def sent_columns(
     connection: Connection, columns: list[tuple[Column, bool]], listed: tuple[int, ...] | None
 ) -> tuple[Column, ...]:
-    """The columns that are sent. Generated ones are from PostgreSQL 18 on, where the server lists them."""
+    """The columns that are sent. Generated ones are from PostgreSQL 18 on, where the server lists
+    them."""
     generated = connection.version() >= 180000 and listed is not None
-    return tuple(it for it, computed in columns if (listed is None or it.number in listed) and (generated or not computed))
+    return tuple(
+        it
+        for it, computed in columns
+        if (listed is None or it.number in listed) and (generated or not computed)
+    )
 
 
 def read_columns(connection: Connection, oids: list[int]) -> dict[int, list[tuple[Column, bool]]]:
-    """All columns of tables, and whether each is generated. A key column is one of the replica identity's index, or any one
-    under REPLICA IDENTITY FULL."""
+    """All columns of tables, and whether each is generated. A key column is one of the replica
+    identity's index, or any one under REPLICA IDENTITY FULL."""
     rows = connection.rows(
         "SELECT a.attrelid, a.attname, a.atttypid, a.atttypmod, a.attnum, a.attgenerated <> '',"
         " c.relreplident = 'f' OR EXISTS (SELECT FROM pg_catalog.pg_index i"
@@ -279,7 +331,8 @@ def read_keys(connection: Connection, oids: list[int]) -> dict[int, list[str]]:
 
 
 def read_partitions(connection: Connection, names: list[str]) -> dict[int, Partition]:
-    """The partitioned tables of the publications and all that is below them, whichever name it is published under.
+    """The partitioned tables of the publications and all that is below them, whichever name it is
+    published under.
 
     (pg_partition_tree would wait for locks.)
     """
@@ -298,7 +351,15 @@ def read_partitions(connection: Connection, names: list[str]) -> dict[int, Parti
     )
     partitions = {
         number(oid): Partition(
-            number(oid), number(parent), name or "", leaf == "t", made == "t", number(node), since or "", logged == "t", number(toast)
+            number(oid),
+            number(parent),
+            name or "",
+            leaf == "t",
+            made == "t",
+            number(node),
+            since or "",
+            logged == "t",
+            number(toast),
         )
         for oid, parent, name, leaf, made, node, since, logged, toast in rows
     }
@@ -320,11 +381,12 @@ def check_tree(partitions: dict[int, Partition]) -> None:
             raise WrongAnswer(f"the server's partitions are in a circle: {oid} is below itself")
 
 
-# By publication and the OID of a relation: the OIDs of what says that the publication has it, itself or by its schema, that with who
-# put it there.
+# By publication and the OID of a relation: the OIDs of what says that the publication has it,
+# itself or by its schema, that with who put it there.
 Members = dict[str, dict[int, list[str]]]
-# Which transaction has put a relation `c` into its schema: that it depends on that is written when it is made, or moved. (It depends on no
-# other one; if this were said, the server might look for each by way of all that the schema has.)
+# Which transaction has put a relation `c` into its schema: that it depends on that is written when
+# it is made, or moved. (It depends on no other one; if this were said, the server might look for
+# each by way of all that the schema has.)
 PUT = (
     "pg_catalog.pg_depend d ON d.classid = 'pg_catalog.pg_class'::pg_catalog.regclass AND d.objid = c.oid AND d.objsubid = 0"
     " AND d.refclassid = 'pg_catalog.pg_namespace'::pg_catalog.regclass"
@@ -332,8 +394,9 @@ PUT = (
 
 
 def read_members(connection: Connection, names: list[str]) -> Members:
-    """The relations that the publications list, or whose schemas they do. What left a list and joined it again has another OID there, and
-    what left a schema was put there by another transaction."""
+    """The relations that the publications list, or whose schemas they do. What left a list and
+    joined it again has another OID there, and what left a schema was put there by another
+    transaction."""
     listed = f"p.pubname IN ({listed_names(names)})"
     query = (
         "SELECT p.pubname, r.prrelid, r.oid::pg_catalog.text FROM pg_catalog.pg_publication p JOIN pg_catalog.pg_publication_rel r ON r.prpubid = p.oid"
@@ -351,16 +414,24 @@ def read_members(connection: Connection, names: list[str]) -> Members:
     return members
 
 
-def note_since(tables: dict[int, Table], members: Members, partitions: dict[int, Partition]) -> None:
-    """Notes of each table by what publications have it: itself, or what it is a partition of, with who attached it there."""
+def note_since(
+    tables: dict[int, Table], members: Members, partitions: dict[int, Partition]
+) -> None:
+    """Notes of each table by what publications have it: itself, or what it is a partition of, with
+    who attached it there."""
     for oid, table in tables.items():
         for name, part in table.parts.items():
-            table.parts[name] = part._replace(since=tuple(sorted(ways_to(oid, members.get(name, {}), partitions))))
+            table.parts[name] = part._replace(
+                since=tuple(sorted(ways_to(oid, members.get(name, {}), partitions)))
+            )
 
 
-def ways_to(oid: int, members: dict[int, list[str]], partitions: dict[int, Partition]) -> Iterator[str]:
-    """What says that a publication has a relation, or one above it: `16401`, `16388/741` of one that transaction 741 has attached,
-    `16390@742` of one that transaction 742 has put into a schema."""
+def ways_to(
+    oid: int, members: dict[int, list[str]], partitions: dict[int, Partition]
+) -> Iterator[str]:
+    """What says that a publication has a relation, or one above it: `16401`, `16388/741` of one
+    that transaction 741 has attached, `16390@742` of one that transaction 742 has put into a
+    schema."""
     way = ""
     while oid:
         yield from (entry + way for entry in members.get(oid, ()))
@@ -369,8 +440,10 @@ def ways_to(oid: int, members: dict[int, list[str]], partitions: dict[int, Parti
 
 
 def read_types(connection: Connection, oids: list[int]) -> dict[int, dict[str, str]]:
-    """What the text of a value depends on beside the value: the labels of enumerations by their OID, and the types of the parts
-    of composite types by their number. Both of all types that columns have in them: in arrays, domains, ranges, composites."""
+    """What the text of a value depends on beside the value: the labels of enumerations by their
+    OID, and the types of the parts of composite types by their number. Both of all types that
+    columns have in them: in arrays, domains, ranges, composites.
+    """
     rows = connection.rows(
         "WITH RECURSIVE t (oid) AS ("
         f" SELECT a.atttypid FROM pg_catalog.pg_attribute a WHERE a.attrelid IN ({listed_oids(oids)}) AND a.attnum > 0"

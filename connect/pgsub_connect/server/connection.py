@@ -1,4 +1,5 @@
-"""Connections to a server by libpq (psycopg.pq): its passwords, TLS, ~/.pgpass, services and environment."""
+"""Connections to a server by libpq (psycopg.pq): its passwords, TLS, ~/.pgpass, services and
+environment."""
 
 from __future__ import annotations
 
@@ -19,19 +20,23 @@ import psycopg
 from psycopg import pq
 from psycopg.conninfo import conninfo_to_dict, make_conninfo
 
-from . import transport
+from pgsub_feed.texts import said_text, shortened
+
 from ..errors import ServerError, Unconnected, WrongAnswer, understood
+from . import transport
 from .libpq import BYTES_AT, LIBPQ, typed
 from .notices import Notices
 from .rows import Rows
-from pgsub_feed.texts import said_text, shortened
 
-# After how many seconds each, at most, a host is given up, and a command that takes no time at the server.
+# After how many seconds each, at most, a host is given up, and a command that takes no time at the
+# server.
 CONNECT_LIMIT = 10.0
 QUICK = 60.0
-# The first libpq that can be told to connect to a primary alone. One whose transactions are read-only by default is one, too.
+# The first libpq that can be told to connect to a primary alone. One whose transactions are
+# read-only by default is one, too.
 PRIMARY = 140000
-# The limits that a DSN can give for a host: libpq knows none below two seconds, and takes 0 for none at all.
+# The limits that a DSN can give for a host: libpq knows none below two seconds, and takes 0 for
+# none at all.
 LEAST_LIMIT, MOST_LIMIT = 2.0, 3600.0
 # After how many rows that have come already it is looked for the end, which costs more than a row.
 ROWS_UNSEEN = 256
@@ -42,11 +47,17 @@ ROWS = (pq.ExecStatus.TUPLES_OK,)
 COPY_OUT = (pq.ExecStatus.COPY_OUT,)
 COPY_BOTH = (pq.ExecStatus.COPY_BOTH,)
 COPIES = (pq.ExecStatus.COPY_OUT, pq.ExecStatus.COPY_BOTH, pq.ExecStatus.COPY_IN)
-# libpq's PQERRORS_DEFAULT and PQERRORS_VERBOSE, and what a verbose error adds: a code, and a last line with a place in its source.
+# libpq's PQERRORS_DEFAULT and PQERRORS_VERBOSE, and what a verbose error adds: a code, and a last
+# line with a place in its source.
 DEFAULT, VERBOSE = 1, 2
 CODE, PLACE_IN_SOURCE = re.compile(r":  ([0-9A-Z]{5}): "), re.compile(r"\n[^\n]*\.c:\d+$", re.M)
 # What a DSN goes before. A lost peer is noticed within about a minute.
-DEFAULTS = {"keepalives_idle": "30", "keepalives_interval": "10", "keepalives_count": "3", "tcp_user_timeout": "60000"}
+DEFAULTS = {
+    "keepalives_idle": "30",
+    "keepalives_interval": "10",
+    "keepalives_count": "3",
+    "tcp_user_timeout": "60000",
+}
 
 # How many bytes are dropped at a time.
 DRAINED = 1 << 20
@@ -55,7 +66,9 @@ ENDED, FAILED = -1, -2
 
 
 # libpq's own calls, where psycopg makes them by ctypes too.
-GET_COPY_DATA = typed(LIBPQ and LIBPQ.PQgetCopyData, ctypes.c_int, ctypes.c_void_p, ctypes.c_void_p, ctypes.c_int)
+GET_COPY_DATA = typed(
+    LIBPQ and LIBPQ.PQgetCopyData, ctypes.c_int, ctypes.c_void_p, ctypes.c_void_p, ctypes.c_int
+)
 FREE = typed(LIBPQ and LIBPQ.PQfreemem, None, ctypes.c_void_p)
 CONSUME_INPUT = typed(LIBPQ and LIBPQ.PQconsumeInput, ctypes.c_int, ctypes.c_void_p)
 PUT_COPY_DATA = typed(
@@ -102,7 +115,11 @@ def hosts_of(settings: dict[str, str]) -> list[dict[str, str]]:
         raise ServerError("the connection string has other numbers of hosts and ports", "22023")
     attempts = []
     for it in range(count):
-        own = {"host": hosts[it % len(hosts)], "hostaddr": addresses[it % len(addresses)], "port": ports[it % len(ports)]}
+        own = {
+            "host": hosts[it % len(hosts)],
+            "hostaddr": addresses[it % len(addresses)],
+            "port": ports[it % len(ports)],
+        }
         attempt = {**settings, **own}
         # A restarted primary is waited for, rather than one of its standbys followed.
         primary = "primary" if pq.version() >= PRIMARY else "read-write"
@@ -112,7 +129,8 @@ def hosts_of(settings: dict[str, str]) -> list[dict[str, str]]:
 
 
 def connect_limit(said: str) -> float:
-    """After how many seconds a host is given up, where a DSN or libpq's environment has this as its `connect_timeout`."""
+    """After how many seconds a host is given up, where a DSN or libpq's environment has this as its
+    `connect_timeout`."""
     text = said or os.environ.get("PGCONNECT_TIMEOUT", "")
     try:
         number = float(text) if text else CONNECT_LIMIT
@@ -122,9 +140,16 @@ def connect_limit(said: str) -> float:
 
 
 def is_resolved(settings: dict[str, str]) -> bool:
-    """Whether no name has to be looked up for these settings, or libpq has to do it since it chooses among several hosts itself."""
+    """Whether no name has to be looked up for these settings, or libpq has to do it since it
+    chooses among several hosts itself."""
     host = settings.get("host") or os.environ.get("PGHOST", "")
-    if settings.get("hostaddr") or os.environ.get("PGHOSTADDR") or not host or host.startswith(("/", "@")) or "," in host:
+    if (
+        settings.get("hostaddr")
+        or os.environ.get("PGHOSTADDR")
+        or not host
+        or host.startswith(("/", "@"))
+        or "," in host
+    ):
         return True
     with contextlib.suppress(ValueError):
         ipaddress.ip_address(host)
@@ -133,7 +158,8 @@ def is_resolved(settings: dict[str, str]) -> bool:
 
 
 def addresses_of(settings: dict[str, str], check: Check) -> list[dict[str, str]]:
-    """The settings with each address of their host. The look-up is left to a thread, since nothing can interrupt it."""
+    """The settings with each address of their host. The look-up is left to a thread, since nothing
+    can interrupt it."""
     if is_resolved(settings):
         return [settings]
     host, found, failed = settings.get("host") or os.environ["PGHOST"], list[str](), list[OSError]()
@@ -160,24 +186,36 @@ def addresses_of(settings: dict[str, str], check: Check) -> list[dict[str, str]]
 class Connection:
     """A connection to a server, for replication where asked.
 
-    What `dsn` says of these goes before: a limit of 10 seconds to connect to a host, and a lost peer is noticed within about a
-    minute. `check` is called at least each half second while something is waited for; what it raises ends the wait and cancels the
-    command.
+    What `dsn` says of these goes before: a limit of 10 seconds to connect to a host, and a lost
+    peer is noticed within about a minute. `check` is called at least each half second while
+    something is waited for; what it raises ends the wait and cancels the command.
     """
 
     def __init__(
-        self, dsn: str, *, replication: bool = False, name: str = "pgsub", quiet: bool = False, check: Check = never
+        self,
+        dsn: str,
+        *,
+        replication: bool = False,
+        name: str = "pgsub",
+        quiet: bool = False,
+        check: Check = never,
     ) -> None:
         self.check = check
         self.unsent = False
         # what broke the stream of CopyData off, and is to be raised after those that came before it
         self.broken: ServerError | None = None
-        settings = {**DEFAULTS, "application_name": name, **parameters(dsn), "client_encoding": "UTF8"}
+        settings = {
+            **DEFAULTS,
+            "application_name": name,
+            **parameters(dsn),
+            "client_encoding": "UTF8",
+        }
         if replication:
             settings["replication"] = "database"
         self.limit = connect_limit(settings.pop("connect_timeout", ""))
         self.raw = self.connected(settings)
-        # what the server has said of publications whose changes it leaves out, since the caller looked last
+        # what the server has said of publications whose changes it leaves out, since the caller
+        # looked last
         self.left_out: list[str] = []
         self.notices = Notices(self.left_out)
         self.raw.notice_handler = None if quiet else self.notices.hear
@@ -195,7 +233,8 @@ class Connection:
         raise together(errors)
 
     def connect_to_host(self, settings: dict[str, str]) -> pq.abc.PGconn:
-        """Connects to the first address of a host that can be reached. What another try doesn't mend is the host's own answer."""
+        """Connects to the first address of a host that can be reached. What another try doesn't
+        mend is the host's own answer."""
         errors = []
         for resolved in addresses_of(settings, self.check):
             try:
@@ -210,18 +249,25 @@ class Connection:
         """Connects to one address without blocking. How it is protected is settled before, and
         judged after."""
         settings = transport.OWN.guarded(settings)
-        raw = pq.PGconn.connect_start(make_conninfo(**{name: it for name, it in settings.items() if it}).encode())
+        raw = pq.PGconn.connect_start(
+            make_conninfo(**{name: it for name, it in settings.items() if it}).encode()
+        )
         set_verbosity(raw, VERBOSE)
         until = time.monotonic() + self.limit
         try:
             while raw.status != pq.ConnStatus.BAD and (polled := raw.connect_poll()) not in (
-                pq.PollingStatus.OK, pq.PollingStatus.FAILED
+                pq.PollingStatus.OK,
+                pq.PollingStatus.FAILED,
             ):
                 self.check()
                 if time.monotonic() > until:
-                    raise Unconnected(f"{where(settings)}: no answer within {self.limit:.0f} seconds")
+                    raise Unconnected(
+                        f"{where(settings)}: no answer within {self.limit:.0f} seconds"
+                    )
                 reads = polled == pq.PollingStatus.READING
-                select.select([raw.socket] if reads else [], [] if reads else [raw.socket], [], TICK)
+                select.select(
+                    [raw.socket] if reads else [], [] if reads else [raw.socket], [], TICK
+                )
             if raw.status != pq.ConnStatus.OK:
                 raise transport.OWN.explained(connection_error(raw, where(settings)))
             self.protection = transport.protection_of(raw, is_by_gssapi(raw) or False)
@@ -266,7 +312,8 @@ class Connection:
             raise ServerError("the server didn't end its answer in time")
 
     def cancel(self) -> None:
-        """Asks the server to end the command that runs, which it else goes on with after the connection is closed."""
+        """Asks the server to end the command that runs, which it else goes on with after the
+        connection is closed."""
         with contextlib.suppress(psycopg.Error):
             handle = self.raw.get_cancel()
             # (libpq's own call has no limit)
@@ -342,7 +389,9 @@ class Connection:
         text = said_text(result.error_message) or self.error()
         return ServerError(text, sqlstate.decode(errors="replace"))
 
-    def run(self, command: str, wanted: tuple[pq.ExecStatus, ...] = DONE, limit: float = float("inf")) -> None:
+    def run(
+        self, command: str, wanted: tuple[pq.ExecStatus, ...] = DONE, limit: float = float("inf")
+    ) -> None:
         self.execute(command, wanted, limit)
 
     def rows(self, command: str, limit: float = float("inf")) -> list[list[str | None]]:
@@ -375,7 +424,8 @@ class Connection:
         return self.raw.backend_pid
 
     def is_wrapped(self) -> bool:
-        """Whether bytes of the server may have been read without having come yet: where they are encrypted, by TLS or GSSAPI."""
+        """Whether bytes of the server may have been read without having come yet: where they are
+        encrypted, by TLS or GSSAPI."""
         if self.raw.ssl_in_use or self.raw.host.startswith((b"/", b"@")):
             return bool(self.raw.ssl_in_use)
         return is_by_gssapi(self.raw) is not False
@@ -394,7 +444,8 @@ class Connection:
         self.last_result()
 
     def copied_blocks(self, command: str, size: int) -> Iterator[list[bytes]]:
-        """Yields the lines of a COPY TO STDOUT in blocks of about so many bytes, and the last ones in a smaller block."""
+        """Yields the lines of a COPY TO STDOUT in blocks of about so many bytes, and the last ones
+        in a smaller block."""
         self.execute(command, COPY_OUT)
         take, lines, left = self.raw.get_copy_data, list[bytes](), size
         while True:
@@ -425,7 +476,8 @@ class Connection:
             raise ServerError(self.error())
 
     def next_payload(self) -> bytes | None:
-        """Returns the payload of the next CopyData, b"" where none is there yet, and None after the last."""
+        """Returns the payload of the next CopyData, b"" where none is there yet, and None after the
+        last."""
         try:
             length, payload = self.raw.get_copy_data(1)
         except psycopg.OperationalError as error:
@@ -439,9 +491,11 @@ class Connection:
         return None
 
     def payloads(self, room: int, long: int) -> tuple[list[bytes], bool | None]:
-        """Those of CopyData that have come, up to so many bytes, or to the first one that is at least `long`.
+        """Those of CopyData that have come, up to so many bytes, or to the first one that is at
+        least `long`.
 
-        Beside them: whether there may be more, None after the last. An error is raised once those before it were returned.
+        Beside them: whether there may be more, None after the last. An error is raised once those
+        before it were returned.
         """
         if self.broken:
             raise self.broken
@@ -479,7 +533,8 @@ class Connection:
         self.unsent = left > 0
 
     def end_copy(self) -> None:
-        """Tells the server that nothing more is sent, within a second. Whether it hears it doesn't matter."""
+        """Tells the server that nothing more is sent, within a second. Whether it hears it doesn't
+        matter."""
         with contextlib.suppress(psycopg.OperationalError, ServerError):
             self.raw.put_copy_end()
             self.flush()
@@ -488,7 +543,8 @@ class Connection:
                 self.flush()
 
     def drain(self, seconds: float) -> None:
-        """Drops what still comes of a stream of CopyData whose end was asked for, for so many seconds at most."""
+        """Drops what still comes of a stream of CopyData whose end was asked for, for so many
+        seconds at most."""
         until = time.monotonic() + seconds
         with contextlib.suppress(psycopg.OperationalError, ServerError):
             while (left := until - time.monotonic()) > 0:
@@ -631,25 +687,31 @@ def is_by_gssapi(raw: pq.abc.PGconn) -> bool | None:
 def set_verbosity(raw: pq.abc.PGconn, verbosity: int) -> None:
     """Sets how much libpq's errors say, by the one call of libpq that psycopg lacks.
 
-    psycopg[binary] has a libpq of its own. The system's may be of another version, and would write into that one's connection at a
-    place where something else is.
+    psycopg[binary] has a libpq of its own. The system's may be of another version, and would write
+    into that one's connection at a place where something else is.
     """
     if pq.__impl__ == "binary":
         return
     pointer = getattr(raw, "pgconn_ptr", None)
     with contextlib.suppress(OSError, AttributeError):
-        ctypes.CDLL("libpq.so.5").PQsetErrorVerbosity(ctypes.c_void_p(pointer), ctypes.c_int(verbosity))
+        ctypes.CDLL("libpq.so.5").PQsetErrorVerbosity(
+            ctypes.c_void_p(pointer), ctypes.c_int(verbosity)
+        )
 
 
 def together(errors: list[ServerError]) -> ServerError:
     """The error of several attempts to connect. It lasts where each of them does."""
     if len(errors) == 1:
         return errors[0]
-    return Unconnected("\n".join(dict.fromkeys(map(str, errors))), "28" if all(it.is_lasting() for it in errors) else "")
+    return Unconnected(
+        "\n".join(dict.fromkeys(map(str, errors))),
+        "28" if all(it.is_lasting() for it in errors) else "",
+    )
 
 
 def connection_error(raw: pq.abc.PGconn, host: str) -> Unconnected:
-    """The error of a connection that wasn't made. A verbose one has the SQLSTATE, which libpq gives in no other way."""
+    """The error of a connection that wasn't made. A verbose one has the SQLSTATE, which libpq gives
+    in no other way."""
     said = said_text(raw.error_message)
     found = CODE.search(said)
     text = CODE.sub(":  ", PLACE_IN_SOURCE.sub("", said)) or f"{host}: can't connect"
@@ -657,11 +719,12 @@ def connection_error(raw: pq.abc.PGconn, host: str) -> Unconnected:
 
 
 def where(settings: dict[str, str]) -> str:
-    host = settings.get("host") or settings.get("hostaddr") or os.environ.get("PGHOST") or "the server"
+    host = (
+        settings.get("host") or settings.get("hostaddr") or os.environ.get("PGHOST") or "the server"
+    )
     return f"{host}:{settings['port']}" if settings.get("port") else host
 
 
 def cancel_by(handle: pq.abc.PGcancel) -> None:
     with contextlib.suppress(psycopg.Error):
         handle.cancel()
-

@@ -5,36 +5,47 @@ from __future__ import annotations
 from typing import TYPE_CHECKING
 
 from pgsub_feed import log
+from pgsub_feed.texts import literal
+
 from ..errors import ServerError, understood
+from .connection import Check, Connection
 from .preflight import source_wanted
 from .publication_setup import REFUSED, Wanted, keyless_of, names_of
-from .connection import Check, Connection
 from .session import settle
-from pgsub_feed.texts import literal
 
 if TYPE_CHECKING:
     from ..commands.options import Options
 
 
 def require_published(options: Options, check: Check) -> None:
-    """Ends a start with a store that follows no publication with what --table or --all-tables asks for.
+    """Ends a start with a store that follows no publication with what --table or --all-tables asks
+    for.
 
-    Tables that joined a publication since, and ones that are gone, are told alone: the same words have started the follower before, and
-    are those of its next start, where nobody may be there to alter them.
+    Tables that joined a publication since, and ones that are gone, are told alone: the same words
+    have started the follower before, and are those of its next start, where nobody may be there to
+    alter them.
 
-    Which columns and rows they have of a table isn't compared here: what changes of these is found at each connection.
+    Which columns and rows they have of a table isn't compared here: what changes of these is found
+    at each connection.
     """
     connection = Connection(options.dsn, name=f"{options.slot} check", check=check)
     try:
         names = ", ".join(map(literal, options.publication))
         # (names of tables are looked up as the role does it)
-        wrong, others = different_tables(connection, options, names) if options.table else (not_whole(connection, names), "")
+        wrong, others = (
+            different_tables(connection, options, names)
+            if options.table
+            else (not_whole(connection, names), "")
+        )
     finally:
         connection.close()
     if wrong:
         wrong = "; ".join(filter(None, (wrong, others)))
         text = "--table" if options.table else "--all-tables"
-        raise ServerError(f"{text} isn't what the store follows: {wrong}. Alter the publication, or leave {text} out", REFUSED)
+        raise ServerError(
+            f"{text} isn't what the store follows: {wrong}. Alter the publication, or leave {text} out",
+            REFUSED,
+        )
     if others:
         log.warning(f"--table isn't what is published, and what is published is followed: {others}")
 
@@ -48,7 +59,8 @@ def not_whole(connection: Connection, names: str) -> str:
 
 
 def different_tables(connection: Connection, options: Options, names: str) -> tuple[str, str]:
-    """What --table has and the publications don't list; and what these list besides, or what isn't there at all."""
+    """What --table has and the publications don't list; and what these list besides, or what isn't
+    there at all."""
     wanted = Wanted(options.publication, options.table, keyless=options.keyless)
     source, unknown = source_wanted(connection, wanted)
     settle(connection)
@@ -65,7 +77,9 @@ def different_tables(connection: Connection, options: Options, names: str) -> tu
     more = {oid: name for oid, name in there.items() if oid not in asked}
     others = [f"no such table: {names_of(unknown)}"] if unknown else []
     others += [f"published too: {names_of(sorted(more.values()))}"] if more else []
-    return f"not published: {names_of(sorted(missing.values()))}" if missing else "", "; ".join(others)
+    return f"not published: {names_of(sorted(missing.values()))}" if missing else "", "; ".join(
+        others
+    )
 
 
 @understood("tables")

@@ -4,10 +4,11 @@ from __future__ import annotations
 
 from typing import TYPE_CHECKING
 
-from ..errors import ServerError, understood
-from .connection import Connection, QUICK
-from .session import is_lost
 from pgsub_feed.texts import literal, lsn_text
+
+from ..errors import ServerError, understood
+from .connection import QUICK, Connection
+from .session import is_lost
 
 if TYPE_CHECKING:
     from ..commands.options import Options
@@ -81,5 +82,6 @@ class Repeats:
                 f"{error}\nthe server can't send a change behind {lsn_text(position)}, in"
                 f" {self.count} attempts, and keeps its log meanwhile. Mend the value there (a text"
                 " that isn't UTF-8, in a database of SQL_ASCII). Of the slot:"
-                f" {anew(self.options)}", REFUSED
+                f" {anew(self.options)}",
+                REFUSED,
             )

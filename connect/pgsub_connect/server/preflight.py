@@ -5,20 +5,40 @@ from __future__ import annotations
 import dataclasses
 import re
 
-from ..errors import ServerError, understood
-from .publication_setup import Wanted, has_publication, keyless_of, keyless_tables, kinds_left_out, members, publishable, tree_of
-from .connection import Check, Connection
 from pgsub_feed.texts import literal
+
+from ..errors import ServerError, understood
+from .connection import Check, Connection
+from .publication_setup import (
+    Wanted,
+    has_publication,
+    keyless_of,
+    keyless_tables,
+    kinds_left_out,
+    members,
+    publishable,
+    tree_of,
+)
 from .transport import Protection
 from .waits import prepared_texts
 
 SETTINGS = (
-    "wal_level", "max_replication_slots", "max_wal_senders", "max_slot_wal_keep_size", "idle_replication_slot_timeout",
-    "wal_sender_timeout", "max_locks_per_transaction", "max_connections", "max_prepared_transactions", "server_encoding",
+    "wal_level",
+    "max_replication_slots",
+    "max_wal_senders",
+    "max_slot_wal_keep_size",
+    "idle_replication_slot_timeout",
+    "wal_sender_timeout",
+    "max_locks_per_transaction",
+    "max_connections",
+    "max_prepared_transactions",
+    "server_encoding",
 )
 RDS = "rds_replication"
 # A table's name in what CREATE PUBLICATION takes for one.
-NAME = re.compile(r'\s*(?:ONLY\s+)?((?:"(?:[^"]|"")+"|[\w$]+)(?:\s*\.\s*(?:"(?:[^"]|"")+"|[\w$]+))?)', re.I)
+NAME = re.compile(
+    r'\s*(?:ONLY\s+)?((?:"(?:[^"]|"")+"|[\w$]+)(?:\s*\.\s*(?:"(?:[^"]|"")+"|[\w$]+))?)', re.I
+)
 
 
 @dataclasses.dataclass
@@ -87,7 +107,8 @@ class Facts:
     relations: int = 0
     prepared: list[str] = dataclasses.field(default_factory=list)
     replication_error: str = ""
-    # whether a connection for replication was let in, and a role of the server's provider whose members are
+    # whether a connection for replication was let in, and a role of the server's provider whose
+    # members are
     has_replicated: bool = False
     replicators: str = ""
 
@@ -100,7 +121,9 @@ def true(text: str | None) -> bool:
 def server_facts(connection: Connection, slot: str) -> Facts:
     """What concerns the server, the role and the slot."""
     names = ", ".join(literal(name) for name in SETTINGS)
-    settings = connection.rows(f"SELECT s.name, s.setting FROM pg_catalog.pg_settings s WHERE s.name IN ({names})")
+    settings = connection.rows(
+        f"SELECT s.name, s.setting FROM pg_catalog.pg_settings s WHERE s.name IN ({names})"
+    )
     standby, database, slots, senders = connection.rows(
         "SELECT pg_catalog.pg_is_in_recovery(), pg_catalog.current_database(),"
         " (SELECT pg_catalog.count(*) FROM pg_catalog.pg_replication_slots),"
@@ -130,8 +153,14 @@ def role_facts(connection: Connection) -> Role:
 
 
 def replicators(connection: Connection) -> str:
-    """The role whose members may replicate without the attribute, where the server is one of Amazon RDS."""
-    return connection.value(f"SELECT r.rolname FROM pg_catalog.pg_roles r WHERE r.rolname = {literal(RDS)}") or ""
+    """The role whose members may replicate without the attribute, where the server is one of Amazon
+    RDS."""
+    return (
+        connection.value(
+            f"SELECT r.rolname FROM pg_catalog.pg_roles r WHERE r.rolname = {literal(RDS)}"
+        )
+        or ""
+    )
 
 
 @understood("a slot")
@@ -140,7 +169,10 @@ def slot_facts(connection: Connection, slot: str) -> Slot | None:
     columns = [
         name if version >= since else "NULL"
         for name, since in (
-            ("s.two_phase", 140000), ("s.wal_status", 130000), ("s.safe_wal_size", 130000), ("s.failover", 170000),
+            ("s.two_phase", 140000),
+            ("s.wal_status", 130000),
+            ("s.safe_wal_size", 130000),
+            ("s.failover", 170000),
             ("s.invalidation_reason", 170000),
         )
     ]
@@ -152,7 +184,14 @@ def slot_facts(connection: Connection, slot: str) -> Slot | None:
         return None
     plugin, here, active, two_phase, status, size, failover, why = rows[0]
     return Slot(
-        plugin or "none", true(here), true(active), true(two_phase), status or "", size or "", true(failover), why or ""
+        plugin or "none",
+        true(here),
+        true(active),
+        true(two_phase),
+        status or "",
+        size or "",
+        true(failover),
+        why or "",
     )
 
 
@@ -168,7 +207,9 @@ def publication_facts(connection: Connection, facts: Facts, wanted: Wanted) -> N
             source, unknown = source_wanted(connection, wanted)
             facts.unknown += unknown
             keyless = keyless_of(connection, source) if source else {}
-            facts.publications.append(Publication(name, is_there=False, keyless=list(keyless.values())))
+            facts.publications.append(
+                Publication(name, is_there=False, keyless=list(keyless.values()))
+            )
             sources += [source] if source else []
     source = " UNION ".join(sources) or "SELECT 0::pg_catalog.oid AS relid WHERE false"
     facts.tables = tables_facts(connection, source)
@@ -182,14 +223,16 @@ def publication_facts(connection: Connection, facts: Facts, wanted: Wanted) -> N
 
 
 def publication_there(connection: Connection, name: str) -> Publication:
-    """A publication that is there: the kinds of changes that it leaves out, and tables without an identity for those that it has."""
+    """A publication that is there: the kinds of changes that it leaves out, and tables without an
+    identity for those that it has."""
     left_out = kinds_left_out(connection, name)
     keyless = {} if {"update", "delete"} <= set(left_out) else keyless_tables(connection, name)
     return Publication(name, True, left_out, mixed_roots(connection, name), list(keyless.values()))
 
 
 def mixed_roots(connection: Connection, name: str) -> list[str]:
-    """Partitioned tables that are sent as such, with a partition of another kind of identity: its keys don't fit."""
+    """Partitioned tables that are sent as such, with a partition of another kind of identity: its
+    keys don't fit."""
     if connection.version() < 130000:
         return []
     rows = connection.rows(
@@ -203,7 +246,8 @@ def mixed_roots(connection: Connection, name: str) -> list[str]:
 
 
 def source_wanted(connection: Connection, wanted: Wanted) -> tuple[str, list[str]]:
-    """A query for the tables that a new publication would have, and the names that aren't those of tables."""
+    """A query for the tables that a new publication would have, and the names that aren't those of
+    tables."""
     if wanted.all_tables:
         return (
             "SELECT c.oid AS relid FROM pg_catalog.pg_class c JOIN pg_catalog.pg_namespace n ON n.oid = c.relnamespace"
@@ -217,7 +261,13 @@ def source_wanted(connection: Connection, wanted: Wanted) -> tuple[str, list[str
         # (more than a name stands there: columns, a filter)
         found = NAME.match(text)
         try:
-            oid = connection.value(f"SELECT pg_catalog.to_regclass({literal(found[1])})::pg_catalog.oid") if found else None
+            oid = (
+                connection.value(
+                    f"SELECT pg_catalog.to_regclass({literal(found[1])})::pg_catalog.oid"
+                )
+                if found
+                else None
+            )
         except ServerError:
             oid = None
         if oid is None:

@@ -1,7 +1,9 @@
-"""Makes publications, so that no application is harmed by it, and takes them back where no copy came of it.
+"""Makes publications, so that no application is harmed by it, and takes them back where no copy
+came of it.
 
-From the moment that a table is published for Updates and Deletes, the server rejects these where the table has no replica identity.
-So each table is looked at in the transaction that makes the publication, which ends without effect where one is found.
+From the moment that a table is published for Updates and Deletes, the server rejects these where
+the table has no replica identity. So each table is looked at in the transaction that makes the
+publication, which ends without effect where one is found.
 """
 
 from __future__ import annotations
@@ -14,10 +16,11 @@ from types import MappingProxyType
 from typing import NamedTuple
 
 from pgsub_feed import log
+from pgsub_feed.texts import counted, identifier, literal
+
 from ..errors import ServerError, Unfit, understood
 from .connection import Check, Connection
 from .publications import EXACT, FINE, UNIQUE
-from pgsub_feed.texts import counted, identifier, literal
 from .waits import Waiting, lock_text
 
 REFUSED = "55000"
@@ -26,9 +29,11 @@ INSERTS = "insert, truncate"
 NAMED = 20
 # After how many seconds it is given up to drop a publication.
 LIMIT = 10.0
-# What the server says of a change without a usable identity: it has none, or the publication leaves out a part of it.
+# What the server says of a change without a usable identity: it has none, or the publication leaves
+# out a part of it.
 REJECTED = ("55000", "42P10")
-# What says nothing of a table: a lost connection, a deadlock, no resources, a lock that wasn't to be had, the end of the session.
+# What says nothing of a table: a lost connection, a deadlock, no resources, a lock that wasn't to
+# be had, the end of the session.
 IN_THE_WAY = ("08", "40", "53", "55P03", "57")
 
 
@@ -51,8 +56,8 @@ def names_of(names: list[str]) -> str:
 def identity(version: int, stored: bool = False) -> str:
     """Whether Updates and Deletes of a table `c` can say which row they are of.
 
-    A partitioned table hands on its primary key alone to partitions that are made later. From 18 on an identity has no generated
-    columns, but for `stored` ones where they are published.
+    A partitioned table hands on its primary key alone to partitions that are made later. From 18 on
+    an identity has no generated columns, but for `stored` ones where they are published.
     """
     sent = "('', 's')" if stored else "('')"
     full = key = ""
@@ -72,15 +77,23 @@ def refusal(text: str) -> ServerError:
 
 
 def has_publication(connection: Connection, name: str) -> bool:
-    return bool(connection.rows(f"SELECT FROM pg_catalog.pg_publication WHERE pubname = {literal(name)}"))
+    return bool(
+        connection.rows(f"SELECT FROM pg_catalog.pg_publication WHERE pubname = {literal(name)}")
+    )
 
 
 def publishable(version: int) -> str:
-    """A query for all tables that there are now: not temporary, unlogged, the system's own or an extension's.
+    """A query for all tables that there are now: not temporary, unlogged, the system's own or an
+    extension's.
 
-    Partitions come with the table above them. Before PostgreSQL 13 such a table can't be published, and they come by themselves.
+    Partitions come with the table above them. Before PostgreSQL 13 such a table can't be published,
+    and they come by themselves.
     """
-    kinds = "c.relkind IN ('r', 'p') AND NOT c.relispartition" if version >= 130000 else "c.relkind = 'r'"
+    kinds = (
+        "c.relkind IN ('r', 'p') AND NOT c.relispartition"
+        if version >= 130000
+        else "c.relkind = 'r'"
+    )
     return (
         "SELECT c.oid AS relid FROM pg_catalog.pg_class c JOIN pg_catalog.pg_namespace n ON n.oid = c.relnamespace"
         f" WHERE {kinds} AND c.relpersistence = 'p' AND c.oid >= 16384"
@@ -104,15 +117,19 @@ def tree_of(connection: Connection, source: str) -> str:
     """The relations of a query with a column `relid`, with the partitions below them."""
     if connection.version() < 130000:
         return f"(SELECT s.relid, s.relid AS part FROM ({source}) s)"
-    below = "(SELECT s.relid AS part UNION SELECT p.relid FROM pg_catalog.pg_partition_tree(s.relid) p)"
+    below = (
+        "(SELECT s.relid AS part UNION SELECT p.relid FROM pg_catalog.pg_partition_tree(s.relid) p)"
+    )
     return f"(SELECT s.relid, b.part FROM ({source}) s, LATERAL {below} b)"
 
 
 @understood("replica identities")
 def keyless_of(connection: Connection, source: str, stored: bool = False) -> dict[int, str]:
-    """The tables among those of a query, and the partitions below them, that have no usable replica identity: OID and name.
+    """The tables among those of a query, and the partitions below them, that have no usable replica
+    identity: OID and name.
 
-    Each partition's own identity counts, but of those that are unlogged. A partitioned table counts where it has no partitions yet.
+    Each partition's own identity counts, but of those that are unlogged. A partitioned table counts
+    where it has no partitions yet.
     """
     rows = connection.rows(
         f"SELECT DISTINCT c.oid, n.nspname, c.relname FROM {tree_of(connection, source)} t"
@@ -125,7 +142,8 @@ def keyless_of(connection: Connection, source: str, stored: bool = False) -> dic
 
 
 def members(name: str) -> str:
-    """A query for all tables of a publication, those that are listed and have no partitions among them."""
+    """A query for all tables of a publication, those that are listed and have no partitions among
+    them."""
     return (
         f"SELECT p.relid FROM pg_catalog.pg_get_publication_tables({literal(name)}) p UNION SELECT r.prrelid"
         f" FROM pg_catalog.pg_publication_rel r JOIN pg_catalog.pg_publication b ON b.oid = r.prpubid WHERE b.pubname = {literal(name)}"
@@ -136,15 +154,22 @@ def keyless_tables(connection: Connection, name: str) -> dict[int, str]:
     """The tables of a publication that have no usable replica identity."""
     stored = ""
     if connection.version() >= EXACT:
-        stored = connection.value(f"SELECT p.pubgencols FROM pg_catalog.pg_publication p WHERE p.pubname = {literal(name)}") or ""
+        stored = (
+            connection.value(
+                f"SELECT p.pubgencols FROM pg_catalog.pg_publication p WHERE p.pubname = {literal(name)}"
+            )
+            or ""
+        )
     return keyless_of(connection, members(name), stored == "s")
 
 
 @understood("replica identities")
 def rejected_tables(connection: Connection, name: str) -> dict[int, str]:
-    """The tables of which the server rejects Deletes, since a publication that was just made has them. Nothing is deleted.
+    """The tables of which the server rejects Deletes, since a publication that was just made has
+    them. Nothing is deleted.
 
-    So it is too where a column list or a row filter leaves out or needs what the identity has or hasn't.
+    So it is too where a column list or a row filter leaves out or needs what the identity has or
+    hasn't.
     """
     rows = connection.rows(
         f"SELECT DISTINCT c.oid, n.nspname, c.relname FROM {tree_of(connection, members(name))} t"
@@ -164,13 +189,16 @@ def rejected_tables(connection: Connection, name: str) -> dict[int, str]:
             connection.run("ROLLBACK TO SAVEPOINT one")
             if error.sqlstate in REJECTED:
                 _, _, why = str(error).partition("DETAIL:")
-                found[int(oid or 0)] = f"{namespace}.{table}" + (f" ({why.strip().rstrip('.')})" if why else "")
+                found[int(oid or 0)] = f"{namespace}.{table}" + (
+                    f" ({why.strip().rstrip('.')})" if why else ""
+                )
     connection.run("RELEASE SAVEPOINT one")
     return found
 
 
 class Listed(NamedTuple):
-    """A table that a publication lists: its name for readers and for SQL, and the latter with columns and row filter."""
+    """A table that a publication lists: its name for readers and for SQL, and the latter with
+    columns and row filter."""
 
     text: str
     name: str
@@ -196,7 +224,11 @@ def listed_above(connection: Connection, name: str, oids: list[int]) -> list[Lis
     found = []
     for _, namespace, table, listing, row_filter in rows:
         sql = f"{identifier(namespace or '')}.{identifier(table or '')}"
-        whole = sql + (f" ({listing})" if listing else "") + (f" WHERE ({row_filter})" if row_filter else "")
+        whole = (
+            sql
+            + (f" ({listing})" if listing else "")
+            + (f" WHERE ({row_filter})" if row_filter else "")
+        )
         found.append(Listed(f"{namespace}.{table}", sql, whole))
     return found
 
@@ -204,15 +236,27 @@ def listed_above(connection: Connection, name: str, oids: list[int]) -> list[Lis
 @understood("a publication")
 def kinds_left_out(connection: Connection, name: str) -> list[str]:
     """The kinds of changes that a publication doesn't have."""
-    kinds = ["insert", "update", "delete", *(["truncate"] if connection.version() >= 110000 else [])]
+    kinds = [
+        "insert",
+        "update",
+        "delete",
+        *(["truncate"] if connection.version() >= 110000 else []),
+    ]
     columns = ", ".join(f"p.pub{kind}" for kind in kinds)
-    rows = connection.rows(f"SELECT {columns} FROM pg_catalog.pg_publication p WHERE p.pubname = {literal(name)}")
+    rows = connection.rows(
+        f"SELECT {columns} FROM pg_catalog.pg_publication p WHERE p.pubname = {literal(name)}"
+    )
     return [kind for kind, has in zip(kinds, rows[0], strict=True) if has != "t"] if rows else []
 
 
 @understood("a publication")
 def oid_of(connection: Connection, name: str) -> int:
-    return int(connection.value(f"SELECT p.oid FROM pg_catalog.pg_publication p WHERE p.pubname = {literal(name)}") or 0)
+    return int(
+        connection.value(
+            f"SELECT p.oid FROM pg_catalog.pg_publication p WHERE p.pubname = {literal(name)}"
+        )
+        or 0
+    )
 
 
 @understood("a publication")
@@ -249,7 +293,8 @@ def other_slots(connection: Connection, slot: str) -> list[str]:
     return [row[0] or "" for row in rows]
 
 
-# What looks at publications before they are there for others, and may raise; and what notes their OIDs then.
+# What looks at publications before they are there for others, and may raise; and what notes their
+# OIDs then.
 Look = Callable[[Connection, list[str]], None]
 Note = Callable[[dict[str, int]], None]
 
@@ -257,14 +302,28 @@ Note = Callable[[dict[str, int]], None]
 class Maker:
     """Makes what is missing of publications, and knows what it made.
 
-    `left`: those that earlier runs have made, with their OIDs. `note` is told the OIDs before a publication is there for others.
+    `left`: those that earlier runs have made, with their OIDs. `note` is told the OIDs before a
+    publication is there for others.
     """
 
     def __init__(
-        self, dsn: str, wanted: Wanted, name: str, check: Check, look: Look = lambda connection, names: None,
-        left: Mapping[str, int] = MappingProxyType({}), note: Note = lambda made: None,
+        self,
+        dsn: str,
+        wanted: Wanted,
+        name: str,
+        check: Check,
+        look: Look = lambda connection, names: None,
+        left: Mapping[str, int] = MappingProxyType({}),
+        note: Note = lambda made: None,
     ) -> None:
-        self.dsn, self.wanted, self.name, self.check, self.look, self.note = dsn, wanted, name, check, look, note
+        self.dsn, self.wanted, self.name, self.check, self.look, self.note = (
+            dsn,
+            wanted,
+            name,
+            check,
+            look,
+            note,
+        )
         self.left = dict(left)
         # the publications that are there afterwards, and those that were made: each with its OID
         self.publications = list(wanted.publications)
@@ -274,17 +333,20 @@ class Maker:
         self.is_standby = False
 
     def make(self) -> None:
-        """Makes each publication that isn't there, all of them or none. Where `check` raises meanwhile, `take_back` undoes it."""
+        """Makes each publication that isn't there, all of them or none. Where `check` raises
+        meanwhile, `take_back` undoes it."""
         before = self.made
         self.publications, self.said, self.begun = list(self.wanted.publications), [], {}
         self.connection = Connection(self.dsn, name=f"{self.name} publication", check=self.check)
         try:
             connection = self.connection
-            connection.check = Waiting(self.dsn, self.name, self.check, lock_text("the publication", connection.pid())).check
+            connection.check = Waiting(
+                self.dsn, self.name, self.check, lock_text("the publication", connection.pid())
+            ).check
             self.path = connection.value("SELECT pg_catalog.current_setting('search_path')") or ""
             self.is_standby = connection.value("SELECT pg_catalog.pg_is_in_recovery()") == "t"
-            # (whatever default_transaction_read_only says. The follower may be the standby for which
-            # a commit would wait)
+            # (whatever default_transaction_read_only says. The follower may be the standby for
+            # which a commit would wait)
             connection.run(
                 f"BEGIN{'' if self.is_standby else ' READ WRITE'}; SET LOCAL synchronous_commit = local;"
                 " SET LOCAL search_path = ''; SET LOCAL statement_timeout = 0; SET LOCAL lock_timeout = 0"
@@ -305,9 +367,14 @@ class Maker:
             log.info(f"made the publication {name}")
 
     def drop_left(self, connection: Connection) -> None:
-        """Drops what a run that was killed has left, so that it is made as it is wanted now; not what somebody else may use by now."""
+        """Drops what a run that was killed has left, so that it is made as it is wanted now; not
+        what somebody else may use by now."""
         names = [it for name in self.wanted.publications for it in (name, inserts_of(name))]
-        left = [it for it in names if it in self.left and self.made.get(it) != self.left[it] == oid_of(connection, it)]
+        left = [
+            it
+            for it in names
+            if it in self.left and self.made.get(it) != self.left[it] == oid_of(connection, it)
+        ]
         if left and not self.is_standby and not other_slots(connection, self.name):
             connection.run(f"DROP PUBLICATION {', '.join(map(identifier, left))}")
             log.info(f"an earlier run has left the publication {names_of(left)}: it is made anew")
@@ -326,7 +393,8 @@ class Maker:
             self.compare(name)
 
     def create(self, name: str, tables: str, more: str = "") -> None:
-        """Runs CREATE PUBLICATION with the role's own search path, for the names that its user wrote."""
+        """Runs CREATE PUBLICATION with the role's own search path, for the names that its user
+        wrote."""
         connection = self.connection
         connection.rows(f"SELECT pg_catalog.set_config('search_path', {literal(self.path)}, true)")
         connection.run(f"CREATE PUBLICATION {identifier(name)} FOR {tables}{more}")
@@ -335,7 +403,9 @@ class Maker:
     def make_one(self, name: str) -> None:
         connection, wanted = self.connection, self.wanted
         if self.is_standby:
-            raise refusal(f"the server is a standby, and has no publication {name}: make it at the primary")
+            raise refusal(
+                f"the server is a standby, and has no publication {name}: make it at the primary"
+            )
         if wanted.all_tables:
             self.create(name, "ALL TABLES")
         elif wanted.tables:
@@ -343,7 +413,9 @@ class Maker:
         elif tables := publishable_tables(connection):
             self.create(name, f"TABLE {', '.join(f'ONLY {it}' for it in tables)}")
         else:
-            raise refusal("there are no tables that can be published: make some, or say --all-tables for those that come later")
+            raise refusal(
+                "there are no tables that can be published: make some, or say --all-tables for those that come later"
+            )
         self.begun[name] = oid_of(connection, name)
         keyless = {**rejected_tables(connection, name), **keyless_tables(connection, name)}
         if keyless and wanted.keyless != "refuse" and not wanted.all_tables:
@@ -352,13 +424,16 @@ class Maker:
             raise refusal(keyless_text(list(keyless.values()), wanted.all_tables))
 
     def move_keyless(self, name: str, keyless: dict[int, str]) -> dict[int, str]:
-        """Takes the tables without an identity out of the publication, into one of their own where wanted. Returns those that stay."""
+        """Takes the tables without an identity out of the publication, into one of their own where
+        wanted. Returns those that stay."""
         connection = self.connection
         listed = listed_above(connection, name, list(keyless))
         if not listed:
             return keyless
         count = len(content_of(connection, name))
-        connection.run(f"ALTER PUBLICATION {identifier(name)} DROP TABLE {', '.join(it.name for it in listed)}")
+        connection.run(
+            f"ALTER PUBLICATION {identifier(name)} DROP TABLE {', '.join(it.name for it in listed)}"
+        )
         names = names_of([it.text for it in listed])
         if self.wanted.keyless == "inserts":
             second = inserts_of(name)
@@ -366,9 +441,13 @@ class Maker:
             self.create(second, f"TABLE {tables}", f" WITH (publish = {literal(INSERTS)})")
             self.begun[second] = oid_of(connection, second)
             self.publications.insert(self.publications.index(name) + 1, second)
-            self.said.append(f"without a replica identity, so published for Inserts and TRUNCATE alone: {names}")
+            self.said.append(
+                f"without a replica identity, so published for Inserts and TRUNCATE alone: {names}"
+            )
         elif count == len(listed):
-            raise refusal(f"no table is left to be published: {keyless_text(list(keyless.values()), False)}")
+            raise refusal(
+                f"no table is left to be published: {keyless_text(list(keyless.values()), False)}"
+            )
         else:
             self.said.append(f"without a replica identity, so left out: {names}")
         return {**rejected_tables(connection, name), **keyless_tables(connection, name)}
@@ -379,20 +458,32 @@ class Maker:
         left_out = kinds_left_out(connection, name)
         if left_out and not name.endswith(inserts_of("")):
             self.said.append(f"the publication {name} leaves out: {', '.join(left_out)}")
-        if not {"update", "delete"} <= set(left_out) and (harmed := keyless_tables(connection, name)):
+        if not {"update", "delete"} <= set(left_out) and (
+            harmed := keyless_tables(connection, name)
+        ):
             names = names_of(list(harmed.values()))
-            self.said.append(f"published without a replica identity, so the server rejects Updates and Deletes: {names}")
+            self.said.append(
+                f"published without a replica identity, so the server rejects Updates and Deletes: {names}"
+            )
         there = content_of(connection, name)
         second = inserts_of(name)
-        if wanted.keyless == "inserts" and second not in self.publications and has_publication(connection, second):
+        if (
+            wanted.keyless == "inserts"
+            and second not in self.publications
+            and has_publication(connection, second)
+        ):
             self.publications.insert(self.publications.index(name) + 1, second)
             there |= content_of(connection, second)
         if wanted.all_tables and "all tables" not in there:
-            raise refusal(f"the publication {name} is there, and isn't one for all tables: drop it, or leave --all-tables out")
+            raise refusal(
+                f"the publication {name} is there, and isn't one for all tables: drop it, or leave --all-tables out"
+            )
         if not wanted.tables:
             return
         if self.is_standby:
-            raise refusal(f"the server is a standby, where --table can't be compared with the publication {name}: leave --table out")
+            raise refusal(
+                f"the server is a standby, where --table can't be compared with the publication {name}: leave --table out"
+            )
         asked, keyless = self.content_asked(name)
         if wanted.keyless == "leave-out":
             asked = {it for it in asked if it not in keyless}
@@ -405,7 +496,8 @@ class Maker:
             )
 
     def content_asked(self, name: str) -> tuple[set[str], set[str]]:
-        """What a publication of --table would list, and what of that has no replica identity. It is made for that, and undone."""
+        """What a publication of --table would list, and what of that has no replica identity. It is
+        made for that, and undone."""
         connection, trial = self.connection, f"{cut(name)}_trial_{secrets.token_hex(4)}"
         connection.run("SAVEPOINT trial")
         try:
@@ -413,16 +505,22 @@ class Maker:
         except ServerError as error:
             text = f"the publication {name} is there, and --table can't be compared with it: {error}. Leave --table out"
             raise ServerError(text, error.sqlstate and REFUSED) from None
-        asked, keyless = content_of(connection, trial), {**rejected_tables(connection, trial), **keyless_tables(connection, trial)}
+        asked, keyless = content_of(connection, trial), {
+            **rejected_tables(connection, trial),
+            **keyless_tables(connection, trial),
+        }
         left_out = set[str]()
         if keyless and (listed := listed_above(connection, trial, list(keyless))):
-            connection.run(f"ALTER PUBLICATION {identifier(trial)} DROP TABLE {', '.join(it.name for it in listed)}")
+            connection.run(
+                f"ALTER PUBLICATION {identifier(trial)} DROP TABLE {', '.join(it.name for it in listed)}"
+            )
             left_out = asked - content_of(connection, trial)
         connection.run("ROLLBACK TO SAVEPOINT trial")
         return asked, left_out
 
     def take_back(self) -> None:
-        """Drops what was made, if it is there: an interrupted transaction may have had no effect."""
+        """Drops what was made, if it is there: an interrupted transaction may have had no
+        effect."""
         if not self.made:
             return
         until = time.monotonic() + LIMIT
@@ -433,13 +531,17 @@ class Maker:
                 raise ServerError("no answer")
 
         try:
-            connection = Connection(self.dsn, name=f"{self.name} publication", quiet=True, check=check)
+            connection = Connection(
+                self.dsn, name=f"{self.name} publication", quiet=True, check=check
+            )
             try:
                 drop_publications(connection, self.made)
             finally:
                 connection.close()
         except (ServerError, Unfit) as error:
-            log.warning(f"made and not dropped again, {error}: {', '.join(f'DROP PUBLICATION {identifier(it)}' for it in self.made)}")
+            log.warning(
+                f"made and not dropped again, {error}: {', '.join(f'DROP PUBLICATION {identifier(it)}' for it in self.made)}"
+            )
         self.made = {}
 
     def keep(self) -> dict[str, int]:
@@ -461,15 +563,23 @@ def inserts_of(name: str) -> str:
 def drop_publications(connection: Connection, made: dict[str, int]) -> None:
     """Drops publications that still are those that were made."""
     for name, oid in made.items():
-        rows = connection.rows(f"SELECT p.pubname FROM pg_catalog.pg_publication p WHERE p.oid = {oid} AND p.pubname = {literal(name)}")
+        rows = connection.rows(
+            f"SELECT p.pubname FROM pg_catalog.pg_publication p WHERE p.oid = {oid} AND p.pubname = {literal(name)}"
+        )
         if rows:
-            connection.run(f"BEGIN READ WRITE; SET LOCAL synchronous_commit = local; DROP PUBLICATION {identifier(name)}; COMMIT")
+            connection.run(
+                f"BEGIN READ WRITE; SET LOCAL synchronous_commit = local; DROP PUBLICATION {identifier(name)}; COMMIT"
+            )
             log.info(f"dropped the publication {name}")
 
 
 def keyless_text(names: list[str], all_tables: bool) -> str:
     """What is wrong with tables that have no usable replica identity, and what to do."""
-    ways = "" if all_tables else " Or say --keyless leave-out, or --keyless inserts to publish their Inserts alone."
+    ways = (
+        ""
+        if all_tables
+        else " Or say --keyless leave-out, or --keyless inserts to publish their Inserts alone."
+    )
     return (
         f"{counted(len(names), 'table')} without a usable replica identity: {names_of(names)}. Once published, the server would reject"
         " their Updates and Deletes, in every application. Give each a primary key, or ALTER TABLE .. REPLICA IDENTITY"

@@ -5,11 +5,13 @@ from __future__ import annotations
 import dataclasses
 from collections.abc import Iterable, Sequence
 
-from ..errors import ServerError, understood
-from .connection import Connection
 from pgsub_feed.texts import identifier, literal
 
-# from which version on pg_get_publication_tables says exactly which columns are sent, and from which it knows lists and filters
+from ..errors import ServerError, understood
+from .connection import Connection
+
+# from which version on pg_get_publication_tables says exactly which columns are sent, and from
+# which it knows lists and filters
 EXACT, FINE = 180000, 150000
 DIFFERENT_LISTS = "0A000"
 # Whether an index of a table finds one row, so that it can be a replica identity.
@@ -29,7 +31,8 @@ class Column:
 
 @dataclasses.dataclass
 class Leaves:
-    """The partitions of a table without any below them: the names for SQL of those whose changes are in the log, and the OIDs of others."""
+    """The partitions of a table without any below them: the names for SQL of those whose changes
+    are in the log, and the OIDs of others."""
 
     logged: list[str]
     unlogged: list[int]
@@ -58,12 +61,14 @@ class Table:
         return f"{identifier(self.namespace)}.{identifier(self.name)}"
 
     def query(self) -> str:
-        """The COPY of its published rows; a partitioned table is read with its partitions, any other without its children."""
+        """The COPY of its published rows; a partitioned table is read with its partitions, any
+        other without its children."""
         names = ", ".join(identifier(column.name) for column in self.columns)
         return f"COPY (SELECT {names} {self.source()}) TO STDOUT"
 
     def source(self) -> str:
-        """The part of a query that says which rows are published: none of a partition whose changes are in no log."""
+        """The part of a query that says which rows are published: none of a partition whose changes
+        are in no log."""
         if self.leaves and self.leaves.foreign:
             return f"FROM ({self.logged_rows(self.leaves.logged)}) AS logged"
         conditions = [self.row_filter] if self.row_filter else []
@@ -75,10 +80,13 @@ class Table:
         return f"FROM {only}{self.sql_name()}{where}"
 
     def logged_rows(self, leaves: list[str]) -> str:
-        """The rows of some leaves, each read by itself: by way of the root the foreign ones would be read all the same."""
+        """The rows of some leaves, each read by itself: by way of the root the foreign ones would
+        be read all the same."""
         names = ", ".join(identifier(column.name) for column in self.columns)
         where = f" WHERE {self.row_filter}" if self.row_filter else ""
-        return " UNION ALL ".join(f"SELECT {names} FROM ONLY {it}{where}" for it in leaves or [self.sql_name()])
+        return " UNION ALL ".join(
+            f"SELECT {names} FROM ONLY {it}{where}" for it in leaves or [self.sql_name()]
+        )
 
 
 def published_tables(connection: Connection, publications: Iterable[str]) -> list[Table]:
@@ -97,7 +105,8 @@ def published_tables(connection: Connection, publications: Iterable[str]) -> lis
 
 @understood("published tables")
 def tables_of(connection: Connection, publication: str) -> list[Table]:
-    """The tables of one publication, but for leaves whose changes no log has. Column lists and row filters came with 15."""
+    """The tables of one publication, but for leaves whose changes no log has. Column lists and row
+    filters came with 15."""
     fine = connection.version() >= FINE
     source = f"pg_catalog.pg_get_publication_tables({literal(publication)}) p"
     listed = "pg_catalog.array_to_string(p.attrs::pg_catalog.int2[], ',')" if fine else "NULL"
@@ -121,7 +130,8 @@ def tables_of(connection: Connection, publication: str) -> list[Table]:
 
 @understood("partitions")
 def put_leaves(connection: Connection, tables: list[Table]) -> None:
-    """Gives partitioned tables their leaves, where some of these are unlogged or foreign. (pg_partition_tree would wait for locks.)"""
+    """Gives partitioned tables their leaves, where some of these are unlogged or foreign.
+    (pg_partition_tree would wait for locks.)"""
     roots = {it.oid: it for it in tables if it.kind == "p"}
     if not roots:
         return
@@ -148,7 +158,8 @@ def put_leaves(connection: Connection, tables: list[Table]) -> None:
 
 @understood("partitions")
 def below_roots(connection: Connection, oids: Iterable[int]) -> set[int]:
-    """Those that are sent as a partitioned table above them that another publication has, with publish_via_partition_root."""
+    """Those that are sent as a partitioned table above them that another publication has, with
+    publish_via_partition_root."""
     known = set(oids)
     if not known or connection.version() < 130000:
         return set()
@@ -161,8 +172,9 @@ def below_roots(connection: Connection, oids: Iterable[int]) -> set[int]:
 
 
 def with_cure(error: ServerError, publications: Sequence[str]) -> ServerError:
-    """The error with which the server ended a session, with what to do where it may be that of different column lists: it reads its log by
-    the catalog of that time, so it says so again once they are equal."""
+    """The error with which the server ended a session, with what to do where it may be that of
+    different column lists: it reads its log by the catalog of that time, so it says so again once
+    they are equal."""
     if error.sqlstate != DIFFERENT_LISTS or len(publications) < 2:
         return error
     return ServerError(
@@ -173,7 +185,8 @@ def with_cure(error: ServerError, publications: Sequence[str]) -> ServerError:
 
 
 def united(tables: list[Table]) -> Table:
-    """A table that several publications have: a row is sent where one of the filters says so, and there may be one list alone."""
+    """A table that several publications have: a row is sent where one of the filters says so, and
+    there may be one list alone."""
     first = tables[0]
     filters = list(dict.fromkeys(table.row_filter for table in tables))
     if any(table.columns != first.columns for table in tables):
@@ -182,13 +195,16 @@ def united(tables: list[Table]) -> Table:
             f"cannot use different column lists for table {first.text()} in different publications: give it the same in each",
             DIFFERENT_LISTS,
         )
-    row_filter = None if None in filters else " OR ".join(f"({it})" for it in filters if it is not None)
+    row_filter = (
+        None if None in filters else " OR ".join(f"({it})" for it in filters if it is not None)
+    )
     return dataclasses.replace(first, row_filter=filters[0] if len(filters) == 1 else row_filter)
 
 
 def put_columns(connection: Connection, tables: list[Table]) -> None:
-    """Gives tables the columns that are sent: not those that are dropped, nor those that a column list leaves out, nor, before
-    PostgreSQL 18, those that are generated. One query reads those of all tables.
+    """Gives tables the columns that are sent: not those that are dropped, nor those that a column
+    list leaves out, nor, before PostgreSQL 18, those that are generated. One query reads those of
+    all tables.
 
     A key column is one of the replica identity's index, or any one under REPLICA IDENTITY FULL.
     """
@@ -196,26 +212,37 @@ def put_columns(connection: Connection, tables: list[Table]) -> None:
     generated = "a.attgenerated <> ''" if version >= 120000 else "false"
     keys = "i.indnkeyatts" if version >= 110000 else "i.indnatts"
     oids = ", ".join(str(table.oid) for table in tables)
-    rows = connection.rows(
-        f"SELECT a.attrelid, a.attname, a.atttypid, a.atttypmod, a.attnum, {generated},"
-        " c.relreplident = 'f' OR EXISTS (SELECT FROM pg_catalog.pg_index i"
-        f"  WHERE i.indrelid = a.attrelid AND {UNIQUE}"
-        "  AND CASE c.relreplident WHEN 'd' THEN i.indisprimary WHEN 'i' THEN i.indisreplident ELSE false END"
-        f"   AND a.attnum = ANY ((i.indkey::pg_catalog.int2[])[0:{keys} - 1]))"
-        " FROM pg_catalog.pg_attribute a JOIN pg_catalog.pg_class c ON c.oid = a.attrelid"
-        f" WHERE a.attrelid IN ({oids}) AND a.attnum > 0 AND NOT a.attisdropped ORDER BY a.attrelid, a.attnum"
-    ) if tables else []
+    rows = (
+        connection.rows(
+            f"SELECT a.attrelid, a.attname, a.atttypid, a.atttypmod, a.attnum, {generated},"
+            " c.relreplident = 'f' OR EXISTS (SELECT FROM pg_catalog.pg_index i"
+            f"  WHERE i.indrelid = a.attrelid AND {UNIQUE}"
+            "  AND CASE c.relreplident WHEN 'd' THEN i.indisprimary WHEN 'i' THEN i.indisreplident ELSE false END"
+            f"   AND a.attnum = ANY ((i.indkey::pg_catalog.int2[])[0:{keys} - 1]))"
+            " FROM pg_catalog.pg_attribute a JOIN pg_catalog.pg_class c ON c.oid = a.attrelid"
+            f" WHERE a.attrelid IN ({oids}) AND a.attnum > 0 AND NOT a.attisdropped ORDER BY a.attrelid, a.attnum"
+        )
+        if tables
+        else []
+    )
     by_oid = {table.oid: table for table in tables}
     for oid, name, type_oid, modifier, number, computed, key in rows:
         table = by_oid[int(oid or 0)]
         exact = version >= EXACT and table.listed is not None
-        if (exact or computed != "t") and (table.listed is None or int(number or 0) in table.listed):
-            table.columns.append(Column(name or "", int(type_oid or 0), int(modifier or 0), key == "t", int(number or 0)))
+        if (exact or computed != "t") and (
+            table.listed is None or int(number or 0) in table.listed
+        ):
+            table.columns.append(
+                Column(
+                    name or "", int(type_oid or 0), int(modifier or 0), key == "t", int(number or 0)
+                )
+            )
 
 
 @understood("the files of tables")
 def stored_in(connection: Connection, tables: list[Table]) -> dict[int, str | None]:
-    """Which file each table's rows are in now. TRUNCATE and an ALTER TABLE that writes all rows anew change it."""
+    """Which file each table's rows are in now. TRUNCATE and an ALTER TABLE that writes all rows
+    anew change it."""
     oids = ", ".join(str(table.oid) for table in tables)
     if not oids:
         return {}
@@ -230,8 +257,9 @@ def stored_in(connection: Connection, tables: list[Table]) -> dict[int, str | No
 def are_so_named(connection: Connection, tables: list[Table]) -> bool:
     """Whether the tables and columns have these names now.
 
-    Only the catalog is read. What locks a table may wait behind somebody who waits for our own lock on it, by way of another
-    connection, which no deadlock check sees: pg_get_publication_tables and pg_get_expr do.
+    Only the catalog is read. What locks a table may wait behind somebody who waits for our own lock
+    on it, by way of another connection, which no deadlock check sees: pg_get_publication_tables and
+    pg_get_expr do.
     """
     if not tables:
         return True
@@ -247,7 +275,10 @@ def are_so_named(connection: Connection, tables: list[Table]) -> bool:
     there, have = {tuple(row) for row in names}, {tuple(row) for row in columns}
     return all(
         (str(table.oid), table.namespace, table.name) in there
-        and all((str(table.oid), str(it.number), it.name, str(it.type_oid), str(it.modifier)) in have for it in table.columns)
+        and all(
+            (str(table.oid), str(it.number), it.name, str(it.type_oid), str(it.modifier)) in have
+            for it in table.columns
+        )
         for table in tables
     )
 

@@ -7,9 +7,10 @@ import ctypes
 
 from psycopg import pq
 
+from pgsub_feed.texts import LONGEST, said_text
+
 from ..errors import WrongAnswer
 from .libpq import BYTES_AT, LIBPQ, typed
-from pgsub_feed.texts import LONGEST, said_text
 
 Row = list[str | None]
 CELL = (ctypes.c_void_p, ctypes.c_int, ctypes.c_int)

@@ -6,12 +6,13 @@ import dataclasses
 import re
 
 from pgsub_feed import log
-from ..errors import IN_USE, ServerError, Unfit, understood
-from .connection import Connection, QUICK
 from pgsub_feed.texts import literal, parse_lsn
 
-# The text of values depends on these; they are those of PostgreSQL's own subscriptions, and all else on which a type's output
-# depends, so that equal values have equal texts in every session.
+from ..errors import IN_USE, ServerError, Unfit, understood
+from .connection import QUICK, Connection
+
+# The text of values depends on these; they are those of PostgreSQL's own subscriptions, and all
+# else on which a type's output depends, so that equal values have equal texts in every session.
 SETTINGS = {
     "search_path": "",
     "datestyle": "ISO",
@@ -28,8 +29,8 @@ SETTINGS = {
 }
 # Settings that came later, by the version that has them first.
 LATER = {"idle_session_timeout": 140000, "transaction_timeout": 170000}
-# The first version of the server that has version 2 of the protocol, and with it streaming, binary values and messages; and the first
-# that aborts transactions in version 1 too.
+# The first version of the server that has version 2 of the protocol, and with it streaming, binary
+# values and messages; and the first that aborts transactions in version 1 too.
 STREAMS, ABORTS_IN_VERSION_1 = 140000, 180000
 # A word of synchronous_standby_names, in double quotes or not.
 STANDBY = re.compile(r'"((?:[^"]|"")+)"|([^\s,()"]+)')
@@ -53,23 +54,31 @@ class Server:
 
 def settle(connection: Connection) -> None:
     """Gives a connection the settings on which the text of values depends."""
-    settings = {**SETTINGS, **{name: "0" for name, since in LATER.items() if connection.version() >= since}}
-    calls = (f"pg_catalog.set_config({literal(name)}, {literal(value)}, false)" for name, value in settings.items())
+    settings = {
+        **SETTINGS,
+        **{name: "0" for name, since in LATER.items() if connection.version() >= since},
+    }
+    calls = (
+        f"pg_catalog.set_config({literal(name)}, {literal(value)}, false)"
+        for name, value in settings.items()
+    )
     connection.rows(f"SELECT {', '.join(calls)}", QUICK)
 
 
 def settle_for_slot(connection: Connection) -> None:
     """Gives a connection what it needs to make a slot of pgoutput.
 
-    PostgreSQL 18 (seen with 18.6) crashes where it decodes more of a transaction that was rolled back than it keeps in memory, while it
-    makes a slot: that aborts the transaction in pgoutput, which has no cache of relations then. All sessions of the server end by that.
+    PostgreSQL 18 (seen with 18.6) crashes where it decodes more of a transaction that was rolled
+    back than it keeps in memory, while it makes a slot: that aborts the transaction in pgoutput,
+    which has no cache of relations then. All sessions of the server end by that.
     """
     if connection.version() >= ABORTS_IN_VERSION_1:
         connection.run("SET logical_decoding_work_mem = '1GB'", limit=QUICK)
 
 
 def unsettle_for_slot(connection: Connection) -> None:
-    """Goes back to the server's own setting, for a session that follows on the connection. An exported snapshot is gone by that."""
+    """Goes back to the server's own setting, for a session that follows on the connection. An
+    exported snapshot is gone by that."""
     if connection.version() >= ABORTS_IN_VERSION_1:
         connection.run("RESET logical_decoding_work_mem", limit=QUICK)
 
@@ -77,19 +86,32 @@ def unsettle_for_slot(connection: Connection) -> None:
 @understood("itself")
 def identify(connection: Connection) -> Server:
     """Asks a replication connection whose it is."""
-    system, timeline, log_end, database = (it or "" for it in connection.rows("IDENTIFY_SYSTEM", QUICK)[0])
+    system, timeline, log_end, database = (
+        it or "" for it in connection.rows("IDENTIFY_SYSTEM", QUICK)[0]
+    )
     standby = connection.value("SELECT pg_catalog.pg_is_in_recovery()", QUICK) == "t"
-    return Server(system, int(timeline), parse_lsn(log_end), database, standby, postmaster_start(connection), database_oid(connection))
+    return Server(
+        system,
+        int(timeline),
+        parse_lsn(log_end),
+        database,
+        standby,
+        postmaster_start(connection),
+        database_oid(connection),
+    )
 
 
 def database_oid(connection: Connection) -> int:
     """The OID of the connection's database, which stays when that is renamed."""
-    query = "SELECT d.oid FROM pg_catalog.pg_database d WHERE d.datname = pg_catalog.current_database()"
+    query = (
+        "SELECT d.oid FROM pg_catalog.pg_database d WHERE d.datname = pg_catalog.current_database()"
+    )
     return int(connection.value(query, QUICK) or 0)
 
 
 def is_same_database(name: str, noted: tuple[int, str] | None, server: Server) -> bool:
-    """Whether a database is the one that has this name in a checkpoint, or this OID where that was noted."""
+    """Whether a database is the one that has this name in a checkpoint, or this OID where that was
+    noted."""
     if noted and noted[0] and server.database_oid:
         return noted[0] == server.database_oid
     return name == server.database
@@ -102,7 +124,8 @@ def tell_version_1() -> None:
 
 @understood("its timelines")
 def left_at(connection: Connection, timeline: int, before: int) -> int | None:
-    """The LSN at which the server's timeline left another one; None where it doesn't come from that one."""
+    """The LSN at which the server's timeline left another one; None where it doesn't come from that
+    one."""
     history = connection.rows(f"TIMELINE_HISTORY {timeline}", QUICK)[0][1] or ""
     for line in history.splitlines():
         words = line.split("\t")
@@ -127,17 +150,25 @@ def slot_position(connection: Connection, slot: str) -> int | None:
     if plugin != "pgoutput" or is_ours != "t":
         raise Unfit(f"the slot {slot} is not one of pgoutput in this database")
     if is_two_phase == "t":
-        raise Unfit(f"the slot {slot} is one for two-phase commits, which aren't followed: make it without two_phase")
+        raise Unfit(
+            f"the slot {slot} is one for two-phase commits, which aren't followed: make it without two_phase"
+        )
     if position is None:
         raise ServerError(f"the slot {slot} is still being made", IN_USE)
     return int(position)
 
 
 def is_lost(connection: Connection, slot: str) -> bool:
-    """Whether the server has removed log that the slot needs, so that nothing can be read from it any more."""
-    return connection.version() >= 130000 and connection.value(
-        f"SELECT s.wal_status FROM pg_catalog.pg_replication_slots s WHERE s.slot_name = {literal(slot)}", QUICK
-    ) == "lost"
+    """Whether the server has removed log that the slot needs, so that nothing can be read from it
+    any more."""
+    return (
+        connection.version() >= 130000
+        and connection.value(
+            f"SELECT s.wal_status FROM pg_catalog.pg_replication_slots s WHERE s.slot_name = {literal(slot)}",
+            QUICK,
+        )
+        == "lost"
+    )
 
 
 @understood("wal_sender_timeout")
@@ -150,12 +181,16 @@ def sender_timeout(connection: Connection) -> float | None:
 
 
 def waits_for(standbys: str, name: str) -> bool:
-    """Whether commits at a server may wait for the standby with this name, where these are its synchronous_standby_names."""
-    names = {(quoted.replace('""', '"') or plain).lower() for quoted, plain in STANDBY.findall(standbys)}
+    """Whether commits at a server may wait for the standby with this name, where these are its
+    synchronous_standby_names."""
+    names = {
+        (quoted.replace('""', '"') or plain).lower() for quoted, plain in STANDBY.findall(standbys)
+    }
     return not names.isdisjoint({"*", name.lower()})
 
 
-# Where the log ends, how far it is on the disk, and how long its files are. Of a standby: how far it is replayed.
+# Where the log ends, how far it is on the disk, and how long its files are. Of a standby: how far
+# it is replayed.
 END = (
     "CASE WHEN pg_catalog.pg_is_in_recovery() THEN pg_catalog.pg_last_wal_replay_lsn()"
     " ELSE pg_catalog.pg_current_wal_insert_lsn() END,"
@@ -167,7 +202,8 @@ PAGE, SHORT_HEAD, LONG_HEAD = 8192, 24, 40
 
 
 def exact_end(end: int, flushed: int, segment: int) -> int:
-    """Where the log ends. At the end of a page the server tells the place behind the next page's head, which nothing ever reaches."""
+    """Where the log ends. At the end of a page the server tells the place behind the next page's
+    head, which nothing ever reaches."""
     head = LONG_HEAD if segment and flushed % segment == 0 else SHORT_HEAD
     return flushed if flushed % PAGE == 0 and end == flushed + head else end
 
@@ -181,8 +217,10 @@ def log_end(connection: Connection) -> int:
 
 @understood("its start")
 def postmaster_start(connection: Connection) -> int:
-    """When the server was started, in microseconds since 1970. A server that runs on loses nothing, whatever becomes of its timeline."""
+    """When the server was started, in microseconds since 1970. A server that runs on loses nothing,
+    whatever becomes of its timeline."""
     text = connection.value(
-        "SELECT (pg_catalog.date_part('epoch', pg_catalog.pg_postmaster_start_time()) * 1000000)::pg_catalog.int8", QUICK
+        "SELECT (pg_catalog.date_part('epoch', pg_catalog.pg_postmaster_start_time()) * 1000000)::pg_catalog.int8",
+        QUICK,
     )
     return int(text) if text else 0

@@ -19,6 +19,7 @@ from collections.abc import Iterable, Iterator
 from psycopg import pq
 
 from pgsub_feed import log
+
 from ..errors import ServerError, Unconnected, Unfit
 
 # What a connection goes by.

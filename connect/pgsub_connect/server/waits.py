@@ -1,4 +1,5 @@
-"""Tells what a new slot or a lock waits for: the server makes a slot once all transactions have ended that ran when it was asked for."""
+"""Tells what a new slot or a lock waits for: the server makes a slot once all transactions have
+ended that ran when it was asked for."""
 
 from __future__ import annotations
 
@@ -6,6 +7,7 @@ import time
 from collections.abc import Callable
 
 from pgsub_feed import log
+
 from ..errors import ServerError, understood
 from .connection import Check, Connection
 
@@ -30,10 +32,12 @@ def for_how_long(seconds: str | None) -> str:
 
 @understood("transactions")
 def running_texts(connection: Connection) -> list[str]:
-    """The oldest transactions that write. When one of another role began, only a role may see that reads all statistics."""
+    """The oldest transactions that write. When one of another role began, only a role may see that
+    reads all statistics."""
     rows = connection.rows(RUNNING)
     return [
-        f"the transaction of process {pid} ({user}, database {database}){for_how_long(age)}" for pid, user, database, age in rows
+        f"the transaction of process {pid} ({user}, database {database}){for_how_long(age)}"
+        for pid, user, database, age in rows
     ]
 
 
@@ -42,7 +46,8 @@ def prepared_texts(connection: Connection) -> list[str]:
     """The oldest prepared transactions, of any database."""
     rows = connection.rows(PREPARED)
     return [
-        f"the prepared transaction {gid} ({owner}, database {database}){for_how_long(age)}" for gid, owner, database, age in rows
+        f"the prepared transaction {gid} ({owner}, database {database}){for_how_long(age)}"
+        for gid, owner, database, age in rows
     ]
 
 
@@ -59,12 +64,16 @@ def slot_text(connection: Connection) -> str:
 
 @understood("locks")
 def what_blocks(connection: Connection, pid: int) -> str:
-    """Who has the locks for which another process of the server waits; "" where it waits for none."""
+    """Who has the locks for which another process of the server waits; "" where it waits for
+    none."""
     rows = connection.rows(
         f"SELECT a.pid, a.usename, a.datname, {SECONDS.format('a.xact_start')} FROM pg_catalog.pg_stat_activity a"
         f" WHERE a.pid = ANY (pg_catalog.pg_blocking_pids({pid})) ORDER BY a.xact_start LIMIT {MOST}"
     )
-    return "; ".join(f"process {other} ({user}, database {database}){for_how_long(age)}" for other, user, database, age in rows)
+    return "; ".join(
+        f"process {other} ({user}, database {database}){for_how_long(age)}"
+        for other, user, database, age in rows
+    )
 
 
 def lock_text(what: str, pid: int) -> Callable[[Connection], str]:
@@ -78,9 +87,12 @@ def lock_text(what: str, pid: int) -> Callable[[Connection], str]:
 
 
 class Waiting:
-    """Is asked each half second while something is waited for. `text` says what that is, "" where nothing is to be said."""
+    """Is asked each half second while something is waited for. `text` says what that is, "" where
+    nothing is to be said."""
 
-    def __init__(self, dsn: str, slot: str, check_stop: Check, text: Callable[[Connection], str] = slot_text) -> None:
+    def __init__(
+        self, dsn: str, slot: str, check_stop: Check, text: Callable[[Connection], str] = slot_text
+    ) -> None:
         self.dsn, self.slot, self.check_stop, self.text = dsn, slot, check_stop, text
         self.next = time.monotonic() + FIRST
 
@@ -90,7 +102,9 @@ class Waiting:
             return
         self.next = time.monotonic() + AGAIN
         try:
-            connection = Connection(self.dsn, name=f"{self.slot} status", quiet=True, check=self.check_stop)
+            connection = Connection(
+                self.dsn, name=f"{self.slot} status", quiet=True, check=self.check_stop
+            )
             try:
                 text = self.text(connection)
             finally:

@@ -11,9 +11,10 @@ import time
 from typing import TYPE_CHECKING
 
 from pgsub_feed import log
+
+from ..store.snapshot import NEW
 from .metrics import metrics_text
 from .progress import Progress
-from ..store.snapshot import NEW
 
 if TYPE_CHECKING:
     from ..commands.options import Options
@@ -26,13 +27,16 @@ FORGET = 60.0
 
 
 class Reporter(threading.Thread):
-    """Writes the files. It only shows what others say: of the main loop it shows when that was alive last."""
+    """Writes the files. It only shows what others say: of the main loop it shows when that was
+    alive last."""
 
     def __init__(self, options: Options, progress: Progress) -> None:
         super().__init__(daemon=True)
         self.options, self.progress = options, progress
         self.status = Replaced(options.status_file, options.mode) if options.status_file else None
-        self.metrics = Replaced(options.metrics_file, options.mode) if options.metrics_file else None
+        self.metrics = (
+            Replaced(options.metrics_file, options.mode) if options.metrics_file else None
+        )
         self.ended = threading.Event()
         self.rates = [(time.monotonic(), 0)]
 
@@ -50,7 +54,10 @@ class Reporter(threading.Thread):
 
     def rate(self) -> float:
         """Changes and copied rows a second."""
-        self.rates = [*self.rates[-RATE:], (time.monotonic(), self.progress.passed_changes + self.progress.copied_rows)]
+        self.rates = [
+            *self.rates[-RATE:],
+            (time.monotonic(), self.progress.passed_changes + self.progress.copied_rows),
+        ]
         (began, before), (now, after) = self.rates[0], self.rates[-1]
         return max(after - before, 0) / (now - began) if now > began else 0.0
 
@@ -59,19 +66,30 @@ class Reporter(threading.Thread):
         if self.status:
             self.status.write(json.dumps(self.progress.shown(self.rate(), now)) + "\n")
         if self.metrics:
-            self.metrics.write(metrics_text(self.progress, now, {"slot": self.options.slot, "store": self.options.store}))
+            self.metrics.write(
+                metrics_text(
+                    self.progress, now, {"slot": self.options.slot, "store": self.options.store}
+                )
+            )
 
 
 def program_version(program: str) -> str:
     """What the program `pgsub` says of itself, "" where it doesn't."""
     with contextlib.suppress(OSError, subprocess.SubprocessError):
-        done = subprocess.run([program, "--version"], stdin=subprocess.DEVNULL, capture_output=True, check=True, timeout=5)
+        done = subprocess.run(
+            [program, "--version"],
+            stdin=subprocess.DEVNULL,
+            capture_output=True,
+            check=True,
+            timeout=5,
+        )
         return done.stdout.decode(errors="replace").partition("\n")[0].strip()
     return ""
 
 
 class Replaced:
-    """A file that is replaced again and again. Why it can't be written is told once, and again where it is for another cause."""
+    """A file that is replaced again and again. Why it can't be written is told once, and again
+    where it is for another cause."""
 
     def __init__(self, path: str, mode: int) -> None:
         self.path, self.mode = path, mode
@@ -92,7 +110,8 @@ class Replaced:
 
 
 def replace(path: str, text: str, mode: int) -> None:
-    """Puts a file with this text and mode in the place of one that is there. Who reads it finds one of both as a whole."""
+    """Puts a file with this text and mode in the place of one that is there. Who reads it finds one
+    of both as a whole."""
     new = path + NEW
     with contextlib.suppress(FileNotFoundError):
         os.unlink(new)

@@ -5,22 +5,34 @@ from __future__ import annotations
 import os
 import time
 
+from pgsub_feed.texts import lsn_text
+
 from .. import VERSION
 from ..server import transport
+from ..server.session import waits_for
 from ..store.checkpoint import Counted
 from .lag import Lag
-from ..server.session import waits_for
-from pgsub_feed.texts import lsn_text
 
 # What a follower may be at.
 STATES = (
-    "starting", "copying", "opening the store", "connecting", "following", "copying the store", "adding a table", "repairing rows",
-    "waiting to connect again", "stopping", "stopped", "failed",
+    "starting",
+    "copying",
+    "opening the store",
+    "connecting",
+    "following",
+    "copying the store",
+    "adding a table",
+    "repairing rows",
+    "waiting to connect again",
+    "stopping",
+    "stopped",
+    "failed",
 )
 
 
 class Slot:
-    """What the server says of the slot; empty or None where its version doesn't say it, or hasn't yet."""
+    """What the server says of the slot; empty or None where its version doesn't say it, or hasn't
+    yet."""
 
     def __init__(self) -> None:
         self.wal_status = ""
@@ -30,7 +42,8 @@ class Slot:
 
 
 class Progress:
-    """What the follower sets, and what the thread that asks the server does. All times are in seconds since 1970."""
+    """What the follower sets, and what the thread that asks the server does. All times are in
+    seconds since 1970."""
 
     def __init__(self) -> None:
         self.state = "starting"
@@ -53,15 +66,18 @@ class Progress:
         self.adding: dict[str, str] = {}
         self.lag, self.slot = Lag(), Slot()
         self.last_message: float | None = None
-        # whether nothing of the session is read just now, so that it matters more what becomes of the slot
+        # whether nothing of the session is read just now, so that it matters more what becomes of
+        # the slot
         self.is_unread = False
-        # of the session's server: when it was started, whether it was a standby then, and whether it was promoted since
+        # of the session's server: when it was started, whether it was a standby then, and whether
+        # it was promoted since
         self.server_started = 0
         self.is_standby = self.was_promoted = False
         # the session's name at the server, and whether commits there may wait for it
         self.name, self.is_waited_for = "", False
-        # of the feed: how many bytes its segments have, None where there is no feed, and the LSN of each reader; what ended the
-        # tables that follow it, and which of them are set aside, and why
+        # of the feed: how many bytes its segments have, None where there is no feed, and the LSN of
+        # each reader; what ended the tables that follow it, and which of them are set aside, and
+        # why
         self.feed_bytes: int | None = None
         self.readers: dict[str, int] = {}
         self.tables_error = ""
@@ -79,7 +95,8 @@ class Progress:
         self.lag.confirmed = confirmed
 
     def note_standbys(self, standbys: str) -> bool:
-        """Notes what was just read of a server's synchronous_standby_names. Returns whether commits may wait."""
+        """Notes what was just read of a server's synchronous_standby_names. Returns whether commits
+        may wait."""
         self.is_waited_for = self.is_waited_for or bool(standbys) and waits_for(standbys, self.name)
         return self.is_waited_for
 
@@ -145,11 +162,15 @@ class Progress:
         return {name: value for name, value in shown.items() if value is not None}
 
     def lag_of(self, reader: int) -> int:
-        """How much of the server's log is between what a reader has and the store's position, in bytes."""
+        """How much of the server's log is between what a reader has and the store's position, in
+        bytes."""
         return max(self.position - reader, 0)
 
     def shown_readers(self) -> dict[str, object]:
-        return {name: {"lsn": lsn_text(lsn), "lag_bytes": self.lag_of(lsn)} for name, lsn in sorted(self.readers.items())}
+        return {
+            name: {"lsn": lsn_text(lsn), "lag_bytes": self.lag_of(lsn)}
+            for name, lsn in sorted(self.readers.items())
+        }
 
     def shown_missing(self) -> dict[str, object]:
         """The status file's fields of changes that found no row."""

@@ -1,1 +1,2 @@
-"""The files of a store: its rows at rest, copies for readers, exports, and the checkpoint beside it."""
+"""The files of a store: its rows at rest, copies for readers, exports, and the checkpoint beside
+it."""

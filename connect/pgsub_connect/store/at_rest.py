@@ -1,4 +1,5 @@
-"""A store's file at rest, for whoever reads it: where the store is followed, a copy that its follower is asked for."""
+"""A store's file at rest, for whoever reads it: where the store is followed, a copy that its
+follower is asked for."""
 
 from __future__ import annotations
 
@@ -15,33 +16,37 @@ from collections.abc import Iterator
 from typing import Any
 
 from pgsub_feed import log
-from .checkpoint import has_name
-from ..errors import FileError, Passing
 from pgsub_feed.json_texts import Unreadable, object_of, parsed, read_plain
 from pgsub_feed.ownership import give, real
+
+from ..errors import FileError, Passing
 from ..server.connection import Check
+from .checkpoint import has_name
 from .snapshot import LOG, NEW, OF_FILE, copy, fold, part_of, remove
 
 # Where SQLite, and so the program, locks a file: the bytes of its readers.
 SHARED_FIRST, SHARED_SIZE = 0x40000002, 510
-# How long a follower may take until it begins to copy, in seconds, and how often it is looked after.
+# How long a follower may take until it begins to copy, in seconds, and how often it is looked
+# after.
 PATIENCE = 300.0
 LOOK = 0.1
 # What SQLite says of a disk that is full.
 FULL = "is full"
 # After how many seconds a file that a killed process has left is removed.
 STALE = 3600.0
-# What a file that a process makes for itself has in its name behind another one's: its id, as nobody else names files. Beside it there
-# may be such a file again, the parts of a request, and what SQLite makes.
+# What a file that a process makes for itself has in its name behind another one's: its id, as
+# nobody else names files. Beside it there may be such a file again, the parts of a request, and
+# what SQLite makes.
 OWN = r"\.pgsub-([0-9]+)(?:(?:\.copied)?\.pgsub-[0-9]+)?(?:\.pgsub-new|\.request|\.changes)?(?:-wal|-shm|-journal)?"
 
 
 @contextlib.contextmanager
 def at_rest(store: str, beside: str, check: Check) -> Iterator[tuple[str, bool]]:
-    """Gives a file with the rows of a store that nobody writes meanwhile, and whether it is a copy, which goes afterwards.
+    """Gives a file with the rows of a store that nobody writes meanwhile, and whether it is a copy,
+    which goes afterwards.
 
-    The follower of a running store makes the copy in the store's folder. Where none runs, the store's own file is held; only one
-    whose log isn't empty is copied, to a name beside `beside`.
+    The follower of a running store makes the copy in the store's folder. Where none runs, the
+    store's own file is held; only one whose log isn't empty is copied, to a name beside `beside`.
     """
     check_there(store)
     with contextlib.ExitStack() as stack:
@@ -73,7 +78,8 @@ def at_rest(store: str, beside: str, check: Check) -> Iterator[tuple[str, bool]]
 
 
 def failed(error: sqlite3.Error, told: str) -> FileError | Passing:
-    """What ends it where SQLite can't read or write files, which are told: a disk that is full may have room later."""
+    """What ends it where SQLite can't read or write files, which are told: a disk that is full may
+    have room later."""
     text = f"{told}: {error}"
     return Passing(text) if FULL in str(error) else FileError(text)
 
@@ -84,12 +90,15 @@ def check_there(store: str) -> None:
     if os.path.exists(store):
         raise FileError(f"{store}: not a file")
     if os.path.exists(part_of(store)):
-        raise Passing(f"there is no store {store} yet: its first rows are being copied, or their copy was interrupted")
+        raise Passing(
+            f"there is no store {store} yet: its first rows are being copied, or their copy was interrupted"
+        )
     raise FileError(f"there is no store {store}")
 
 
 def has_log(store: str) -> bool:
-    """Whether a killed program has left rows that aren't in the file yet. (The log is beside the file, whatever links to that.)"""
+    """Whether a killed program has left rows that aren't in the file yet. (The log is beside the
+    file, whatever links to that.)"""
     try:
         return os.stat(real(store) + LOG).st_size > 0
     except FileNotFoundError:
@@ -97,7 +106,8 @@ def has_log(store: str) -> bool:
 
 
 def locked_checkpoint(store: str) -> int | None:
-    """An open file that keeps connectors from starting on this store. None where one is at work, or its filter."""
+    """An open file that keeps connectors from starting on this store. None where one is at work, or
+    its filter."""
     path = store + ".connector"
     try:
         file = os.open(path, os.O_RDONLY | os.O_NONBLOCK | os.O_CLOEXEC)
@@ -106,7 +116,8 @@ def locked_checkpoint(store: str) -> int | None:
         return os.open(os.devnull, os.O_RDONLY | os.O_CLOEXEC)
     except OSError as error:
         if error.errno == errno.EACCES and os.stat(path).st_uid != os.geteuid():
-            # (of another account, whose files may be read: the lock of the store's own file is what is left)
+            # (of another account, whose files may be read: the lock of the store's own file is what
+            # is left)
             return os.open(os.devnull, os.O_RDONLY | os.O_CLOEXEC)
         raise FileError(f"{path}: {error.strerror}") from None
     try:
@@ -122,7 +133,8 @@ def locked_checkpoint(store: str) -> int | None:
 
 
 def hold(store: str) -> int:
-    """Opens a store's file and locks it as a reader, so that no `pgsub` opens it. Raises where one has it open.
+    """Opens a store's file and locks it as a reader, so that no `pgsub` opens it. Raises where one
+    has it open.
 
     The lock is one of the open file: SQLite in this process may open and close the same file.
     """
@@ -131,7 +143,11 @@ def hold(store: str) -> int:
     except OSError as error:
         raise FileError(f"{store}: {error.strerror}") from None
     try:
-        fcntl.fcntl(file, fcntl.F_OFD_SETLK, struct.pack("hhqqi4x", fcntl.F_RDLCK, os.SEEK_SET, SHARED_FIRST, SHARED_SIZE, 0))
+        fcntl.fcntl(
+            file,
+            fcntl.F_OFD_SETLK,
+            struct.pack("hhqqi4x", fcntl.F_RDLCK, os.SEEK_SET, SHARED_FIRST, SHARED_SIZE, 0),
+        )
     except OSError as error:
         os.close(file)
         if error.errno in (errno.EAGAIN, errno.EACCES):
@@ -142,7 +158,8 @@ def hold(store: str) -> int:
 
 
 def ask(store: str, check: Check) -> str | None:
-    """Asks the follower for a copy by the request file, and waits for it. Returns None where the follower has ended."""
+    """Asks the follower for a copy by the request file, and waits for it. Returns None where the
+    follower has ended."""
     request, into = store + ".request", os.path.abspath(own_name(store + ".export"))
     try:
         file = put_request(store, request, into, check)
@@ -159,7 +176,8 @@ def ask(store: str, check: Check) -> str | None:
 
 
 def put_request(store: str, request: str, into: str, check: Check, **more: object) -> int | None:
-    """Makes the request's file, after those of others. Returns it, open and locked; None where the follower has ended meanwhile."""
+    """Makes the request's file, after those of others. Returns it, open and locked; None where the
+    follower has ended meanwhile."""
     written = into + ".request"
     remove(written)
     file = os.open(written, os.O_WRONLY | os.O_CREAT | os.O_EXCL | os.O_CLOEXEC, 0o600)
@@ -178,7 +196,8 @@ def put_request(store: str, request: str, into: str, check: Check, **more: objec
 
 
 def link_request(store: str, written: str, request: str, check: Check) -> bool:
-    """Gives a file the request's name, after those of others. Returns false where the follower has ended meanwhile."""
+    """Gives a file the request's name, after those of others. Returns false where the follower has
+    ended meanwhile."""
     until = time.monotonic() + PATIENCE
     while is_followed(store):
         with contextlib.suppress(FileExistsError):
@@ -189,7 +208,9 @@ def link_request(store: str, written: str, request: str, check: Check) -> bool:
             remove(request)
             continue
         if time.monotonic() > until:
-            raise Passing(f"{request}: another request waits for the follower since {PATIENCE:.0f} seconds")
+            raise Passing(
+                f"{request}: another request waits for the follower since {PATIENCE:.0f} seconds"
+            )
         check()
         time.sleep(LOOK)
     return False
@@ -217,7 +238,9 @@ def wait_for_copy(store: str, request: str, into: str, check: Check) -> bool:
             remove_files(into)
             return False
         if time.monotonic() > until and not os.path.exists(into + NEW):
-            raise Passing(f"{store}: its follower hasn't begun to copy it in {PATIENCE:.0f} seconds")
+            raise Passing(
+                f"{store}: its follower hasn't begun to copy it in {PATIENCE:.0f} seconds"
+            )
         check()
         time.sleep(LOOK)
 
@@ -225,7 +248,9 @@ def wait_for_copy(store: str, request: str, into: str, check: Check) -> bool:
 def check_copied(into: str) -> None:
     """Rejects what isn't the follower's copy, but a link to some other file."""
     if os.path.islink(into):
-        raise FileError(f"{into}: a link in the place of a copy: the store's folder has to be its account's alone")
+        raise FileError(
+            f"{into}: a link in the place of a copy: the store's folder has to be its account's alone"
+        )
 
 
 def is_followed(store: str) -> bool:
@@ -244,19 +269,24 @@ def read_request(path: str) -> dict[str, Any]:
 
 
 def own_files(path: str) -> re.Pattern[str]:
-    """The names of the files that processes make for themselves beside this one, and of what is made beside those; the first group has
-    the process's id."""
+    """The names of the files that processes make for themselves beside this one, and of what is
+    made beside those; the first group has the process's id."""
     return re.compile(re.escape(os.path.basename(path)) + OWN)
 
 
 def own_name(path: str) -> str:
-    """A name for a file of this process alone. What killed processes have left under such a name goes."""
+    """A name for a file of this process alone. What killed processes have left under such a name
+    goes."""
     pattern = own_files(path)
     for entry in os.scandir(os.path.dirname(os.path.abspath(path))):
         found = pattern.fullmatch(entry.name)
         # (a number may be none of a process)
         with contextlib.suppress(OSError, OverflowError):
-            if found and not is_alive(int(found[1])) and time.time() - entry.stat().st_mtime > STALE:
+            if (
+                found
+                and not is_alive(int(found[1]))
+                and time.time() - entry.stat().st_mtime > STALE
+            ):
                 os.unlink(entry.path)
     return f"{path}.pgsub-{os.getpid()}"
 

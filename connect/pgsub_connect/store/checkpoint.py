@@ -1,8 +1,10 @@
-"""What is known of a store from one run to the next, in a file beside it, and what a start concludes from it.
+"""What is known of a store from one run to the next, in a file beside it, and what a start
+concludes from it.
 
-The file is `STORE.connector`: two lines that are written in turns, as the module `checkpoint_lines` says. It is locked as long as a
-connector or a filter that it started is alive, so that a filter of a killed connector can end its commit before the next one opens the
-store. It is its owner's alone whatever mode was asked for, since whoever can open a file can lock it.
+The file is `STORE.connector`: two lines that are written in turns, as the module `checkpoint_lines`
+says. It is locked as long as a connector or a filter that it started is alive, so that a filter of
+a killed connector can end its commit before the next one opens the store. It is its owner's alone
+whatever mode was asked for, since whoever can open a file can lock it.
 
 What is known of the store:
 
@@ -19,8 +21,8 @@ What is known of the store:
 | `adding` | where there are any: the OIDs of tables whose changes are left out until their rows are stored, as the module `replacing` says, each with the LSN at which these will be, 0 where that isn't known |
 | `encrypted` | connections were encrypted, so that none follows that isn't, unless somebody accepts it |
 
-What is counted of changes that found no row. Where an earlier version of this program has counted none, they are from the store's
-position on then.
+What is counted of changes that found no row. Where an earlier version of this program has counted
+none, they are from the store's position on then.
 
 | Field | Means |
 |---|---|
@@ -41,15 +43,26 @@ import time
 from typing import Any
 
 from pgsub_feed import log
-from .checkpoint_lines import COPIED as COPIED, COPYING as COPYING, Counted as Counted, FOLLOWING as FOLLOWING, Known as Known, NEW as NEW, SIZE as SIZE, SLOT as SLOT, TEXT, line_of, padded, read_file
-from ..errors import FileError, Passing, Unfit
 from pgsub_feed.json_texts import GREATEST
-from ..server.connection import Check, never
 from pgsub_feed.texts import lsn_text
+
+from ..errors import FileError, Passing, Unfit
+from ..server.connection import Check, never
+from .checkpoint_lines import COPIED as COPIED
+from .checkpoint_lines import COPYING as COPYING
+from .checkpoint_lines import FOLLOWING as FOLLOWING
+from .checkpoint_lines import NEW as NEW
+from .checkpoint_lines import SIZE as SIZE
+from .checkpoint_lines import SLOT as SLOT
+from .checkpoint_lines import TEXT
+from .checkpoint_lines import Counted as Counted
+from .checkpoint_lines import Known as Known
+from .checkpoint_lines import line_of, padded, read_file
 
 MODE = 0o600
 PATIENCE = 60
-# What stands before the two positions in what is known, and between them. (In a text of it each of its quotes has a backslash.)
+# What stands before the two positions in what is known, and between them. (In a text of it each of
+# its quotes has a backslash.)
 BEFORE, BETWEEN = '"confirmed":', ',"position":'
 # The kind of what is found by changes that found no row.
 MISSING = "missing"
@@ -62,7 +75,8 @@ class Checkpoint:
 
     def __init__(self, store: str, check: Check = never) -> None:
         self.path = store + ".connector"
-        # what stands around the two positions in what is known, as long as nothing else of it changes
+        # what stands around the two positions in what is known, as long as nothing else of it
+        # changes
         self.around: tuple[str, str] | None = None
         self.file = self.opened()
         try:
@@ -96,13 +110,16 @@ class Checkpoint:
             if time.monotonic() >= until:
                 raise Passing(f"{self.path}: another process follows into this store")
             if not told:
-                log.info(f"another connector or its filter still has the store: waiting up to {PATIENCE} seconds")
+                log.info(
+                    f"another connector or its filter still has the store: waiting up to {PATIENCE} seconds"
+                )
                 told = True
             check()
             time.sleep(0.2)
 
     def has_locked(self) -> bool:
-        """Locks the file. One that was removed since it was opened, as by `drop`, is no use: another one is opened in its place."""
+        """Locks the file. One that was removed since it was opened, as by `drop`, is no use:
+        another one is opened in its place."""
         try:
             fcntl.flock(self.file, fcntl.LOCK_EX | fcntl.LOCK_NB)
         except BlockingIOError:
@@ -131,17 +148,23 @@ class Checkpoint:
         self.put_line(durably, spelled(known), counted)
         self.known, self.around = known, None
 
-    def put_positions(self, durably: bool, confirmed: int, position: int, counted: Counted | None) -> None:
-        """Writes the positions. It is done for most of the statuses, so what stands around them isn't made anew each time."""
+    def put_positions(
+        self, durably: bool, confirmed: int, position: int, counted: Counted | None
+    ) -> None:
+        """Writes the positions. It is done for most of the statuses, so what stands around them
+        isn't made anew each time."""
         head, tail = self.around = self.around or around_positions(self.known)
         self.put_line(durably, f"{head}{confirmed}{BETWEEN}{position}{tail}", counted)
         self.known.confirmed, self.known.position = confirmed, position
 
     def put_line(self, durably: bool, known: str, counted: Counted | None) -> None:
-        """Writes a line over the one that the disk needn't have: so a power cut leaves one that is whole, whatever becomes of this."""
+        """Writes a line over the one that the disk needn't have: so a power cut leaves one that is
+        whole, whatever becomes of this."""
         line, at = line_of(self.number + 1, known, counted), 1 - self.durable
         if len(line) >= SIZE:
-            raise FileError(f"{self.path}: {len(line)} bytes are too long for a checkpoint: `--accept` what was found, or copy anew")
+            raise FileError(
+                f"{self.path}: {len(line)} bytes are too long for a checkpoint: `--accept` what was found, or copy anew"
+            )
         try:
             os.pwrite(self.file, padded(line), at * SIZE)
             if durably:
@@ -158,17 +181,22 @@ class Checkpoint:
     def forget_server(self) -> None:
         """Forgets whose changes the store holds, and how far it was."""
         known = self.known
-        self.known = Known(found=known.found, skipped=known.skipped, adding=known.adding, encrypted=known.encrypted)
+        self.known = Known(
+            found=known.found, skipped=known.skipped, adding=known.adding, encrypted=known.encrypted
+        )
 
     def note(self, confirmed: int, position: int) -> None:
         """Notes what is about to be confirmed to the server, before it is.
 
-        What lies above the store's position is known from a keepalive alone, and the next start can't see it in the store.
-        So that has to outlast a power cut. The rest is in the store itself.
+        What lies above the store's position is known from a keepalive alone, and the next start
+        can't see it in the store. So that has to outlast a power cut. The rest is in the store
+        itself.
         """
         known, counted = self.known, self.counted
         if counted and counted.upto != position:
-            counted = Counted(counted.since, position, counted.count, counted.first, counted.relation, counted.gap)
+            counted = Counted(
+                counted.since, position, counted.count, counted.first, counted.relation, counted.gap
+            )
         confirmed, position = max(confirmed, known.confirmed), max(position, known.position)
         if (confirmed, position, counted) != (known.confirmed, known.position, self.counted):
             durably = confirmed > position and confirmed > known.confirmed
@@ -177,14 +205,16 @@ class Checkpoint:
     def begin_counting(self, position: int, accepts: bool) -> bool:
         """Notes durably that a filter counts from this position of its store on.
 
-        Where it was counted up to less, a filter had stored commits and was killed before it was noted what they found. Returns whether
-        so, unless that is accepted.
+        Where it was counted up to less, a filter had stored commits and was killed before it was
+        noted what they found. Returns whether so, unless that is accepted.
         """
         before = self.counted or Counted(position, position)
         gap = before.gap
         if is_found := position > before.upto and not accepts:
             gap = (min(before.upto, *gap) if gap else before.upto, position)
-        counted = dataclasses.replace(before, since=min(before.since, position), upto=position, gap=gap)
+        counted = dataclasses.replace(
+            before, since=min(before.since, position), upto=position, gap=gap
+        )
         if counted != self.counted:
             self.put(True, self.known, counted)
         return is_found
@@ -195,7 +225,11 @@ class Checkpoint:
         if not counted.count:
             counted = dataclasses.replace(counted, first=first, relation=relation)
         counted = dataclasses.replace(counted, count=counted.count + more, upto=position)
-        self.put(True, dataclasses.replace(self.known, position=max(position, self.known.position)), counted)
+        self.put(
+            True,
+            dataclasses.replace(self.known, position=max(position, self.known.position)),
+            counted,
+        )
 
     def findings(self) -> dict[str, str]:
         """All kinds of what was found, each with the LSN at which it was found first."""
@@ -207,14 +241,16 @@ class Checkpoint:
         return found
 
     def note_found(self, kind: str, lsn: int) -> bool:
-        """Notes durably that something was found. Returns whether nothing of this kind was known yet."""
+        """Notes durably that something was found. Returns whether nothing of this kind was known
+        yet."""
         if kind in self.known.found:
             return False
         self.write(True, found={**self.known.found, kind: lsn_text(lsn)})
         return True
 
     def adding(self) -> dict[int, int]:
-        """The tables that are being added, each with the LSN at which its rows are stored, 0 where that isn't known."""
+        """The tables that are being added, each with the LSN at which its rows are stored, 0 where
+        that isn't known."""
         return {int(oid): lsn for oid, lsn in self.known.adding.items()}
 
     def write_adding(self, adding: dict[int, int]) -> None:
@@ -226,14 +262,27 @@ class Checkpoint:
         """Whether one more table can be noted, whatever else the file will say."""
         most = GREATEST
         known = dataclasses.replace(
-            self.known, adding={**self.known.adding, str(oid): most}, found=dict.fromkeys({*self.known.found, *KINDS}, lsn_text(most)),
-            confirmed=most, position=most, skipped=lsn_text(most), timeline=(1 << 32) - 1, started=most,
+            self.known,
+            adding={**self.known.adding, str(oid): most},
+            found=dict.fromkeys({*self.known.found, *KINDS}, lsn_text(most)),
+            confirmed=most,
+            position=most,
+            skipped=lsn_text(most),
+            timeline=(1 << 32) - 1,
+            started=most,
         )
-        return len(line_of(most, spelled(known), Counted(most, most, most, most, most, (most, most)))) < SIZE
+        return (
+            len(line_of(most, spelled(known), Counted(most, most, most, most, most, (most, most))))
+            < SIZE
+        )
 
     def accept(self, kinds: list[str]) -> None:
         """Forgets what was found of these kinds."""
-        left = {kind: lsn for kind, lsn in self.known.found.items() if kind not in kinds and "all" not in kinds}
+        left = {
+            kind: lsn
+            for kind, lsn in self.known.found.items()
+            if kind not in kinds and "all" not in kinds
+        }
         counted = self.counted
         if counted and {MISSING, "all"} & set(kinds):
             counted = Counted(counted.since, counted.upto)
@@ -261,18 +310,26 @@ def around_positions(known: Known) -> tuple[str, str]:
 
 
 def check_gap(known: Known, position: int, slot_at: int) -> None:
-    """Checks that no commit with changes lies between the store's position and what the slot sends next.
+    """Checks that no commit with changes lies between the store's position and what the slot sends
+    next.
 
-    Of a store without this file nobody knows from which server its rows are; that one's positions may be beyond this one's.
-    The slot is ahead of the position of a good store where a keepalive moved it there: then this file says so. It is ahead of
-    a store that was put back from a backup too, or where somebody else read from the slot or made it anew.
+    Of a store without this file nobody knows from which server its rows are; that one's positions
+    may be beyond this one's. The slot is ahead of the position of a good store where a keepalive
+    moved it there: then this file says so. It is ahead of a store that was put back from a backup
+    too, or where somebody else read from the slot or made it anew.
     """
     if known.phase == NEW and position > 0:
-        raise Unfit(f"nothing is known of where the store at {lsn_text(position)} is from: its checkpoint isn't there")
+        raise Unfit(
+            f"nothing is known of where the store at {lsn_text(position)} is from: its checkpoint isn't there"
+        )
     if slot_at <= position:
         return
     gap = f"the store is at {lsn_text(position)} and the slot at {lsn_text(slot_at)}: changes between may be missing"
     if position < known.position:
-        raise Unfit(f"{gap}; the store was at {lsn_text(known.position)} before, so this is an older one")
+        raise Unfit(
+            f"{gap}; the store was at {lsn_text(known.position)} before, so this is an older one"
+        )
     if slot_at > known.confirmed:
-        raise Unfit(f"{gap}; up to {lsn_text(known.confirmed)} was confirmed from here, so somebody else moved the slot")
+        raise Unfit(
+            f"{gap}; up to {lsn_text(known.confirmed)} was confirmed from here, so somebody else moved the slot"
+        )

@@ -27,8 +27,19 @@ import re
 import zlib
 from typing import Any, NamedTuple
 
+from pgsub_feed.json_texts import (
+    Unreadable,
+    flag_of,
+    list_of,
+    lsn_of,
+    object_of,
+    oid_of,
+    parsed,
+    text_of,
+    whole_of,
+)
+
 from ..errors import FileError
-from pgsub_feed.json_texts import Unreadable, flag_of, list_of, lsn_of, object_of, oid_of, parsed, text_of, whole_of
 
 VERSION, SIZE, OLD_SIZE = 2, 4096, 512
 TEXT = json.JSONEncoder(separators=(",", ":"))

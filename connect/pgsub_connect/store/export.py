@@ -17,17 +17,18 @@ from collections.abc import Callable, Collection, Iterable, Iterator, Mapping, S
 from typing import TYPE_CHECKING
 
 from pgsub_feed import log
-from ..server.catalog import Column, Shape
-from ..errors import FileError, Passing, Stopped, Unfit
 from pgsub_feed.tables.names import OLD, POSITION, TABLES, name_columns, name_tables, names_of
-from .placing import check_into, placed
-from ..server.connection import Check
-from .primary_key import primary_key
+from pgsub_feed.tables.values import Malformed, Read, Unlike, Value, kind_of, read_row
+from pgsub_feed.texts import counted, identifier, lsn_text
+
 from ..drift.remembered import Relation, Remembered
+from ..errors import FileError, Passing, Stopped, Unfit
+from ..server.catalog import Column, Shape
+from ..server.connection import Check
 from .at_rest import at_rest, failed
 from .file import APPLICATION, check_store, choose, is_export, opened, read_position, read_relations
-from pgsub_feed.texts import counted, identifier, lsn_text
-from pgsub_feed.tables.values import Malformed, Read, Unlike, Value, kind_of, read_row
+from .placing import check_into, placed
+from .primary_key import primary_key
 
 if TYPE_CHECKING:
     from ..commands.options import Options
@@ -38,7 +39,8 @@ OLDEST = (3, 37, 0)
 ROOM = 1 << 20
 # What a row takes beside its bytes.
 ROW = 200
-# How many copies of a row are written, and how many steps SQLite makes, until it is asked whether to end.
+# How many copies of a row are written, and how many steps SQLite makes, until it is asked whether
+# to end.
 LOT, STEPS = 10000, 1_000_000
 # The column of a table that has none, since SQLite has no such tables.
 NONE = Column("pgsub_none", 25, -1, False)
@@ -81,29 +83,53 @@ class Target:
         return ", ".join(self.columns[at] for at in self.key)
 
     def definition(self) -> str:
-        parts = [f"{column} {kind}" for column, (kind, _, _) in zip(self.columns, self.kinds, strict=True)]
+        parts = [
+            f"{column} {kind}"
+            for column, (kind, _, _) in zip(self.columns, self.kinds, strict=True)
+        ]
         parts += [f"PRIMARY KEY ({self.keys()})"] if self.is_keyed else []
         return f"CREATE TABLE {identifier(self.name)} ({', '.join(parts)}) STRICT"
 
     def insertion(self) -> str:
         # (a text comes as its bytes)
-        values = (f"CAST(?{at} AS TEXT)" if kind == "TEXT" else f"?{at}" for at, (kind, _, _) in enumerate(self.kinds, 1))
+        values = (
+            f"CAST(?{at} AS TEXT)" if kind == "TEXT" else f"?{at}"
+            for at, (kind, _, _) in enumerate(self.kinds, 1)
+        )
         return f"INSERT INTO {identifier(self.name)} VALUES ({', '.join(values)})"
 
     def row(self, values: list[Value]) -> list[Bound]:
-        """A row's values as SQLite takes them: what is no number in a column of floats is a text."""
+        """A row's values as SQLite takes them: what is no number in a column of floats is a
+        text."""
         kinds = self.kinds
-        return [it.decode() if isinstance(it, bytes) and kinds[at][0] == "ANY" else it for at, it in enumerate(values)]
+        return [
+            it.decode() if isinstance(it, bytes) and kinds[at][0] == "ANY" else it
+            for at, it in enumerate(values)
+        ]
 
     def has_null_key(self, values: list[Bound]) -> bool:
         return self.is_keyed and any(values[at] is None for at in self.key)
 
 
 class Export:
-    """Fills a new file, in one transaction and constant memory: nothing was there that would be kept for going back."""
+    """Fills a new file, in one transaction and constant memory: nothing was there that would be
+    kept for going back."""
 
-    def __init__(self, store: sqlite3.Connection, into: sqlite3.Connection, is_text: bool, check: Check, names: Sequence[str]) -> None:
-        self.store, self.into, self.is_text, self.check, self.names = store, into, is_text, check, names
+    def __init__(
+        self,
+        store: sqlite3.Connection,
+        into: sqlite3.Connection,
+        is_text: bool,
+        check: Check,
+        names: Sequence[str],
+    ) -> None:
+        self.store, self.into, self.is_text, self.check, self.names = (
+            store,
+            into,
+            is_text,
+            check,
+            names,
+        )
         self.waiting = 0
 
     def run(self, remembered: Remembered) -> tuple[int, int, int]:
@@ -123,7 +149,12 @@ class Export:
     ) -> None:
         """Makes the tables, with these primary keys by their OIDs."""
         into = self.into
-        for pragma in ("journal_mode = MEMORY", "synchronous = OFF", "cache_size = -8000", f"application_id = {APPLICATION}"):
+        for pragma in (
+            "journal_mode = MEMORY",
+            "synchronous = OFF",
+            "cache_size = -8000",
+            f"application_id = {APPLICATION}",
+        ):
             into.execute(f"PRAGMA {pragma}")
         into.execute("BEGIN")
         into.execute(f"CREATE TABLE {POSITION} (lsn TEXT NOT NULL) STRICT")
@@ -144,7 +175,9 @@ class Export:
 
     def copy_rows(self, stored: dict[int, Relation]) -> None:
         """Copies all rows, in the order in which the store's file has them."""
-        for oid, body, copies in self.store.execute("SELECT oid, body, copies FROM held NOT INDEXED"):
+        for oid, body, copies in self.store.execute(
+            "SELECT oid, body, copies FROM held NOT INDEXED"
+        ):
             target = self.targets.get(oid)
             if target is None:
                 if oid not in stored:
@@ -159,7 +192,9 @@ class Export:
         for target in self.targets.values():
             if target.key and not target.is_keyed:
                 index = identifier(key_index(target.relation.oid))
-                self.into.execute(f"CREATE INDEX {index} ON {identifier(target.name)} ({target.keys()})")
+                self.into.execute(
+                    f"CREATE INDEX {index} ON {identifier(target.name)} ({target.keys()})"
+                )
 
     def values(self, target: Target, body: bytes) -> list[Bound]:
         if NONE in target.relation.shape.columns:
@@ -167,7 +202,9 @@ class Export:
         try:
             return target.row(read_row(body, target.kinds))
         except Unlike as unlike:
-            raise Unfit(f"{unlike_text(target.relation, unlike)}. Copy anew, or export each value as a text by --text") from None
+            raise Unfit(
+                f"{unlike_text(target.relation, unlike)}. Copy anew, or export each value as a text by --text"
+            ) from None
 
     def write(self) -> None:
         """Writes the rows that wait."""
@@ -187,16 +224,23 @@ class Export:
         except sqlite3.IntegrityError:
             done = self.into.total_changes - before
             self.loosen(target)
-            self.into.executemany(target.insertion(), itertools.islice(repeated(waiting, self.check), done, None))
+            self.into.executemany(
+                target.insertion(), itertools.islice(repeated(waiting, self.check), done, None)
+            )
         target.rows += sum(copies for _, copies in waiting)
 
     def loosen(self, target: Target) -> None:
-        """Makes a table anew whose key can't be a primary key: a row has null there, or two have equal values."""
-        log.warning(f"{target.text()}: rows have null in the key, or equal keys: the table has an index in place of a primary key")
+        """Makes a table anew whose key can't be a primary key: a row has null there, or two have
+        equal values."""
+        log.warning(
+            f"{target.text()}: rows have null in the key, or equal keys: the table has an index in place of a primary key"
+        )
         target.is_keyed = False
         self.into.execute(f"ALTER TABLE {identifier(target.name)} RENAME TO {OLD}")
         self.into.execute(target.definition())
-        self.into.execute(f"INSERT INTO {identifier(target.name)} SELECT * FROM {OLD} ORDER BY rowid")
+        self.into.execute(
+            f"INSERT INTO {identifier(target.name)} SELECT * FROM {OLD} ORDER BY rowid"
+        )
         self.into.execute(f"DROP TABLE {OLD}")
 
 
@@ -259,29 +303,40 @@ def run(options: Options, check: Check) -> int:
     """Exports a store, or a copy of one; the exit status."""
     if sqlite3.sqlite_version_info < OLDEST:
         wanted = ".".join(map(str, OLDEST[:2]))
-        raise FileError(f"SQLite {wanted} or later is needed for STRICT tables, and this is {sqlite3.sqlite_version}")
+        raise FileError(
+            f"SQLite {wanted} or later is needed for STRICT tables, and this is {sqlite3.sqlite_version}"
+        )
     check_into(options.store, options.into, is_export, "an export")
     try:
-        with at_rest(options.store, options.into, check) as (path, _), placed(options.into, options.mode) as new:
+        with at_rest(options.store, options.into, check) as (path, _), placed(
+            options.into, options.mode
+        ) as new:
             check_store(path, options.store)
             done = export(path, new, options, check)
     except Stopped:
         raise Passing(f"ended before {options.into} was complete") from None
     position, tables, rows = done
-    log.info(f"{options.into}: {counted(tables, 'table')}, {counted(rows, 'row')} at {lsn_text(position)}")
+    log.info(
+        f"{options.into}: {counted(tables, 'table')}, {counted(rows, 'row')} at {lsn_text(position)}"
+    )
     return 0
 
 
 def export(path: str, new: str, options: Options, check: Check) -> tuple[int, int, int]:
-    """Exports a file at rest into a new one. What is remembered of the publications lies beside the store."""
+    """Exports a file at rest into a new one. What is remembered of the publications lies beside the
+    store."""
     remembered = Remembered(options.store)
     try:
-        with contextlib.closing(opened(path)) as store, contextlib.closing(sqlite3.connect(new, isolation_level=None)) as into:
+        with contextlib.closing(opened(path)) as store, contextlib.closing(
+            sqlite3.connect(new, isolation_level=None)
+        ) as into:
             for db in (store, into):
                 db.set_progress_handler(stop(check), STEPS)
             return Export(store, into, options.text, check, options.table).run(remembered)
     except Malformed:
-        raise FileError(f"{options.store}: a malformed row or definition: the disk, or another program, has spoiled the file") from None
+        raise FileError(
+            f"{options.store}: a malformed row or definition: the disk, or another program, has spoiled the file"
+        ) from None
     except sqlite3.Error as error:
         # (the end may have been asked for)
         check()

@@ -1,4 +1,5 @@
-"""What a store's file holds: position, definitions and rows. docs/ARCHITECTURE.md describes the file."""
+"""What a store's file holds: position, definitions and rows. docs/ARCHITECTURE.md describes the
+file."""
 
 from __future__ import annotations
 
@@ -9,10 +10,11 @@ import sqlite3
 import urllib.parse
 
 from pgsub_feed import log
-from ..server.catalog import Shape
-from ..errors import FileError
-from ..drift.remembered import Relation, Remembered
 from pgsub_feed.tables.values import Malformed, read_columns
+
+from ..drift.remembered import Relation, Remembered
+from ..errors import FileError
+from ..server.catalog import Shape
 
 STORED = {"rel", "held", "pos"}
 # What tells an export from other files: the application of its head, `pgse`.
@@ -27,10 +29,15 @@ def read_position(store: sqlite3.Connection) -> int:
 
 
 def read_relations(store: sqlite3.Connection) -> dict[int, Relation]:
-    """The definitions of the store, by OID. An empty namespace is pg_catalog, as in the protocol."""
+    """The definitions of the store, by OID. An empty namespace is pg_catalog, as in the
+    protocol."""
     found = {}
-    for oid, namespace, name, letter, columns in store.execute("SELECT oid, nsp, name, letter, cols FROM rel"):
-        found[oid] = Relation(oid, namespace or "pg_catalog", name, Shape(chr(letter), read_columns(columns)))
+    for oid, namespace, name, letter, columns in store.execute(
+        "SELECT oid, nsp, name, letter, cols FROM rel"
+    ):
+        found[oid] = Relation(
+            oid, namespace or "pg_catalog", name, Shape(chr(letter), read_columns(columns))
+        )
     return found
 
 
@@ -38,11 +45,16 @@ Named = dict[tuple[str, str], list[Relation]]
 
 
 def named_at(stored: dict[int, Relation], remembered: Remembered, position: int) -> Named:
-    """By their names at a position the tables of the store, and the published ones that have no rows.
+    """By their names at a position the tables of the store, and the published ones that have no
+    rows.
 
     What the server has changed after the position isn't looked at.
     """
-    since = {name.oid: (key, name.since) for key, name in remembered.names.items() if name.oid is not None}
+    since = {
+        name.oid: (key, name.since)
+        for key, name in remembered.names.items()
+        if name.oid is not None
+    }
     named: Named = {}
     for relation in stored.values():
         held = since.get(relation.oid)
@@ -57,20 +69,24 @@ def named_at(stored: dict[int, Relation], remembered: Remembered, position: int)
 
 
 def choose(stored: dict[int, Relation], remembered: Remembered, position: int) -> list[Relation]:
-    """The tables of an export: of those that have had one name, the one that has it at the position."""
+    """The tables of an export: of those that have had one name, the one that has it at the
+    position."""
     chosen = []
     for key, relations in sorted(named_at(stored, remembered, position).items()):
         name = remembered.names.get(key)
         last = last_of(relations, name.oid if name and name.since <= position else None)
         older = ", ".join(str(it.oid) for it in relations if it is not last and it.oid in stored)
         if older:
-            log.warning(f"{last.text()}: another table had this name before, {older}: its rows are left out")
+            log.warning(
+                f"{last.text()}: another table had this name before, {older}: its rows are left out"
+            )
         chosen.append(last)
     return chosen
 
 
 def last_of(relations: list[Relation], current: int | None) -> Relation:
-    """Of tables that have had one name, that which has it; where that isn't known, the one with the greatest OID."""
+    """Of tables that have had one name, that which has it; where that isn't known, the one with the
+    greatest OID."""
     return max(relations, key=lambda it: (it.oid == current, it.oid))
 
 
@@ -86,7 +102,10 @@ def tables_in(path: str) -> set[str]:
     """The names of a database's tables; none where it is no database."""
     try:
         with contextlib.closing(opened(path)) as store:
-            return {row[0] for row in store.execute("SELECT name FROM sqlite_master WHERE type = 'table'")}
+            return {
+                row[0]
+                for row in store.execute("SELECT name FROM sqlite_master WHERE type = 'table'")
+            }
     except sqlite3.Error:
         return set()
 
@@ -99,10 +118,17 @@ def is_store(path: str) -> bool:
 def is_export(path: str) -> bool:
     with open(path, "rb") as file:
         head = file.read(100)
-    return head.startswith(MAGIC) and int.from_bytes(head[APPLICATION_AT : APPLICATION_AT + 4], "big") == APPLICATION
+    return (
+        head.startswith(MAGIC)
+        and int.from_bytes(head[APPLICATION_AT : APPLICATION_AT + 4], "big") == APPLICATION
+    )
 
 
 def check_store(path: str, told: str) -> None:
     """Rejects a file that isn't a store's."""
     if not is_store(path):
-        raise FileError(f"{told}: it is an export, and no store" if is_export(path) else f"{told}: it isn't a store of pgsub")
+        raise FileError(
+            f"{told}: it is an export, and no store"
+            if is_export(path)
+            else f"{told}: it isn't a store of pgsub"
+        )

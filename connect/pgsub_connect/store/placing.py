@@ -1,4 +1,5 @@
-"""Files that appear as a whole: each is written beside its place, and renamed once the disk has it."""
+"""Files that appear as a whole: each is written beside its place, and renamed once the disk has it.
+"""
 
 from __future__ import annotations
 
@@ -6,14 +7,16 @@ import contextlib
 import os
 from collections.abc import Callable, Iterator, Sequence
 
-from ..errors import FileError, UsageError
 from pgsub_feed.ownership import real
+
+from ..errors import FileError, UsageError
 from .at_rest import own_name, remove_files
 from .snapshot import COPYING, NEW, OF_FILE, meant, remove, sync_folder
 
 # What follows a store's name in those of an initial copy's files.
 OF_COPY = (*(COPYING + it for it in OF_FILE), COPYING + NEW)
-# What follows it in those of all its own files, the checkpoint last: as long as it is there, a start tells what is missing.
+# What follows it in those of all its own files, the checkpoint last: as long as it is there, a
+# start tells what is missing.
 OF_STORE = (*OF_COPY, NEW, *OF_FILE[1:], "", ".request", ".tables.new", ".tables", ".connector")
 Identity = str | tuple[int, int]
 
@@ -29,14 +32,19 @@ def identities(*paths: str) -> set[Identity]:
 
 
 def is_of_store(store: str, path: str) -> bool:
-    """Whether a path is one of a store's own files: the connector's are beside the name that it was given, the program's beside what that
-    links to."""
+    """Whether a path is one of a store's own files: the connector's are beside the name that it was
+    given, the program's beside what that links to."""
     names = (store, os.path.realpath(store))
-    return not identities(path).isdisjoint(identities(*(name + it for name in names for it in OF_STORE)))
+    return not identities(path).isdisjoint(
+        identities(*(name + it for name in names for it in OF_STORE))
+    )
 
 
-def check_apart(store: str, written: Sequence[tuple[str, str]], read: Sequence[tuple[str, str]]) -> None:
-    """Rejects files to write that are a store's own, or that are named for something else too. Each is an option with its path."""
+def check_apart(
+    store: str, written: Sequence[tuple[str, str]], read: Sequence[tuple[str, str]]
+) -> None:
+    """Rejects files to write that are a store's own, or that are named for something else too. Each
+    is an option with its path."""
     for at, (option, path) in enumerate(written):
         if store and is_of_store(store, path):
             raise UsageError(f"{option} {path}: that is a file of the store itself")
@@ -56,8 +64,11 @@ def check_meant(store: str) -> None:
         raise FileError(f"--store {store} leads to {path}: there is no folder {folder}")
 
 
-def check_into(store: str, into: str, is_earlier: Callable[[str], bool], what: str, option: str = "--into") -> None:
-    """Rejects a file to write that is there and isn't an earlier one, or is one of the store's files. An option names it."""
+def check_into(
+    store: str, into: str, is_earlier: Callable[[str], bool], what: str, option: str = "--into"
+) -> None:
+    """Rejects a file to write that is there and isn't an earlier one, or is one of the store's
+    files. An option names it."""
     check_apart(store, [(option, into)], [])
     folder = os.path.dirname(real(into))
     if not os.path.isdir(folder):
@@ -69,13 +80,15 @@ def check_into(store: str, into: str, is_earlier: Callable[[str], bool], what: s
     except OSError as error:
         raise FileError(f"{into}: {error.strerror}") from None
     if not is_good:
-        raise FileError(f"{option} {into} is there and isn't {what}: remove it, or name another file")
+        raise FileError(
+            f"{option} {into} is there and isn't {what}: remove it, or name another file"
+        )
 
 
 @contextlib.contextmanager
 def placed(into: str, mode: int) -> Iterator[str]:
-    """Gives the name of a new empty file, which gets the name `into` and the mode at the end. A link stays, and leads to it. An error leaves
-    nothing of it."""
+    """Gives the name of a new empty file, which gets the name `into` and the mode at the end. A
+    link stays, and leads to it. An error leaves nothing of it."""
     into = meant(into)
     new = own_name(into)
     try:

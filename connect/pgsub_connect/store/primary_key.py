@@ -9,6 +9,7 @@ from __future__ import annotations
 from typing import TYPE_CHECKING
 
 from pgsub_feed import log
+
 from ..server.catalog import Table
 
 if TYPE_CHECKING:

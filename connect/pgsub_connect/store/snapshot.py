@@ -1,4 +1,5 @@
-"""Copies of the store for readers: the store itself is open in the filter alone, as long as that runs."""
+"""Copies of the store for readers: the store itself is open in the filter alone, as long as that
+runs."""
 
 from __future__ import annotations
 
@@ -9,33 +10,38 @@ import threading
 import time
 import urllib.parse
 from collections.abc import Callable
-
 from typing import Any
 
 from pgsub_feed import log
-from ..errors import FileError, Stopped
-from ..follow.gate import too_large_to_copy
-from ..follow.hold import Hold, LONGEST, read_locked, write_request
 from pgsub_feed.ownership import real
 from pgsub_feed.texts import lsn_text, parse_lsn
 
+from ..errors import FileError, Stopped
+from ..follow.gate import too_large_to_copy
+from ..follow.hold import LONGEST, Hold, read_locked, write_request
+
 LOG = "-wal"
-# A file, and what SQLite may have beside it. Whoever opens another file in its place would take that for its own: a journal takes it back.
+# A file, and what SQLite may have beside it. Whoever opens another file in its place would take
+# that for its own: a journal takes it back.
 OF_FILE = ("", LOG, "-shm", "-journal")
 # What a file that is being made has behind its name, and the one of an initial copy.
 NEW, COPYING = ".pgsub-new", ".copying"
 CHUNK = 1 << 22
-# How often a request is looked for, and what has become of one for which the stream is held, in seconds.
+# How often a request is looked for, and what has become of one for which the stream is held, in
+# seconds.
 LOOK, SOON = 0.5, 0.05
 
 
 class Snapshots:
-    """Copies a store to another file: each so many seconds, when a signal asks for it, and when a request does.
+    """Copies a store to another file: each so many seconds, when a signal asks for it, and when a
+    request does.
 
-    A request is the file `STORE.request`, a JSON object whose `into` names a file in the store's own folder. It goes when the copy
-    is there, or gets the field `error`. One with `hold` is for a copy at one LSN, as the module `holding` says, and where it has `repair`
-    the stream stays held, in a session of whole transactions, so that rows may be repaired; one with `add` asks for no copy: it has the
-    OIDs of tables to add, and as `remove` those of which the rows are to go, and goes once that is noted.
+    A request is the file `STORE.request`, a JSON object whose `into` names a file in the store's
+    own folder. It goes when the copy is there, or gets the field `error`. One with `hold` is for a
+    copy at one LSN, as the module `holding` says, and where it has `repair` the stream stays held,
+    in a session of whole transactions, so that rows may be repaired; one with `add` asks for no
+    copy: it has the OIDs of tables to add, and as `remove` those of which the rows are to go, and
+    goes once that is noted.
     """
 
     def __init__(self, store: str, path: str | None, every: float, mode: int = 0o600) -> None:
@@ -49,16 +55,19 @@ class Snapshots:
         self.hold = Hold()
         # takes the tables of a request to add some, and returns why it doesn't
         self.adds: Callable[[dict[str, Any]], str | None] = lambda asked: "no table can be added"
-        # of the follower: whether large transactions come while they run, and an LSN that nothing that was passed on is above
+        # of the follower: whether large transactions come while they run, and an LSN that nothing
+        # that was passed on is above
         self.is_streaming: Callable[[], bool] = lambda: False
         self.reached: Callable[[], int] = lambda: 0
-        # whether commits at the server wait for the follower, whose synchronous_standby_names are these now, where they are told
+        # whether commits at the server wait for the follower, whose synchronous_standby_names are
+        # these now, where they are told
         self.delays_commits: Callable[[str], bool] = lambda standbys: False
         # whether a request waits for a session of whole transactions
         self.wants_whole = False
 
     def is_due(self, position: int) -> bool:
-        """Whether to copy a store that is at this position: where it was asked for, or it is time and the last copy is older."""
+        """Whether to copy a store that is at this position: where it was asked for, or it is time
+        and the last copy is older."""
         now = time.monotonic()
         if self.hold.is_held and not self.hold.is_for_copy():
             # (a table is being added: copies wait)
@@ -85,7 +94,8 @@ class Snapshots:
             self.wanted = self.read_request(position)
 
     def read_request(self, position: int) -> str | None:
-        """The file that a request names, None where there is none, or the stream is to be held first."""
+        """The file that a request names, None where there is none, or the stream is to be held
+        first."""
         asked, is_alive = read_locked(self.request) or ({}, False)
         if "into" not in asked or "error" in asked:
             return None
@@ -100,7 +110,9 @@ class Snapshots:
             # (it was let go while whoever asks wrote that)
             self.reject(into, "the stream went on before the changes came", False)
             return None
-        folders = {os.path.realpath(os.path.dirname(it)) for it in (into, os.path.abspath(self.store))}
+        folders = {
+            os.path.realpath(os.path.dirname(it)) for it in (into, os.path.abspath(self.store))
+        }
         if len(folders) > 1 or os.path.lexists(into):
             self.answer(into, "the copy has to be a new file in the store's folder")
             return None
@@ -114,7 +126,11 @@ class Snapshots:
 
     def begin_hold(self, into: str, asked: dict[str, Any], is_alive: bool, position: int) -> None:
         """Holds the stream for whoever will tell an LSN within some seconds."""
-        seconds, keeps, delays = asked["hold"], "repair" in asked, self.delays_commits(str(asked.get("standbys", "")))
+        seconds, keeps, delays = (
+            asked["hold"],
+            "repair" in asked,
+            self.delays_commits(str(asked.get("standbys", ""))),
+        )
         maker = asked["maker"] if delays and type(asked.get("maker")) is int else 0
         if not is_alive or type(seconds) not in (int, float) or not 0 < seconds <= LONGEST:
             # (who asks holds a lock as long as it is alive)
@@ -125,7 +141,13 @@ class Snapshots:
             self.wants_whole = True
         else:
             self.hold.begin(into, seconds, keeps, maker)
-            write_request(self.request, into=into, hold=seconds, held=lsn_text(position), **({"repair": True} if keeps else {}))
+            write_request(
+                self.request,
+                into=into,
+                hold=seconds,
+                held=lsn_text(position),
+                **({"repair": True} if keeps else {}),
+            )
 
     def obstacle(self, maker: int) -> str:
         """Why the stream can't be held while commits wait for the follower, "" where it can."""
@@ -134,7 +156,8 @@ class Snapshots:
         return too_large_to_copy(self.store)
 
     def look_after(self, into: str) -> None:
-        """Goes on up to the LSN that is told now, or lets the stream go where nobody waits for it any more."""
+        """Goes on up to the LSN that is told now, or lets the stream go where nobody waits for it
+        any more."""
         hold, found = self.hold, read_locked(self.request)
         if hold.is_sent:
             # (the changes are on their way, whoever has asked)
@@ -160,10 +183,14 @@ class Snapshots:
             hold.end()
 
     def go(self, into: str, point: int) -> None:
-        """Goes on up to an LSN. It has to be above all that was passed on, where it may not be, or rows are repaired."""
+        """Goes on up to an LSN. It has to be above all that was passed on, where it may not be, or
+        rows are repaired."""
         reached = self.reached() if self.hold.keeps else self.hold.gate or 0
         if point <= reached:
-            self.answer(into, f"its slot is at {lsn_text(point)}, and the stream at {lsn_text(reached)}: is it of a standby behind?")
+            self.answer(
+                into,
+                f"its slot is at {lsn_text(point)}, and the stream at {lsn_text(reached)}: is it of a standby behind?",
+            )
             self.hold.end()
         else:
             self.hold.go(point)
@@ -177,15 +204,17 @@ class Snapshots:
                 write_request(self.request, into=into, error=error)
 
     def reject(self, into: str, why: str, lasts: bool, delays: bool = False) -> None:
-        """Tells whoever waits for a request still that nothing comes of it, nor of another one if that `lasts`. `delays`: commits had to
-        wait for it."""
+        """Tells whoever waits for a request still that nothing comes of it, nor of another one if
+        that `lasts`. `delays`: commits had to wait for it."""
         if self.is_waited_for(into, False):
             write_request(self.request, into=into, error=why, lasts=lasts, delays=delays)
 
     def take(self, position: int, tick: Callable[[], None]) -> None:
-        """Copies the files of a store at rest, and has a thread make one file of them. `tick` is called between parts.
+        """Copies the files of a store at rest, and has a thread make one file of them. `tick` is
+        called between parts.
 
-        What it raises is raised, and nothing stays of the copy. Whoever waits for it is told of an end; else it is copied again later.
+        What it raises is raised, and nothing stays of the copy. Whoever waits for it is told of an
+        end; else it is copied again later.
         """
         into, self.wanted = self.hold.into or self.wanted, None
         is_locked, keeps = self.hold.into is not None, self.hold.keeps
@@ -221,12 +250,16 @@ class Snapshots:
             self.clear(path)
             self.asked = self.asked or into is None
             raise
-        self.finishing = threading.Thread(target=self.finish, args=(path, into, position, is_locked, keeps), daemon=True)
+        self.finishing = threading.Thread(
+            target=self.finish, args=(path, into, position, is_locked, keeps), daemon=True
+        )
         self.finishing.start()
 
-    def finish(self, path: str, into: str | None, position: int, is_locked: bool, keeps: bool = False) -> None:
-        """Puts the log into the copied file, which gets its name once it is whole. What was there stays until then. `keeps`: the request
-        goes on."""
+    def finish(
+        self, path: str, into: str | None, position: int, is_locked: bool, keeps: bool = False
+    ) -> None:
+        """Puts the log into the copied file, which gets its name once it is whole. What was there
+        stays until then. `keeps`: the request goes on."""
         new = path + NEW
         try:
             fold(new)
@@ -298,7 +331,8 @@ def meant(path: str) -> str:
 
 
 def part_of(store: str) -> str:
-    """The file of an initial copy that isn't complete: beside the one whose name it gets, so in the same file system."""
+    """The file of an initial copy that isn't complete: beside the one whose name it gets, so in the
+    same file system."""
     return meant(store) + COPYING
 
 
@@ -338,7 +372,8 @@ def copied(read: int, write: int) -> int:
 
 
 def fold(path: str) -> None:
-    """Puts a copied log into its file, which then needs none: whoever may read the file can open it."""
+    """Puts a copied log into its file, which then needs none: whoever may read the file can open
+    it."""
     with contextlib.closing(sqlite3.connect(path, isolation_level=None)) as store:
         store.execute("PRAGMA synchronous = FULL")
         store.execute("PRAGMA journal_mode = DELETE")

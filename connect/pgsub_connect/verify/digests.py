@@ -1,9 +1,11 @@
 """Digests of a table's rows, computed by the server in SQL and here over the rows of a copy.
 
-A row's text has for each field its value as the server prints it, after the value's length in bytes and a colon, or `n` for null: so no
-two rows have one text. Its SHA-256 counts by two words of 32 bits, which are added up for each chunk of the table, beside how many rows
-there are. A row is in the chunk that a hash of its key says, or one of all of it where the table has no key; so a row whose other fields
-differ is in the same chunk on both sides. Sums, and not the exclusive or: two equal rows are to count twice.
+A row's text has for each field its value as the server prints it, after the value's length in bytes
+and a colon, or `n` for null: so no two rows have one text. Its SHA-256 counts by two words of 32
+bits, which are added up for each chunk of the table, beside how many rows there are. A row is in
+the chunk that a hash of its key says, or one of all of it where the table has no key; so a row
+whose other fields differ is in the same chunk on both sides. Sums, and not the exclusive or: two
+equal rows are to count twice.
 """
 
 from __future__ import annotations
@@ -13,9 +15,10 @@ import hashlib
 import struct
 from collections.abc import Iterable, Sequence
 
-from ..server.publications import Table
+from pgsub_feed.tables.values import BINARY, NULL, TEXT, Malformed
 from pgsub_feed.texts import identifier
-from pgsub_feed.tables.values import BINARY, Malformed, NULL, TEXT
+
+from ..server.publications import Table
 
 # How many rows a chunk has on average, and how many chunks a table has at most.
 ROWS, MOST_CHUNKS = 256, 1 << 16
@@ -36,7 +39,8 @@ class NotText(Exception):
 
 
 def fields_of(body: bytes, width: int) -> list[Field]:
-    """The fields of a stored row: an Int16 count, and of each a letter, and of one that isn't null an Int32 length and the value."""
+    """The fields of a stored row: an Int16 count, and of each a letter, and of one that isn't null
+    an Int32 length and the value."""
     if int.from_bytes(body[:2], "big") != width:
         raise Malformed
     at, size, fields = 2, len(body), list[Field]()
@@ -93,7 +97,8 @@ class Plan:
     def __init__(self, table: Table, chunks: int) -> None:
         self.table, self.chunks, self.width = table, chunks, len(table.columns)
         is_keyed = table.identity in ("d", "i")
-        # (a column list may leave out a part of the key: then several rows may have what is left of it)
+        # (a column list may leave out a part of the key: then several rows may have what is left of
+        # it)
         self.key = [at for at, column in enumerate(table.columns) if column.key and is_keyed]
 
     def key_text(self, fields: Fields, text: bytes) -> bytes:
@@ -117,12 +122,15 @@ class Sums:
         return sum(self.rows)
 
     def totals(self) -> tuple[int, int, int]:
-        """How many rows the table has, and the two sums over all chunks: those that it would have with one chunk."""
+        """How many rows the table has, and the two sums over all chunks: those that it would have
+        with one chunk."""
         return self.total(), sum(self.first), sum(self.second)
 
     def differing(self, other: Sums) -> list[int]:
         """The chunks that aren't the same."""
-        ours, theirs = zip(self.rows, self.first, self.second), zip(other.rows, other.first, other.second)
+        ours, theirs = zip(self.rows, self.first, self.second), zip(
+            other.rows, other.first, other.second
+        )
         return [chunk for chunk, (one, two) in enumerate(zip(ours, theirs)) if one != two]
 
 
@@ -149,7 +157,8 @@ class Summing:
 
 
 class Queries:
-    """What is asked of a server about a table. `encoding` is the server's: all texts are digested in UTF-8."""
+    """What is asked of a server about a table. `encoding` is the server's: all texts are digested
+    in UTF-8."""
 
     def __init__(self, plan: Plan, encoding: str) -> None:
         self.plan, self.encoding = plan, encoding
@@ -168,15 +177,17 @@ class Queries:
         parts = [self.field(f"t{index}") for index in indexes] or ["''"]
         while len(parts) > 1:
             parts = [
-                f"pg_catalog.concat({', '.join(parts[at : at + MOST_ARGUMENTS])})" for at in range(0, len(parts), MOST_ARGUMENTS)
+                f"pg_catalog.concat({', '.join(parts[at : at + MOST_ARGUMENTS])})"
+                for at in range(0, len(parts), MOST_ARGUMENTS)
             ]
         return parts[0]
 
     def rows(self) -> str:
         """The texts of each row `r` and its key `k`.
 
-        A value's text is what its type prints, by concat: a cast gives other ones, of bool and char(n) say. IS NULL holds of a row
-        type's value whose fields are null. (OFFSET 0 keeps the server from printing a value anew at each place.)
+        A value's text is what its type prints, by concat: a cast gives other ones, of bool and
+        char(n) say. IS NULL holds of a row type's value whose fields are null. (OFFSET 0 keeps the
+        server from printing a value anew at each place.)
         """
         columns = ", ".join(
             f"CASE WHEN {identifier(it.name)} IS DISTINCT FROM NULL THEN pg_catalog.concat({identifier(it.name)}) END AS t{index}"
@@ -209,8 +220,13 @@ class Queries:
         )
 
     def texts(self, chunks: Sequence[int]) -> str:
-        """The COPY of the row texts of some chunks, or of all where none is named, in the order of their keys' bytes and then their own."""
+        """The COPY of the row texts of some chunks, or of all where none is named, in the order of
+        their keys' bytes and then their own."""
         name = "k" if self.plan.key else "r"
         ordered = ", ".join(dict.fromkeys((self.encoded(name), self.encoded("r"))))
-        where = f"WHERE {self.chunk(self.hashed(name))} IN ({', '.join(map(str, chunks))}) " if chunks else ""
+        where = (
+            f"WHERE {self.chunk(self.hashed(name))} IN ({', '.join(map(str, chunks))}) "
+            if chunks
+            else ""
+        )
         return f"COPY (SELECT s.r FROM ({self.rows()}) s {where}ORDER BY {ordered}) TO STDOUT"

@@ -1,6 +1,8 @@
-"""Brings a server and the copy of a running follower to one LSN, for `pgsub-connect verify`; the module `holding` says how.
+"""Brings a server and the copy of a running follower to one LSN, for `pgsub-connect verify`; the
+module `holding` says how.
 
-A follower that adds a table reads it in the same way. The server gets a temporary slot for that, which goes as soon as its snapshot is taken.
+A follower that adds a table reads it in the same way. The server gets a temporary slot for that,
+which goes as soon as its snapshot is taken.
 """
 
 from __future__ import annotations
@@ -11,45 +13,61 @@ import time
 from collections.abc import Iterable, Mapping
 from typing import TYPE_CHECKING
 
-from ..store.checkpoint import FOLLOWING, Known
+from pgsub_feed.tables.names import names_of
+from pgsub_feed.texts import lsn_text
+
 from ..copy.copier import CHANGED, SHORT, check_names, create_temporary
+from ..copy.table_reader import GONE, LOCK_TIMEOUT, lock_tables, take_snapshot
+from ..drift.remembered import Remembered
 from ..errors import Delayed, NoSlot, Passing, ServerError, Unfit, Unrepaired
 from ..follow.hold import CHANGES, write_own_request
-from pgsub_feed.tables.names import names_of
 from ..server.connection import Check, Connection
 from ..server.publications import Table, published_tables
-from ..copy.table_reader import GONE, LOCK_TIMEOUT, lock_tables, take_snapshot
-from ..store.at_rest import LOOK, is_followed, own_name, put_request, read_request, remove_files, wait_for_copy
-from ..drift.remembered import Remembered
 from ..server.session import identify, is_same_database, settle
-from ..store.snapshot import remove
-from pgsub_feed.texts import lsn_text
-from .unchanged import ALTERED, changed, locked, there
 from ..server.waits import Waiting
+from ..store.at_rest import (
+    LOOK,
+    is_followed,
+    own_name,
+    put_request,
+    read_request,
+    remove_files,
+    wait_for_copy,
+)
+from ..store.checkpoint import FOLLOWING, Known
+from ..store.snapshot import remove
+from .unchanged import ALTERED, changed, locked, there
 
 if TYPE_CHECKING:
     from ..commands.options import Options
 
-# How long a follower may take until it holds the stream, in seconds: it may be about to connect, or to open its store; and so long may
-# tables be locked by others. And for how much longer than a slot may take it may hold it: who asked lets it go before, unless it hangs.
+# How long a follower may take until it holds the stream, in seconds: it may be about to connect, or
+# to open its store; and so long may tables be locked by others. And for how much longer than a slot
+# may take it may hold it: who asked lets it go before, unless it hangs.
 PATIENCE, MARGIN = 60.0, 5.0
 
 
 class Request:
-    """A request for the follower's copy at an LSN that is told once the stream is held. It goes at the end, and with it the hold.
+    """A request for the follower's copy at an LSN that is told once the stream is held. It goes at
+    the end, and with it the hold.
 
     `repairs`: the stream stays held, until changes are passed on.
     """
 
     def __init__(self, store: str, seconds: float, check: Check, repairs: bool = False) -> None:
-        self.store, self.request, self.seconds, self.check = store, store + ".request", seconds, check
+        self.store, self.request, self.seconds, self.check = (
+            store,
+            store + ".request",
+            seconds,
+            check,
+        )
         self.into = os.path.abspath(own_name(store + ".export"))
         self.more = {"repair": True} if repairs else {}
         self.file: int | None = None
 
     def hold(self, maker: int = 0, standbys: str = "") -> None:
-        """Has the follower hold the stream. `maker`: the process at the server that makes the slot; `standbys`: for which standbys commits
-        wait there."""
+        """Has the follower hold the stream. `maker`: the process at the server that makes the slot;
+        `standbys`: for which standbys commits wait there."""
         fields = {"hold": self.seconds + MARGIN, "maker": maker, "standbys": standbys, **self.more}
         self.file = put_request(self.store, self.request, self.into, self.check, **fields)
         if self.file is None:
@@ -61,9 +79,13 @@ class Request:
             if not is_followed(self.store):
                 raise self.ended()
             if not os.path.exists(self.request):
-                raise Passing(f"{self.store}: its follower can't hold the stream: is it of an older version?")
+                raise Passing(
+                    f"{self.store}: its follower can't hold the stream: is it of an older version?"
+                )
             if time.monotonic() > until:
-                raise Passing(f"{self.store}: its follower hasn't answered in {PATIENCE:.0f} seconds")
+                raise Passing(
+                    f"{self.store}: its follower hasn't answered in {PATIENCE:.0f} seconds"
+                )
             self.check()
             time.sleep(LOOK)
 
@@ -83,13 +105,18 @@ class Request:
         return self.into
 
     def pass_on(self, tables: list[int]) -> None:
-        """Has the follower pass on the changes of tables that are in the file, and waits until the store has them."""
+        """Has the follower pass on the changes of tables that are in the file, and waits until the
+        store has them."""
         self.check_error()
         self.write(held="", copied="", tables=tables)
-        while read_request(self.request).get("into", self.into) == self.into and os.path.exists(self.request):
+        while read_request(self.request).get("into", self.into) == self.into and os.path.exists(
+            self.request
+        ):
             self.check_error()
             if not is_followed(self.store):
-                raise Passing(f"{self.store} isn't followed any more: compare again, to see whether it is repaired")
+                raise Passing(
+                    f"{self.store} isn't followed any more: compare again, to see whether it is repaired"
+                )
             self.check()
             time.sleep(LOOK)
 
@@ -105,7 +132,9 @@ class Request:
         return self.into + CHANGES
 
     def ended(self) -> Passing:
-        return Passing(f"nobody follows into {self.store}: a follower has to run, which brings its copy to the LSN of the comparison")
+        return Passing(
+            f"nobody follows into {self.store}: a follower has to run, which brings its copy to the LSN of the comparison"
+        )
 
     def close(self) -> None:
         if read_request(self.request).get("into") == self.into:
@@ -118,13 +147,17 @@ class Request:
 
 
 class Source:
-    """The server: its published tables, and a transaction that sees them as they were at the LSN of a slot."""
+    """The server: its published tables, and a transaction that sees them as they were at the LSN of
+    a slot."""
 
-    def __init__(self, options: Options, known: Known, check: Check, purpose: str = "verify") -> None:
+    def __init__(
+        self, options: Options, known: Known, check: Check, purpose: str = "verify"
+    ) -> None:
         self.options, self.check, self.purpose = options, check, purpose
         # how long tables may be locked by others, in seconds
         self.patience = PATIENCE
-        # what is closed at the end, and what is once the snapshot is taken: the slot goes with its connection
+        # what is closed at the end, and what is once the snapshot is taken: the slot goes with its
+        # connection
         self.closing, self.slot = contextlib.ExitStack(), contextlib.ExitStack()
         try:
             self.replication = self.connect(self.slot, replication=True)
@@ -142,7 +175,12 @@ class Source:
             raise
 
     def connect(self, closing: contextlib.ExitStack, replication: bool) -> Connection:
-        connection = Connection(self.options.dsn, replication=replication, name=f"{self.options.slot} {self.purpose}", check=self.check)
+        connection = Connection(
+            self.options.dsn,
+            replication=replication,
+            name=f"{self.options.slot} {self.purpose}",
+            check=self.check,
+        )
         closing.callback(connection.close)
         settle(connection)
         return connection
@@ -153,7 +191,11 @@ class Source:
             raise Passing(f"{self.options.store} isn't followed yet")
         server = identify(self.replication)
         timeline = known.timeline and server.timeline
-        ours, theirs = (known.system, known.database, known.timeline), (server.system, server.database, timeline)
+        ours, theirs = (known.system, known.database, known.timeline), (
+            server.system,
+            server.database,
+            timeline,
+        )
         is_same = is_same_database(known.database, Remembered(self.options.store).database, server)
         if not is_same or (ours[0], ours[2]) != (theirs[0], theirs[2]):
             names = ("the server {}, database {}, timeline {}".format(*it) for it in (ours, theirs))
@@ -168,11 +210,14 @@ class Source:
         return self.plain.text("SHOW synchronous_standby_names")
 
     def make_slot(self, seconds: float, check_end: Check | None = None) -> tuple[int, str]:
-        """Makes a temporary slot; its consistent point and its snapshot. Raises where that takes longer than so many seconds.
+        """Makes a temporary slot; its consistent point and its snapshot. Raises where that takes
+        longer than so many seconds.
 
         `check_end`: what is called meanwhile in place of what else is.
         """
-        until, waiting = time.monotonic() + seconds, Waiting(self.options.dsn, self.options.slot, check_end or self.check)
+        until, waiting = time.monotonic() + seconds, Waiting(
+            self.options.dsn, self.options.slot, check_end or self.check
+        )
         # (said in time for the end)
         waiting.next = min(waiting.next, until - 1)
 
@@ -185,7 +230,9 @@ class Source:
         self.replication.run(f"SET lock_timeout = {round(seconds * 1000)}")
         self.replication.check = check
         try:
-            _, point, snapshot = create_temporary(self.replication, f"{self.options.slot[:40]}_{self.purpose}")
+            _, point, snapshot = create_temporary(
+                self.replication, f"{self.options.slot[:40]}_{self.purpose}"
+            )
         except ServerError as error:
             raise no_slot(seconds) if error.sqlstate == LOCK_TIMEOUT else error from None
         finally:
@@ -193,8 +240,8 @@ class Source:
         return point, snapshot
 
     def see(self, snapshot: str, leaves: bool = False) -> None:
-        """Begins the transaction, in which no published table can be altered. Those that aren't any more what the snapshot has
-        end the comparison, or with `leaves` are left out."""
+        """Begins the transaction, in which no published table can be altered. Those that aren't any
+        more what the snapshot has end the comparison, or with `leaves` are left out."""
         plain = self.plain
         try:
             plain.run("BEGIN ISOLATION LEVEL REPEATABLE READ READ ONLY")
@@ -209,7 +256,9 @@ class Source:
             if str(error) == CHANGED or error.sqlstate in GONE:
                 raise Passing(f"{CHANGED}: nothing was compared") from None
             if error.sqlstate == LOCK_TIMEOUT:
-                raise Passing("published tables are locked by others: nothing was compared") from None
+                raise Passing(
+                    "published tables are locked by others: nothing was compared"
+                ) from None
             raise
         self.slot.close()
 
@@ -245,15 +294,21 @@ class Source:
         return [it for it in found if self.only in (0, it.oid)]
 
     def lock(self, leaves: bool) -> None:
-        """Locks the tables. None is waited for while others are locked: that could end an application's transaction by a deadlock."""
+        """Locks the tables. None is waited for while others are locked: that could end an
+        application's transaction by a deadlock."""
         until = time.monotonic() + self.patience
         self.plain.run("SAVEPOINT unlocked")
         while not self.has_locked(leaves):
             if time.monotonic() > until:
                 if leaves:
-                    self.leave({it.oid: why for it in self.tables if (why := locked(self.plain, it))}, leaves)
+                    self.leave(
+                        {it.oid: why for it in self.tables if (why := locked(self.plain, it))},
+                        leaves,
+                    )
                     return
-                raise Passing(f"published tables are locked by others for {self.patience:.0f} seconds: nothing was compared")
+                raise Passing(
+                    f"published tables are locked by others for {self.patience:.0f} seconds: nothing was compared"
+                )
             self.check()
             time.sleep(LOOK)
 

@@ -1,7 +1,9 @@
-"""Makes the rows of a copy those of its server by the changes of what differs alone: for `pgsub-connect verify --repair`.
+"""Makes the rows of a copy those of its server by the changes of what differs alone: for
+`pgsub-connect verify --repair`.
 
-The tables that differ are compared once more, while the follower holds the stream at the LSN of that comparison. What differs is written
-into a file, which the follower passes on as one transaction that ends there, as the module `repairing` says:
+The tables that differ are compared once more, while the follower holds the stream at the LSN of
+that comparison. What differs is written into a file, which the follower passes on as one
+transaction that ends there, as the module `repairing` says:
 
 | Table | Rows that only the server has | that only the copy has | another row of a key |
 |---|---|---|---|
@@ -9,9 +11,10 @@ into a file, which the follower passes on as one transaction that ends there, as
 | REPLICA IDENTITY FULL | an Insert for each copy | a Delete by the old row for each copy | |
 | any other | an Insert for each copy | no change tells which one is meant | |
 
-A table is copied anew as a whole, as the module `adding` says, where no change tells which row is meant, not to the copy or, without a
-key, not to who reads its feed, who may have other rows than the copy; where the copy has it under another definition; where a column list leaves out a part of its key, so that several rows have what is left; and where more than a share
-of its rows differs.
+A table is copied anew as a whole, as the module `adding` says, where no change tells which row is
+meant, not to the copy or, without a key, not to who reads its feed, who may have other rows than
+the copy; where the copy has it under another definition; where a column list leaves out a part of
+its key, so that several rows have what is left; and where more than a share of its rows differs.
 """
 
 from __future__ import annotations
@@ -22,12 +25,13 @@ import struct
 from collections.abc import Iterator
 
 from pgsub_feed import log
-from .digests import Plan, Sums, fields_in
-from ..copy.messages import delete, insert, relation, update
 from pgsub_feed.ownership import give
-from ..server.publications import Table
-from .sides import Group, Sides
 from pgsub_feed.texts import counted
+
+from ..copy.messages import delete, insert, relation, update
+from ..server.publications import Table
+from .digests import Plan, Sums, fields_in
+from .sides import Group, Sides
 
 # A table is copied anew where more than one row in so many differs, but for so few.
 SHARE, FEW = 3, 256
@@ -47,7 +51,9 @@ def changes_of(plan: Plan, theirs: Group, ours: Group) -> Iterator[bytes]:
             yield insert(oid, fields_in(text))
         for text in (ours - theirs).elements():
             if table.identity != "f":
-                raise NoChange("without a key or REPLICA IDENTITY FULL no change tells which row goes")
+                raise NoChange(
+                    "without a key or REPLICA IDENTITY FULL no change tells which row goes"
+                )
             yield delete(oid, b"O", fields_in(text))
         return
     if max(sum(theirs.values()), sum(ours.values())) > 1:
@@ -60,10 +66,13 @@ def changes_of(plan: Plan, theirs: Group, ours: Group) -> Iterator[bytes]:
 
 
 class Changes:
-    """A file of changes, each one behind its length: one table after the other, and each one behind its Relation message."""
+    """A file of changes, each one behind its length: one table after the other, and each one behind
+    its Relation message."""
 
     def __init__(self, path: str, store: str) -> None:
-        self.file = open(os.open(path, os.O_WRONLY | os.O_CREAT | os.O_EXCL | os.O_CLOEXEC, 0o600), "wb")
+        self.file = open(
+            os.open(path, os.O_WRONLY | os.O_CREAT | os.O_EXCL | os.O_CLOEXEC, 0o600), "wb"
+        )
         if os.getuid() == 0:
             # (so that a follower of another account may read it)
             give(self.file.fileno(), os.stat(store))
@@ -86,8 +95,8 @@ class Changes:
 
 
 class Mender:
-    """Writes the changes of tables. `written`: how many of each there are by letter; `left`: the tables that are to be copied anew;
-    `is_fed`: whether the changes come into a feed, too."""
+    """Writes the changes of tables. `written`: how many of each there are by letter; `left`: the
+    tables that are to be copied anew; `is_fed`: whether the changes come into a feed, too."""
 
     def __init__(self, sides: Sides, changes: Changes, is_fed: bool = False) -> None:
         self.sides, self.changes, self.is_fed = sides, changes, is_fed
@@ -102,7 +111,8 @@ class Mender:
             self.mend(plan, ours[plan.table.oid])
 
     def has_shape(self, table: Table) -> bool:
-        """Whether the copy has a table's rows under the same definition; leaves it where it hasn't."""
+        """Whether the copy has a table's rows under the same definition; leaves it where it
+        hasn't."""
         here = self.sides.copy.relation(table.oid)
         known = here and (here.shape.identity, [(it.name, it.key) for it in here.shape.columns])
         if known and known != (table.identity, [(it.name, it.key) for it in table.columns]):
@@ -120,17 +130,24 @@ class Mender:
         if not (chunks := theirs.differing(ours)):
             return
         if self.is_fed and not plan.key:
-            self.leave(plan.table, "without a key no change tells readers of the feed which row is meant")
+            self.leave(
+                plan.table, "without a key no change tells readers of the feed which row is meant"
+            )
             return
         many, few = max(theirs.total(), ours.total()), min(theirs.total(), ours.total())
         most = max(FEW, many // SHARE)
-        if why := f"more than {most} of its rows differ" if many - few > most else self.write(plan, chunks, most):
+        if (
+            why := f"more than {most} of its rows differ"
+            if many - few > most
+            else self.write(plan, chunks, most)
+        ):
             self.leave(plan.table, why)
 
     def write(self, plan: Plan, chunks: list[int], most: int) -> str:
         """Writes the changes of some chunks. Returns why there are none, "" where there are.
 
-        The server sends all rows to the end, so they are read also where no change is wanted any more.
+        The server sends all rows to the end, so they are read also where no change is wanted any
+        more.
         """
         counts, why = collections.Counter[bytes](), ""
         self.changes.begin(plan.table)
@@ -149,7 +166,9 @@ class Mender:
             self.changes.take_back()
             return why
         self.written[plan.table.oid] = counts
-        log.info(f"{plan.table.text()}: {', '.join(f'{counts[it]} {word}' for it, word in WORDS.items())}")
+        log.info(
+            f"{plan.table.text()}: {', '.join(f'{counts[it]} {word}' for it, word in WORDS.items())}"
+        )
         return ""
 
     def text(self) -> str:

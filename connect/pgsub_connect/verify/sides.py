@@ -1,6 +1,8 @@
-"""The two sides of a comparison, both as of one LSN: the tables of a server, and those of a copy of the store.
+"""The two sides of a comparison, both as of one LSN: the tables of a server, and those of a copy of
+the store.
 
-Their rows are summed up by chunks, as the module `digests` says, and read in the order of their keys' bytes.
+Their rows are summed up by chunks, as the module `digests` says, and read in the order of their
+keys' bytes.
 """
 
 from __future__ import annotations
@@ -10,17 +12,19 @@ import itertools
 from collections.abc import Iterable, Iterator
 from typing import Protocol
 
-from .digests import Plan, Queries, Summing, Sums, chunks_for, fields_in, fields_of, text_of
-from ..errors import Unfit, understood
-from .meeting_point import Source
-from ..copy.messages import unescaped
-from ..server.connection import Check
-from ..server.publications import Table, estimated_rows
-from ..drift.remembered import Relation
-from ..store.file import check_store, opened, read_position, read_relations
 from pgsub_feed.texts import lsn_text
 
-# How many bytes of rows are read at a time, and after how many rows it is looked whether the end was asked for.
+from ..copy.messages import unescaped
+from ..drift.remembered import Relation
+from ..errors import Unfit, understood
+from ..server.connection import Check
+from ..server.publications import Table, estimated_rows
+from ..store.file import check_store, opened, read_position, read_relations
+from .digests import Plan, Queries, Summing, Sums, chunks_for, fields_in, fields_of, text_of
+from .meeting_point import Source
+
+# How many bytes of rows are read at a time, and after how many rows it is looked whether the end
+# was asked for.
 BLOCK, ROWS = 1 << 17, 1000
 # A query names no more chunks than these: of more of them it reads all rows.
 NAMED = 1 << 10
@@ -39,7 +43,8 @@ class Copied(Protocol):
     counts: dict[int, int]
 
     def columns(self, table: Table) -> list[str]:
-        """The names of a table's columns here; those of the server where nothing of it ever came."""
+        """The names of a table's columns here; those of the server where nothing of it ever
+        came."""
 
     def relation(self, oid: int) -> Relation | None:
         """A table's definition here, None where nothing of it ever came."""
@@ -63,14 +68,23 @@ class Copy:
         self.base = opened(path)
         self.position = read_position(self.base)
         if self.position > point:
-            raise Unfit(f"the copy is at {lsn_text(self.position)}, and this server's slot at {lsn_text(point)}: is it a standby behind?")
+            raise Unfit(
+                f"the copy is at {lsn_text(self.position)}, and this server's slot at {lsn_text(point)}: is it a standby behind?"
+            )
         self.relations = read_relations(self.base)
-        self.counts: dict[int, int] = dict(self.base.execute("SELECT oid, count(*) FROM held GROUP BY oid"))
+        self.counts: dict[int, int] = dict(
+            self.base.execute("SELECT oid, count(*) FROM held GROUP BY oid")
+        )
 
     def columns(self, table: Table) -> list[str]:
-        """The names of a table's columns here; those of the server where nothing of it ever came."""
+        """The names of a table's columns here; those of the server where nothing of it ever
+        came."""
         relation = self.relations.get(table.oid)
-        return [it.name for it in relation.shape.columns] if relation else [it.name for it in table.columns]
+        return (
+            [it.name for it in relation.shape.columns]
+            if relation
+            else [it.name for it in table.columns]
+        )
 
     def relation(self, oid: int) -> Relation | None:
         return self.relations.get(oid)
@@ -130,17 +144,27 @@ def differing(server: Iterable[Row], copy: Iterable[Row]) -> Iterator[Difference
     one, two = next(there, None), next(here, None)
     while one or two:
         key = min(it[0] for it in (one, two) if it)
-        theirs, ours = one[1] if one and one[0] == key else Group(), two[1] if two and two[0] == key else Group()
+        theirs, ours = (
+            one[1] if one and one[0] == key else Group(),
+            two[1] if two and two[0] == key else Group(),
+        )
         if theirs != ours:
             yield key, theirs, ours
-        one, two = next(there, None) if one and one[0] == key else one, next(here, None) if two and two[0] == key else two
+        one, two = (
+            next(there, None) if one and one[0] == key else one,
+            next(here, None) if two and two[0] == key else two,
+        )
 
 
 class Sides:
-    """A server and a copy of it. `names`: what the sides are called where rows are shown; `more`: how many equal rows one has more of;
-    `places`: where the rows of each are."""
+    """A server and a copy of it. `names`: what the sides are called where rows are shown; `more`:
+    how many equal rows one has more of; `places`: where the rows of each are."""
 
-    names, more, places = ("server", "copy"), ("more_on_server", "more_in_copy"), ("on the server", "in the copy")
+    names, more, places = (
+        ("server", "copy"),
+        ("more_on_server", "more_in_copy"),
+        ("on the server", "in the copy"),
+    )
 
     def __init__(self, source: Source, copy: Copied) -> None:
         self.source, self.copy = source, copy
@@ -151,7 +175,15 @@ class Sides:
 
     def plan(self, table: Table) -> Plan:
         """How a table is digested, by about how many rows it has."""
-        return Plan(table, chunks_for(max(self.copy.counts.get(table.oid, 0), estimated_rows(self.source.plain, [table]) or 0)))
+        return Plan(
+            table,
+            chunks_for(
+                max(
+                    self.copy.counts.get(table.oid, 0),
+                    estimated_rows(self.source.plain, [table]) or 0,
+                )
+            ),
+        )
 
     def sums(self, plan: Plan) -> Sums:
         """Those of the server."""

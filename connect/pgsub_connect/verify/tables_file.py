@@ -1,16 +1,21 @@
-"""`pgsub-connect verify --tables`: compares tables that follow a feed with the server, or with another such file.
+"""`pgsub-connect verify --tables`: compares tables that follow a feed with the server, or with
+another such file.
 
-The server is seen as of the LSN P of a temporary slot; the file is read in one transaction, at whatever LSN it has then, once it has all
-commits that end up to P. Those that end above P, which the slot's snapshot doesn't see (the module `holding` says why), are taken back by
-the feed's images. So nothing is held, neither the stream nor what follows the feed, and nothing is changed but for the slot.
+The server is seen as of the LSN P of a temporary slot; the file is read in one transaction, at
+whatever LSN it has then, once it has all commits that end up to P. Those that end above P, which
+the slot's snapshot doesn't see (the module `holding` says why), are taken back by the feed's
+images. So nothing is held, neither the stream nor what follows the feed, and nothing is changed but
+for the slot.
 
-Two files are compared at the lower one of their LSNs: the other one is taken back to it by its own feed.
+Two files are compared at the lower one of their LSNs: the other one is taken back to it by its own
+feed.
 
-A table that was truncated, altered or repaired meanwhile is compared once more, and told where it can't be then either. One that the file
-has set aside differs.
+A table that was truncated, altered or repaired meanwhile is compared once more, and told where it
+can't be then either. One that the file has set aside differs.
 
-With `--digests` the sums are those that the files keep, as the module `digesting` says, and rows are read where they differ, or where there
-are none. Without, all rows are read, and the sums that a file keeps are checked by that.
+With `--digests` the sums are those that the files keep, as the module `digesting` says, and rows
+are read where they differ, or where there are none. Without, all rows are read, and the sums that a
+file keeps are checked by that.
 """
 
 from __future__ import annotations
@@ -24,26 +29,37 @@ from collections.abc import Callable, Iterator, Sequence
 from typing import TYPE_CHECKING
 
 from pgsub_feed import log
-from ..store.checkpoint import FOLLOWING, Known
-from .digests import Plan, Sums, chunks_for
-from ..commands.drop import read_known
-from ..errors import FileError, Passing, Stopped, Unfit
-from ..server.publication_setup import names_of
-from .meeting_point import Source, chosen
-from ..server.connection import Check
-from ..server.publications import Column, Table
-from ..drift.remembered import Relation, Remembered
-from .sides import Difference, Sides, differing
-from pgsub_feed.texts import counted, lsn_text
-from ..commands.verify import AGAIN, Compared, DIFFERENT, EQUAL, Verifier, among, left_of, settled, tell_left
-from pgsub_feed.tables.set_aside import cure, store_at
-from ..commands.wait import LOOK, read_file
-from pgsub_feed.tables.first_rows import is_tables
 from pgsub_feed.reader.commits import Head
 from pgsub_feed.reader.segments import read_source
-from pgsub_feed.tables.file import full_name
 from pgsub_feed.reader.trail import Trail
+from pgsub_feed.tables.file import full_name
+from pgsub_feed.tables.first_rows import is_tables
+from pgsub_feed.tables.set_aside import cure, store_at
 from pgsub_feed.tables.view import View, check_tables
+from pgsub_feed.texts import counted, lsn_text
+
+from ..commands.drop import read_known
+from ..commands.verify import (
+    AGAIN,
+    DIFFERENT,
+    EQUAL,
+    Compared,
+    Verifier,
+    among,
+    left_of,
+    settled,
+    tell_left,
+)
+from ..commands.wait import LOOK, read_file
+from ..drift.remembered import Relation, Remembered
+from ..errors import FileError, Passing, Stopped, Unfit
+from ..server.connection import Check
+from ..server.publication_setup import names_of
+from ..server.publications import Column, Table
+from ..store.checkpoint import FOLLOWING, Known
+from .digests import Plan, Sums, chunks_for
+from .meeting_point import Source, chosen
+from .sides import Difference, Sides, differing
 
 if TYPE_CHECKING:
     from ..commands.options import Options
@@ -67,7 +83,11 @@ class Tables(Sides):
 class Files(Tables):
     """Another file, and this one."""
 
-    names, more, places = ("other", "copy"), ("more_in_other", "more_in_copy"), ("in the other file", "in the copy")
+    names, more, places = (
+        ("other", "copy"),
+        ("more_in_other", "more_in_copy"),
+        ("in the other file", "in the copy"),
+    )
 
     def __init__(self, other: View, view: View) -> None:
         self.other, self.view, self.copy = other, view, view
@@ -76,7 +96,12 @@ class Files(Tables):
         self.found: dict[int, Sums] = {}
 
     def plan(self, table: Table) -> Plan:
-        self.plans.append(Plan(table, chunks_for(max(it.counts.get(table.oid, 0) for it in (self.other, self.view)))))
+        self.plans.append(
+            Plan(
+                table,
+                chunks_for(max(it.counts.get(table.oid, 0) for it in (self.other, self.view))),
+            )
+        )
         return self.plans[-1]
 
     def sums(self, plan: Plan) -> Sums:
@@ -134,11 +159,15 @@ def with_server(options: Options, check: Check) -> int:
     for _ in range(AGAIN):
         if found.left:
             log.info(f"compared once more: {found.names()}")
-            status = max(status, compare_with_server(options, among(list(found.left)), found, check))
+            status = max(
+                status, compare_with_server(options, among(list(found.left)), found, check)
+            )
     return found.ended(status)
 
 
-def compare_with_server(options: Options, choose: Callable[[Source], list[Table]], found: Compared, check: Check) -> int:
+def compare_with_server(
+    options: Options, choose: Callable[[Source], list[Table]], found: Compared, check: Check
+) -> int:
     with contextlib.ExitStack() as stack:
         at, folder = read_file(options.tables)
         trail = stack.enter_context(contextlib.closing(Trail(options.feed or folder, at)))
@@ -152,7 +181,9 @@ def compare_with_server(options: Options, choose: Callable[[Source], list[Table]
         wait(options.tables, trail, point, check)
         view = stack.enter_context(contextlib.closing(View(options.tables, check)))
         if view.at < trail.last:
-            raise Passing(f"{options.tables} was taken back to {lsn_text(view.at)} meanwhile: nothing was compared")
+            raise Passing(
+                f"{options.tables} was taken back to {lsn_text(view.at)} meanwhile: nothing was compared"
+            )
         view.trail = trail
         # (of one that is added since then the feed lacks changes up to here, or truncates it)
         followed(options, tables)
@@ -167,7 +198,9 @@ def compare_with_server(options: Options, choose: Callable[[Source], list[Table]
 
 def followed(options: Options, tables: list[Table]) -> list[Table]:
     """Tables none of which is being added now, as far as the store is known."""
-    return settled(tables, read_known(options.store + ".connector"), Remembered(options.store).partial)
+    return settled(
+        tables, read_known(options.store + ".connector"), Remembered(options.store).partial
+    )
 
 
 def source_of(options: Options, check: Check) -> Source:
@@ -186,8 +219,14 @@ def wait(path: str, trail: Trail, point: int, check: Check) -> None:
     until = time.monotonic() + PATIENCE
     while not (has := trail.has(point)) or read_file(path)[0] < trail.last:
         if time.monotonic() > until:
-            behind = f"{path} is at {lsn_text(read_file(path)[0])}" if has else f"the feed {trail.folder} doesn't have all"
-            raise Passing(f"{behind}, and {lsn_text(point)} wasn't reached in {PATIENCE:.0f} seconds: does its follower run? Nothing was compared")
+            behind = (
+                f"{path} is at {lsn_text(read_file(path)[0])}"
+                if has
+                else f"the feed {trail.folder} doesn't have all"
+            )
+            raise Passing(
+                f"{behind}, and {lsn_text(point)} wasn't reached in {PATIENCE:.0f} seconds: does its follower run? Nothing was compared"
+            )
         check()
         time.sleep(LOOK)
 
@@ -202,25 +241,37 @@ def with_rows(options: Options, view: View, tables: list[Table]) -> list[Table]:
     if left and options.table:
         raise Unfit(f"{view.path} was made without {names_of([it.text() for it in left])}")
     if left:
-        log.info(f"{view.path} was made without {counted(len(left), 'table')}: {names_of([it.text() for it in left])}")
+        log.info(
+            f"{view.path} was made without {counted(len(left), 'table')}: {names_of([it.text() for it in left])}"
+        )
     return [it for it in tables if it not in left]
 
 
-def compare(options: Options, sides: Tables, tables: list[Table], where: str, views: list[View]) -> int:
+def compare(
+    options: Options, sides: Tables, tables: list[Table], where: str, views: list[View]
+) -> int:
     """Compares tables, and tells what differs; the exit status."""
     verifier = ByDigests(options, sides) if options.digests else Verifier(options, sides)
     is_equal = verifier.run(tables)
     for view in views:
         for relation in view.wrong:
-            log.warning(f"{view.path}: the digest that it keeps of {relation.text()} isn't that of its rows: another program has written there")
+            log.warning(
+                f"{view.path}: the digest that it keeps of {relation.text()} isn't that of its rows: another program has written there"
+            )
     is_right = not any(it.wrong for it in views)
     how = " by the digests that are kept" if options.digests else ""
     text = f"{counted(len(tables), 'table')}, {counted(verifier.rows, 'row')} {where}"
-    log.info(f"{text}: {('equal' if is_right else 'equal rows') + how if is_equal else 'the copy differs'}")
+    log.info(
+        f"{text}: {('equal' if is_right else 'equal rows') + how if is_equal else 'the copy differs'}"
+    )
     wrong = [relation_name(it) for view in views for it in view.wrong]
-    wrong += [it.text() for it in verifier.different] + [it.name() for view in views for it in view.lacks]
+    wrong += [it.text() for it in verifier.different] + [
+        it.name() for view in views for it in view.lacks
+    ]
     if wrong:
-        log.warning(f"rows come anew by: {cure(options.store or store_at(views[-1].folder), sorted(set(wrong)))}")
+        log.warning(
+            f"rows come anew by: {cure(options.store or store_at(views[-1].folder), sorted(set(wrong)))}"
+        )
     return DIFFERENT if wrong else EQUAL
 
 
@@ -243,14 +294,29 @@ def with_file(options: Options, check: Check) -> int:
         tables = chosen(tables, options.table) if options.table else tables
         both = with_rows(options, other, with_rows(options, view, tables))
         found = Compared()
-        found.left = left_of(both, {oid: why for it in (other, view) if it.trail for oid, why in it.trail.unknown(it.at).items()})
+        found.left = left_of(
+            both,
+            {
+                oid: why
+                for it in (other, view)
+                if it.trail
+                for oid, why in it.trail.unknown(it.at).items()
+            },
+        )
         rest = [it for it in both if it.oid not in found.left]
-        status = compare(options, Files(other, view), rest, f"in {other.path} at {lsn_text(point)}", [other, view])
+        status = compare(
+            options,
+            Files(other, view),
+            rest,
+            f"in {other.path} at {lsn_text(point)}",
+            [other, view],
+        )
     return found.ended(status)
 
 
 def source_in(view: View, feed: str) -> Head | None:
-    """What a file's rows are of. One that has taken no commit yet doesn't say it, but its feed does."""
+    """What a file's rows are of. One that has taken no commit yet doesn't say it, but its feed
+    does."""
     folder = feed or view.folder
     return view.source or (read_source(folder) if os.path.isdir(folder) else None)
 
@@ -268,7 +334,9 @@ def trail_to(options: Options, view: View, point: int) -> Trail:
     """The way back of the file that is ahead."""
     folder = options.feed or view.folder
     if not os.path.isdir(folder):
-        raise Unfit(f"{view.path} is at {lsn_text(view.at)}, and its feed {folder} isn't here to take it back to {lsn_text(point)}: name one by --feed")
+        raise Unfit(
+            f"{view.path} is at {lsn_text(view.at)}, and its feed {folder} isn't here to take it back to {lsn_text(point)}: name one by --feed"
+        )
     trail = Trail(folder, point)
     if not trail.has(point):
         trail.close()
@@ -282,9 +350,26 @@ def tables_of(views: Sequence[View]) -> list[Table]:
     for view in views:
         for oid, valued in view.tables.items():
             relation = valued.relation
-            columns = [Column(it.name, it.type_oid, it.modifier, it.key) for it in relation.shape.columns]
+            columns = [
+                Column(it.name, it.type_oid, it.modifier, it.key) for it in relation.shape.columns
+            ]
             schema = relation.namespace or "pg_catalog"
             if oid not in found or oid not in view.untold:
-                found.setdefault(oid, Table(oid, schema, relation.name, "r", relation.shape.identity, None, None, columns))
+                found.setdefault(
+                    oid,
+                    Table(
+                        oid,
+                        schema,
+                        relation.name,
+                        "r",
+                        relation.shape.identity,
+                        None,
+                        None,
+                        columns,
+                    ),
+                )
     asides = {oid: it for view in views for oid, it in view.asides.items() if oid not in found}
-    return [*found.values(), *(Table(oid, it.schema, it.table, "r", "", None, None, []) for oid, it in asides.items())]
+    return [
+        *found.values(),
+        *(Table(oid, it.schema, it.table, "r", "", None, None, []) for oid, it in asides.items()),
+    ]

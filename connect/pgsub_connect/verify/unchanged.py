@@ -11,11 +11,12 @@ from __future__ import annotations
 
 from collections.abc import Callable
 
+from pgsub_feed.texts import literal
+
+from ..copy.table_reader import GONE, LOCK_TIMEOUT, lock_tables
 from ..errors import ServerError, understood
 from ..server.connection import Connection
 from ..server.publications import Table
-from ..copy.table_reader import GONE, LOCK_TIMEOUT, lock_tables
-from pgsub_feed.texts import literal
 
 MOVED, ALTERED, LOCKED = "truncated or written anew", "altered or dropped", "locked by others"
 

@@ -1,22 +1,24 @@
 """A feed's commits as lines of a bulk request, for Elasticsearch and OpenSearch.
 
-A document's version is the LSN at which its commit ends. One version can say one thing of a document alone: so each commit has one
-line of each key that it changes, what it leaves of the row. Whatever is sent again, or late, has a version that isn't above the one that is
-there, and is rejected with the status 409, which loses nothing.
+A document's version is the LSN at which its commit ends. One version can say one thing of a
+document alone: so each commit has one line of each key that it changes, what it leaves of the row.
+Whatever is sent again, or late, has a version that isn't above the one that is there, and is
+rejected with the status 409, which loses nothing.
 """
 
 from __future__ import annotations
 
 from collections.abc import Callable, Iterator
 
-from .. import log
-from pgsub_connect.errors import Unfit
 from pgsub_connect.drift.remembered import Relation
-from ..texts import lsn_text
-from .lines import Objects, Row, compact
-from .keys import index_text, key_of, row_text
+from pgsub_connect.errors import Unfit
+
+from .. import log
 from ..reader.commits import Change, Commit
 from ..reader.segments import Reader
+from ..texts import lsn_text
+from .keys import index_text, key_of, row_text
+from .lines import Objects, Row, compact
 
 # The versions are positive, and have 64 bits with a sign; an id has at most so many bytes.
 MOST_VERSION, MOST_ID = (1 << 63) - 1, 512
@@ -24,7 +26,8 @@ Documents = dict[tuple[str, str], Row]
 
 
 class Bulk(Objects):
-    """The lines of a bulk request. `truncated` is the commit whose TRUNCATEs the user has made in the indexes already."""
+    """The lines of a bulk request. `truncated` is the commit whose TRUNCATEs the user has made in
+    the indexes already."""
 
     def __init__(self, is_chosen: Callable[[Relation], bool], truncated: int | None = None) -> None:
         super().__init__(is_chosen, lambda it: "\\x" + it.hex())
@@ -37,13 +40,21 @@ class Bulk(Objects):
         left: Documents = {}
         for it in self.changes(reader, commit):
             if not isinstance(it, Change):
-                self.tell("x", f"{commit.text()}: a change that found no row is left out, and any later one")
+                self.tell(
+                    "x",
+                    f"{commit.text()}: a change that found no row is left out, and any later one",
+                )
             elif it.op == "t":
                 self.truncate(commit, it.relation, left)
             else:
                 self.change(commit, it, left)
         for (index, row_id), row in left.items():
-            about = {"_index": index, "_id": row_id, "version": commit.end, "version_type": "external"}
+            about = {
+                "_index": index,
+                "_id": row_id,
+                "version": commit.end,
+                "version_type": "external",
+            }
             yield compact({"delete" if row is None else "index": about})
             if row is not None:
                 yield compact(row)
@@ -65,7 +76,9 @@ class Bulk(Objects):
             if cells is not None:
                 row_id = row_text(key, cells)
                 if len(row_id.encode()) > MOST_ID:
-                    raise Unfit(f"{commit.text()}: {relation.text()} has a key of more than {MOST_ID} bytes, which no document's id has")
+                    raise Unfit(
+                        f"{commit.text()}: {relation.text()} has a key of more than {MOST_ID} bytes, which no document's id has"
+                    )
                 # (the last line of a document is where its last change is)
                 left.pop((index, row_id), None)
                 left[index, row_id] = row

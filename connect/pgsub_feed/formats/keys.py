@@ -1,4 +1,5 @@
-"""What tables and rows are called outside of SQL: a name without dots of its own, and the values of a key as one text.
+"""What tables and rows are called outside of SQL: a name without dots of its own, and the values of
+a key as one text.
 
 | Text | Is |
 |---|---|
@@ -7,8 +8,8 @@
 | `A-1` | the row with this key |
 | `1:2` | that with a key of two columns |
 
-In a name `%`, `:` and `.` are written as `%25`, `%3A` and `%2E`, in a value `%` and `:` so; null is `%null`, and a binary value `%x` with
-its digits. So no two have one text.
+In a name `%`, `:` and `.` are written as `%25`, `%3A` and `%2E`, in a value `%` and `:` so; null is
+`%null`, and a binary value `%x` with its digits. So no two have one text.
 """
 
 from __future__ import annotations
@@ -17,6 +18,7 @@ import string
 from collections.abc import Sequence
 
 from pgsub_connect.drift.remembered import Relation
+
 from ..reader.commits import Cell
 
 NULL = "%null"
@@ -30,7 +32,11 @@ OF_TOKEN = frozenset(range(0x21, 0x7F)) - frozenset(b"%.*>")
 def key_of(relation: Relation) -> list[int]:
     """The numbers of the columns by which rows are found; none where there is no key."""
     columns = relation.shape.columns
-    return [at for at, it in enumerate(columns) if it.key] if relation.shape.identity in ("d", "i") else []
+    return (
+        [at for at, it in enumerate(columns) if it.key]
+        if relation.shape.identity in ("d", "i")
+        else []
+    )
 
 
 def full(schema: str) -> str:
@@ -59,7 +65,8 @@ def escaped(text: str, kept: frozenset[int], digits: str = "%{:02X}") -> str:
 
 
 def index_text(schema: str, table: str) -> str:
-    """A table's name as that of an index, which has no capitals, and doesn't begin with any sign."""
+    """A table's name as that of an index, which has no capitals, and doesn't begin with any
+    sign."""
     name = escaped(table, OF_INDEX, "%{:02x}")
     if schema != "public":
         name = escaped(full(schema), OF_INDEX, "%{:02x}") + "." + name

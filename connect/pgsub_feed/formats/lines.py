@@ -6,8 +6,9 @@
 | `objects` | an object for each change, its rows by the names of the columns |
 | `debezium` | the envelope of Debezium's connectors for each change |
 
-Values are typed as in the tables that follow a feed, by the OID of the type: numbers where JSON has them, `bool` as true and false, and
-all else as the server prints it; in `debezium` the bytes of `bytea` are in base64.
+Values are typed as in the tables that follow a feed, by the OID of the type: numbers where JSON has
+them, `bool` as true and false, and all else as the server prints it; in `debezium` the bytes of
+`bytea` are in base64.
 """
 
 from __future__ import annotations
@@ -18,13 +19,14 @@ import re
 from collections.abc import Callable, Iterable, Iterator
 from typing import Any
 
-from .. import log
-from pgsub_connect.errors import Unfit
 from pgsub_connect.drift.remembered import Relation
-from ..tables.values import BOOL, BYTEA
-from ..tables.table import Valued
-from ..reader.commits import Cell, Change, Commit, Head, Missed, TableLine, UNSENT, Unsent
+from pgsub_connect.errors import Unfit
+
+from .. import log
+from ..reader.commits import UNSENT, Cell, Change, Commit, Head, Missed, TableLine, Unsent
 from ..reader.segments import Reader
+from ..tables.table import Valued
+from ..tables.values import BOOL, BYTEA
 
 Row = dict[str, Any] | None
 
@@ -41,7 +43,9 @@ def compact(value: object) -> bytes:
 class Objects:
     """Rows as objects."""
 
-    def __init__(self, is_chosen: Callable[[Relation], bool], of_bytes: Callable[[bytes], str]) -> None:
+    def __init__(
+        self, is_chosen: Callable[[Relation], bool], of_bytes: Callable[[bytes], str]
+    ) -> None:
         self.is_chosen, self.of_bytes = is_chosen, of_bytes
         self.known: dict[int, Valued] = {}
 
@@ -57,7 +61,11 @@ class Objects:
             return None
         valued = self.valued(relation)
         named = zip(relation.shape.columns, cells, strict=True)
-        return {it.name: self.value(valued, at, cell) for at, (it, cell) in enumerate(named) if not isinstance(cell, Unsent)}
+        return {
+            it.name: self.value(valued, at, cell)
+            for at, (it, cell) in enumerate(named)
+            if not isinstance(cell, Unsent)
+        }
 
     def value(self, valued: Valued, at: int, cell: Cell) -> object:
         kind = valued.relation.shape.columns[at].type_oid
@@ -67,7 +75,9 @@ class Objects:
             # (the type was altered, and the row is from before)
             return self.of_bytes(cell) if isinstance(cell, bytes) else cell
         if isinstance(value, bytes):
-            return self.of_bytes(value) if kind == BYTEA else value.decode(errors="backslashreplace")
+            return (
+                self.of_bytes(value) if kind == BYTEA else value.decode(errors="backslashreplace")
+            )
         return bool(value) if kind == BOOL and value is not None else value
 
     def changes(self, reader: Reader, commit: Commit) -> Iterator[Change | Missed]:
@@ -90,7 +100,8 @@ class Lines:
 
 
 class ByName(Objects):
-    """An object for each change, its `id` made of the commit's LSN and the number of the change in it."""
+    """An object for each change, its `id` made of the commit's LSN and the number of the change in
+    it."""
 
     def __init__(self, is_chosen: Callable[[Relation], bool]) -> None:
         super().__init__(is_chosen, lambda it: "\\x" + it.hex())
@@ -99,25 +110,41 @@ class ByName(Objects):
         for it in self.changes(reader, commit):
             relation = it.relation
             told: dict[str, object] = {
-                "id": f"{commit.text()}:{it.n}", "xid": commit.xid, "ts_us": commit.ts_us,
-                "op": it.op if isinstance(it, Change) else "x", "schema": relation.namespace, "table": relation.name,
+                "id": f"{commit.text()}:{it.n}",
+                "xid": commit.xid,
+                "ts_us": commit.ts_us,
+                "op": it.op if isinstance(it, Change) else "x",
+                "schema": relation.namespace,
+                "table": relation.name,
             }
             if isinstance(it, Change):
-                told |= {"before": self.row(relation, it.before), "after": self.row(relation, it.after)}
+                told |= {
+                    "before": self.row(relation, it.before),
+                    "after": self.row(relation, it.after),
+                }
             else:
-                told |= {"sent": it.sent, "old": self.row(relation, old_cells(it)), "new": self.row(relation, it.new)}
+                told |= {
+                    "sent": it.sent,
+                    "old": self.row(relation, old_cells(it)),
+                    "new": self.row(relation, it.new),
+                }
             yield compact(told)
 
 
 def old_cells(it: Missed) -> list[Cell | Unsent] | None:
-    """The old tuple of a change that found no row; of a key, the columns that aren't in it weren't sent."""
+    """The old tuple of a change that found no row; of a key, the columns that aren't in it weren't
+    sent."""
     if it.old is None or it.kind != "K":
         return it.old
-    return [cell if column.key else UNSENT for column, cell in zip(it.relation.shape.columns, it.old, strict=True)]
+    return [
+        cell if column.key else UNSENT
+        for column, cell in zip(it.relation.shape.columns, it.old, strict=True)
+    ]
 
 
 class Debezium(Objects):
-    """The envelope of Debezium's connectors. A change that found no row has none, and is left out."""
+    """The envelope of Debezium's connectors. A change that found no row has none, and is left
+    out."""
 
     def __init__(self, is_chosen: Callable[[Relation], bool]) -> None:
         super().__init__(is_chosen, lambda it: base64.b64encode(it).decode())
@@ -131,7 +158,9 @@ class Debezium(Objects):
                 yield compact(self.envelope(head, commit, it))
             elif not self.is_told:
                 self.is_told = True
-                log.warning(f"{commit.text()}: a change that found no row is left out, and any later one")
+                log.warning(
+                    f"{commit.text()}: a change that found no row is left out, and any later one"
+                )
 
     def envelope(self, head: Head, commit: Commit, it: Change) -> dict[str, object]:
         relation = it.relation
@@ -139,7 +168,11 @@ class Debezium(Objects):
             "before": self.row(relation, it.before),
             "after": self.row(relation, it.after),
             "source": {
-                "db": head.database, "schema": relation.namespace, "table": relation.name, "txId": commit.xid, "lsn": commit.lsn,
+                "db": head.database,
+                "schema": relation.namespace,
+                "table": relation.name,
+                "txId": commit.xid,
+                "lsn": commit.lsn,
                 "ts_us": commit.ts_us,
             },
             "op": it.op,
@@ -150,5 +183,7 @@ class Debezium(Objects):
 
 Format = Lines | ByName | Debezium
 FORMATS: dict[str, Callable[[Callable[[Relation], bool]], Format]] = {
-    "lines": lambda _: Lines(), "objects": ByName, "debezium": Debezium,
+    "lines": lambda _: Lines(),
+    "objects": ByName,
+    "debezium": Debezium,
 }

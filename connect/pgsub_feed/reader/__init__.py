@@ -1,1 +1,2 @@
-"""The folder of a feed: its segments, their lines, the commits in them, and where each reader is."""
+"""The folder of a feed: its segments, their lines, the commits in them, and where each reader is.
+"""

@@ -6,6 +6,7 @@ import dataclasses
 from typing import NamedTuple
 
 from pgsub_connect.drift.remembered import Relation
+
 from ..texts import lsn_text
 
 
@@ -47,8 +48,8 @@ class Closing:
 
 @dataclasses.dataclass(frozen=True)
 class Commit:
-    """A commit: where it ends and the one before it does, how many bytes and changes follow, and what its message told of it:
-    the final LSN, the xid and the time in microseconds since 1970."""
+    """A commit: where it ends and the one before it does, how many bytes and changes follow, and
+    what its message told of it: the final LSN, the xid and the time in microseconds since 1970."""
 
     end: int
     prev: int
@@ -64,7 +65,8 @@ class Commit:
 
 @dataclasses.dataclass(frozen=True)
 class Cursor:
-    """Where a reader is: the segment, by its base, the offset in it, and the end of the commit before."""
+    """Where a reader is: the segment, by its base, the offset in it, and the end of the commit
+    before."""
 
     segment: int
     offset: int
@@ -78,7 +80,8 @@ class TableLine(NamedTuple):
 
 
 class Change(NamedTuple):
-    """A change: `op` is c, u, d or t, for an insert, an update, a delete and a truncation; the rows are whole."""
+    """A change: `op` is c, u, d or t, for an insert, an update, a delete and a truncation; the rows
+    are whole."""
 
     op: str
     relation: Relation
@@ -88,7 +91,8 @@ class Change(NamedTuple):
 
 
 class Missed(NamedTuple):
-    """An update or a delete that found no row: `sent` is u or d, `kind` is K, O or "" where no old tuple was sent."""
+    """An update or a delete that found no row: `sent` is u or d, `kind` is K, O or "" where no old
+    tuple was sent."""
 
     relation: Relation
     n: int

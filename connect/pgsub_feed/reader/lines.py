@@ -8,14 +8,16 @@ import re
 from collections.abc import Callable, Iterator, Sequence
 from typing import Any
 
-from pgsub_connect.server.catalog import Column, Shape
 from pgsub_connect.drift.remembered import Relation
+from pgsub_connect.server.catalog import Column, Shape
+
+from ..faults import COUNTS, LINE, UNDESCRIBED, WIDTH, Damaged
 from ..texts import parse_lsn
-from ..faults import COUNTS, Damaged, LINE, UNDESCRIBED, WIDTH
-from .commits import Cells, Change, Closing, Commit, Head, Missed, Part, TableLine, UNSENT, Unsent
+from .commits import UNSENT, Cells, Change, Closing, Commit, Head, Missed, Part, TableLine, Unsent
 
 FORMAT = 1
-# How many bytes the head of a segment has, and the line of a commit, or that which closes a segment.
+# How many bytes the head of a segment has, and the line of a commit, or that which closes a
+# segment.
 HEAD_SIZE, COMMIT_SIZE = 1024, 256
 # How many definitions are kept read.
 MOST_DEFINITIONS = 10000
@@ -85,13 +87,19 @@ def read_head(line: bytes) -> Head:
     try:
         if found["feed"] != FORMAT:
             raise ValueError
-        return Head(parse_lsn(text(found["base"])), text(found["system"]), text(found["database"]), text(found["slot"]))
+        return Head(
+            parse_lsn(text(found["base"])),
+            text(found["system"]),
+            text(found["database"]),
+            text(found["slot"]),
+        )
     except KeyError:
         raise ValueError from None
 
 
 def read_commit(line: bytes) -> Commit | Closing:
-    """The line of a commit, or that which closes a segment. A ValueError says that it is neither."""
+    """The line of a commit, or that which closes a segment. A ValueError says that it is
+    neither."""
     if plain := PLAIN.fullmatch(line):
         end, prev, size, changes, final, xid, time = plain.groups()
         about = (lsn_of(final), int(xid), int(time)) if final else (None, None, None)
@@ -105,7 +113,8 @@ def lsn_of(text: bytes) -> int:
 
 
 def read_commit_object(line: bytes) -> Commit | Closing:
-    """The same of a line that isn't as it is written today: with more fields, or in another order."""
+    """The same of a line that isn't as it is written today: with more fields, or in another
+    order."""
     found = read_object(line)
     try:
         if "last" in found:
@@ -121,10 +130,14 @@ def read_commit_object(line: bytes) -> Commit | Closing:
 
 
 def read_relation(found: dict[str, Any]) -> Relation:
-    """The line of a definition. A column is one of the key where the line lists its name, in a table that has a key."""
+    """The line of a definition. A column is one of the key where the line lists its name, in a
+    table that has a key."""
     listed = found["key"]
     keys = {text(it) for it in listed} if listed is not None else set[str]()
-    columns = tuple(Column(text(name), oid(kind), number(modifier), name in keys) for name, kind, modifier in found["columns"])
+    columns = tuple(
+        Column(text(name), oid(kind), number(modifier), name in keys)
+        for name, kind, modifier in found["columns"]
+    )
     shape = Shape(text(found["identity"]), columns)
     return Relation(oid(found["oid"]), text(found["schema"]), text(found["table"]), shape)
 
@@ -165,7 +178,11 @@ class Decoder:
 
     def finish(self) -> None:
         if self.n != self.commit.changes:
-            raise self.fault(COUNTS, self.offset, f"the commit has {self.n} changes, and its line says {self.commit.changes}")
+            raise self.fault(
+                COUNTS,
+                self.offset,
+                f"the commit has {self.n} changes, and its line says {self.commit.changes}",
+            )
 
     def read(self, lines: Sequence[bytes]) -> Iterator[Part]:
         """What the next lines say, which have lost their ends."""
@@ -180,7 +197,9 @@ class Decoder:
             try:
                 part = self.part(line, found)
             except (ValueError, KeyError, TypeError):
-                raise self.fault(LINE, self.offset, f"this is no line of a commit: {shown(line)}") from None
+                raise self.fault(
+                    LINE, self.offset, f"this is no line of a commit: {shown(line)}"
+                ) from None
             self.offset += len(line) + 1
             yield part
 
@@ -200,10 +219,18 @@ class Decoder:
             return self.table(line, found)
         relation = self.described.get(found["oid"])
         if relation is None:
-            raise self.fault(UNDESCRIBED, self.offset, f"the relation {found['oid']} isn't described in this commit")
+            raise self.fault(
+                UNDESCRIBED,
+                self.offset,
+                f"the relation {found['oid']} isn't described in this commit",
+            )
         n = self.n
         if number(found["n"]) != n:
-            raise self.fault(COUNTS, self.offset, f"the change has number {found['n']}, and is number {n} of its commit")
+            raise self.fault(
+                COUNTS,
+                self.offset,
+                f"the change has number {found['n']}, and is number {n} of its commit",
+            )
         self.n = n + 1
         if op == "x":
             return self.missed(relation, n, found)
@@ -231,19 +258,29 @@ class Decoder:
         if type(row) is not list:
             raise ValueError
         if len(row) != width:
-            raise self.fault(WIDTH, self.offset, f"a row of {len(row)} cells, where there are {width} columns")
+            raise self.fault(
+                WIDTH, self.offset, f"a row of {len(row)} cells, where there are {width} columns"
+            )
         return row if SENT.issuperset(map(type, row)) else read_whole(row)
 
     def missed(self, relation: Relation, n: int, found: dict[str, Any]) -> Missed:
         sent, old, new = found["sent"], found["old"], found["new"]
         kind, cells = ("", None) if old is None else old
-        if sent not in ("u", "d") or kind not in ("", "K", "O") or (sent == "u") != (new is not None):
+        if (
+            sent not in ("u", "d")
+            or kind not in ("", "K", "O")
+            or (sent == "u") != (new is not None)
+        ):
             raise ValueError
         width = len(relation.shape.columns)
         rows = [None if it is None else [read_cell(cell) for cell in it] for it in (cells, new)]
         for row in rows:
             if row is not None and len(row) != width:
-                raise self.fault(WIDTH, self.offset, f"a row of {len(row)} cells, where there are {width} columns")
+                raise self.fault(
+                    WIDTH,
+                    self.offset,
+                    f"a row of {len(row)} cells, where there are {width} columns",
+                )
         return Missed(relation, n, sent, kind, *rows)
 
 

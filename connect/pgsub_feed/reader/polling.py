@@ -7,13 +7,15 @@ from collections.abc import Iterator
 
 from pgsub_connect.errors import Unfit
 from pgsub_connect.server.connection import Check
+
 from ..faults import Damaged
 from .commits import Commit
 from .segments import Reader
 
 # How long to wait at first and at most until the feed is looked at again, in seconds.
 SHORT, LONG = 0.005, 0.02
-# For how long what can't be read, or doesn't go on, may be what the filter is about to cut off, in seconds.
+# For how long what can't be read, or doesn't go on, may be what the filter is about to cut off, in
+# seconds.
 PATIENCE = 3.0
 
 
@@ -40,7 +42,8 @@ class Poll:
         return commit
 
     def bear(self, wrong: Damaged | Unfit, at: int) -> None:
-        """Lets what is wrong pass for now, or raises it. It is right again once a commit is there that begins at this LSN or later."""
+        """Lets what is wrong pass for now, or raises it. It is right again once a commit is there
+        that begins at this LSN or later."""
         now = time.monotonic()
         self.wrong, self.wrong_at = now if self.wrong is None else self.wrong, at
         if not self.is_following or now - self.wrong > PATIENCE:

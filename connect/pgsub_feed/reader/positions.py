@@ -1,4 +1,5 @@
-"""Where the readers of a feed are: `FOLDER/readers/NAME` has a reader's LSN, whose commits aren't needed any more up to there."""
+"""Where the readers of a feed are: `FOLDER/readers/NAME` has a reader's LSN, whose commits aren't
+needed any more up to there."""
 
 from __future__ import annotations
 
@@ -6,9 +7,10 @@ import contextlib
 import os
 import time
 
-from ..ownership import real, set_mode
 from pgsub_connect.drift.remembered import replace_file
 from pgsub_connect.store.snapshot import LOG, sync_folder
+
+from ..ownership import real, set_mode
 from ..texts import lsn_text
 
 READERS = "readers"
@@ -17,7 +19,8 @@ OFTEN = 1.0
 
 
 def make_folder(path: str, mode: int) -> None:
-    """Makes a folder, which whoever may read a file of this mode may look into, unless it is there."""
+    """Makes a folder, which whoever may read a file of this mode may look into, unless it is
+    there."""
     try:
         os.mkdir(path, 0o700)
     except FileExistsError:
@@ -29,7 +32,8 @@ def make_folder(path: str, mode: int) -> None:
 
 
 class Noted:
-    """The LSN of a reader whose rows are in a file of SQLite's with a log beside it, or in none, and on a disk already."""
+    """The LSN of a reader whose rows are in a file of SQLite's with a log beside it, or in none,
+    and on a disk already."""
 
     def __init__(self, feed: str, name: str, rows: str | None, mode: int) -> None:
         self.folder, self.rows, self.mode = os.path.join(feed, READERS), rows, mode

@@ -1,11 +1,13 @@
 """The folder of a feed: its segments, and a reader of their commits, each once it is whole.
 
-A segment's name is its base, in 16 hexadecimal digits. A reader has an LSN of its own: it passes over the commits that don't end above
-it, and the first that it takes must be the one after it. A commit whose bytes aren't all there yet is waited for. Where the feed was
-written anew from some commit on, the reader goes on from its LSN.
+A segment's name is its base, in 16 hexadecimal digits. A reader has an LSN of its own: it passes
+over the commits that don't end above it, and the first that it takes must be the one after it. A
+commit whose bytes aren't all there yet is waited for. Where the feed was written anew from some
+commit on, the reader goes on from its LSN.
 
-A crash may cut off what isn't confirmed. The server sends its commits again, each with the same end; but the connector's own, of rows that
-are added or repaired, end at an LSN that doesn't come again. So these are taken once they are confirmed.
+A crash may cut off what isn't confirmed. The server sends its commits again, each with the same
+end; but the connector's own, of rows that are added or repaired, end at an LSN that doesn't come
+again. So these are taken once they are confirmed.
 """
 
 from __future__ import annotations
@@ -16,12 +18,13 @@ import re
 import time
 from collections.abc import Iterator
 
-from pgsub_connect.errors import FileError, Unfit
 from pgsub_connect.add.replacement import XID
+from pgsub_connect.errors import FileError, Unfit
+
+from ..faults import COMMIT_LINE, COUNTS, NOT_A_FEED, ORDER, OTHER_FEED, Damaged
 from ..texts import lsn_text, parse_lsn
-from .lines import COMMIT_SIZE, Decoder, HEAD_SIZE, read_commit, read_head, shown
-from ..faults import COMMIT_LINE, COUNTS, Damaged, NOT_A_FEED, ORDER, OTHER_FEED
 from .commits import Closing, Commit, Cursor, Head, Part
+from .lines import COMMIT_SIZE, HEAD_SIZE, Decoder, read_commit, read_head, shown
 
 NAME = re.compile(r"[0-9A-Fa-f]{16}")
 CONFIRMED = "confirmed"
@@ -55,7 +58,8 @@ def read_confirmed(folder: str) -> int | None:
 
 
 class Listing:
-    """The segments of a feed, of which there may be many: listed where the folder has another time, and once more a while after that."""
+    """The segments of a feed, of which there may be many: listed where the folder has another time,
+    and once more a while after that."""
 
     def __init__(self, folder: str) -> None:
         self.folder = folder
@@ -91,9 +95,16 @@ class Segment:
         try:
             head = read_head(line)
         except ValueError:
-            raise Damaged(NOT_A_FEED, self.path, 0, f"this is no head of a feed's segment: {shown(line)}") from None
+            raise Damaged(
+                NOT_A_FEED, self.path, 0, f"this is no head of a feed's segment: {shown(line)}"
+            ) from None
         if head.base != self.base:
-            raise Damaged(OTHER_FEED, self.path, 0, f"the segment begins at {lsn_text(head.base)}, and has another name")
+            raise Damaged(
+                OTHER_FEED,
+                self.path,
+                0,
+                f"the segment begins at {lsn_text(head.base)}, and has another name",
+            )
         return head
 
     def read(self, offset: int, size: int) -> bytes:
@@ -111,7 +122,9 @@ class Segment:
         try:
             return read_commit(line)
         except ValueError:
-            raise Damaged(COMMIT_LINE, self.path, offset, f"this is no line of a commit: {shown(line)}") from None
+            raise Damaged(
+                COMMIT_LINE, self.path, offset, f"this is no line of a commit: {shown(line)}"
+            ) from None
 
     def lines(self, offset: int, size: int) -> Iterator[list[bytes]]:
         """The lines of these bytes without their ends, some at a time."""
@@ -127,7 +140,9 @@ class Segment:
                 yield [b"".join(begun), *more[:-1]]
                 begun = more[-1:]
         if any(begun):
-            raise Damaged(COUNTS, self.path, end, "the commit's last line has no end where its bytes end")
+            raise Damaged(
+                COUNTS, self.path, end, "the commit's last line has no end where its bytes end"
+            )
 
     def is_there(self) -> bool:
         """Whether the name is still that of the open file."""
@@ -143,9 +158,12 @@ class Segment:
 
 
 def read_source(folder: str) -> Head | None:
-    """What a feed is a feed of, by the head of its last segment; None where that isn't there yet."""
+    """What a feed is a feed of, by the head of its last segment; None where that isn't there
+    yet."""
     for base, name in segments(folder)[-1:]:
-        with contextlib.suppress(FileNotFoundError), contextlib.closing(Segment(folder, base, name)) as segment:
+        with contextlib.suppress(FileNotFoundError), contextlib.closing(
+            Segment(folder, base, name)
+        ) as segment:
             return segment.head
     return None
 
@@ -178,13 +196,16 @@ class Reader:
         if self.segment is None or self.segment.base != cursor.segment:
             name = dict(segments(self.folder)).get(cursor.segment)
             if name is None or self.open(cursor.segment, name) is None:
-                raise Unfit(f"{self.folder}: the segment that begins at {lsn_text(cursor.segment)} is gone")
+                raise Unfit(
+                    f"{self.folder}: the segment that begins at {lsn_text(cursor.segment)} is gone"
+                )
         self.offset, self.last, self.at = cursor.offset, cursor.at, cursor.at
 
     def next(self) -> Commit | None:
         """The next commit, None where there is none yet. What it has, `parts` reads.
 
-        An Unfit says that commits after the LSN aren't in the feed, and a Damaged that the feed can't be read.
+        An Unfit says that commits after the LSN aren't in the feed, and a Damaged that the feed
+        can't be read.
         """
         was_open = self.segment is not None
         try:
@@ -200,7 +221,10 @@ class Reader:
         confirmed = 0
         while (segment := self.segment or self.find()) is not None:
             found = segment.commit(self.offset)
-            if isinstance(found, Commit) and self.offset + COMMIT_SIZE + found.bytes <= segment.size():
+            if (
+                isinstance(found, Commit)
+                and self.offset + COMMIT_SIZE + found.bytes <= segment.size()
+            ):
                 if found.xid == XID and found.end > max(confirmed, self.at or 0):
                     confirmed = read_confirmed(self.folder) or 0
                     self.look_after(segment)
@@ -240,7 +264,9 @@ class Reader:
         at = there[0][0] if self.at is None else self.at
         before = [it for it in there if it[0] <= at]
         if not before:
-            raise Unfit(f"{self.folder}: the feed begins at {lsn_text(there[0][0])}, and the commits after {lsn_text(at)} aren't in it")
+            raise Unfit(
+                f"{self.folder}: the feed begins at {lsn_text(there[0][0])}, and the commits after {lsn_text(at)} aren't in it"
+            )
         self.at = at
         return self.open(*before[-1])
 
@@ -263,14 +289,20 @@ class Reader:
         return segment
 
     def go_on(self, segment: Segment, closing: Closing | None) -> bool:
-        """Opens the segment that begins where this one ends. Returns false where it isn't there yet."""
+        """Opens the segment that begins where this one ends. Returns false where it isn't there
+        yet."""
         if closing and closing.last != self.last:
             text = f"the segment says that it ends at {lsn_text(closing.last)}, and its last commit at {lsn_text(self.last)}"
             raise Damaged(ORDER, segment.path, self.offset, text)
         if self.last != segment.base and (name := self.named(self.last)):
             return self.open(self.last, name) is not None
-        # (a segment is looked for by its name as long as others may be begun: there may be many, and this is asked again and again)
-        after = [base for base, _ in self.listing.segments()[-1:] if base > self.last] if closing else []
+        # (a segment is looked for by its name as long as others may be begun: there may be many,
+        # and this is asked again and again)
+        after = (
+            [base for base, _ in self.listing.segments()[-1:] if base > self.last]
+            if closing
+            else []
+        )
         if after and not self.named(self.last):
             base = min(it for it, _ in self.listing.segments() if it > self.last)
             raise Unfit(
@@ -281,10 +313,18 @@ class Reader:
 
     def named(self, base: int) -> str | None:
         """The name of the segment that begins there, None where there is none."""
-        return next((it for it in (f"{base:016X}", f"{base:016x}") if os.path.exists(os.path.join(self.folder, it))), None)
+        return next(
+            (
+                it
+                for it in (f"{base:016X}", f"{base:016x}")
+                if os.path.exists(os.path.join(self.folder, it))
+            ),
+            None,
+        )
 
     def look_after(self, segment: Segment) -> None:
-        """Lets go of a segment that was replaced, is gone, or was cut before where the reader is: it may end there now."""
+        """Lets go of a segment that was replaced, is gone, or was cut before where the reader is:
+        it may end there now."""
         if not segment.is_there() or segment.size() < self.offset:
             self.close()
 
@@ -303,7 +343,9 @@ class Reader:
         assert self.segment
         segment, path, body = self.segment, self.segment.path, self.body
         decoder = self.decoder
-        decoder.begin(commit, lambda number, offset, what: Damaged(number, path, body + offset, what))
+        decoder.begin(
+            commit, lambda number, offset, what: Damaged(number, path, body + offset, what)
+        )
         for lines in segment.lines(body, commit.bytes):
             yield from decoder.read(lines)
         decoder.finish()

@@ -4,12 +4,14 @@ from __future__ import annotations
 
 from collections.abc import Iterable
 
-from ..tables.names import names_of
 from pgsub_connect.drift.remembered import Relation
+
+from ..tables.names import names_of
 
 
 class Chosen:
-    """Tells which relations are chosen: all where none is named. `unseen`: the names of none so far."""
+    """Tells which relations are chosen: all where none is named. `unseen`: the names of none so
+    far."""
 
     def __init__(self, names: Iterable[str]) -> None:
         self.names = set(names)

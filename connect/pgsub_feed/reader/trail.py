@@ -1,6 +1,7 @@
 """The commits of a feed above an LSN, of which the images take a copy back to it.
 
-What a truncation took the feed doesn't have. And the rows from before a repair are the store's, which who follows may never have had.
+What a truncation took the feed doesn't have. And the rows from before a repair are the store's,
+which who follows may never have had.
 """
 
 from __future__ import annotations
@@ -8,16 +9,18 @@ from __future__ import annotations
 from collections.abc import Collection, Iterator
 from typing import NamedTuple
 
-from pgsub_connect.errors import Passing, Unfit
-from pgsub_connect.drift.remembered import Relation
 from pgsub_connect.add.replacement import XID
+from pgsub_connect.drift.remembered import Relation
+from pgsub_connect.errors import Passing, Unfit
+
 from ..texts import lsn_text
 from .commits import Cells, Change, Commit, Cursor
 from .segments import Reader, read_confirmed, segments
 
 
 class Image(NamedTuple):
-    """A row that was there before a change (`sign` 1), or is there since (-1): what is to be added, so that it is taken back."""
+    """A row that was there before a change (`sign` 1), or is there since (-1): what is to be added,
+    so that it is taken back."""
 
     relation: Relation
     cells: Cells
@@ -29,7 +32,8 @@ class Gone(Passing):
 
 
 class Trail:
-    """Reads a feed from an LSN on, which all that is looked for is above, to another one, the point, and from there on."""
+    """Reads a feed from an LSN on, which all that is looked for is above, to another one, the
+    point, and from there on."""
 
     def __init__(self, folder: str, at: int) -> None:
         self.folder = folder
@@ -37,7 +41,8 @@ class Trail:
         if not below:
             raise Unfit(f"{folder}: the feed doesn't have the commits after {lsn_text(at)}")
         self.reader = Reader(folder, below[-1])
-        # where the last commit ends that doesn't end above the point, and where the next one begins, once that is known
+        # where the last commit ends that doesn't end above the point, and where the next one
+        # begins, once that is known
         self.last = below[-1]
         self.first: Cursor | None = None
 
@@ -62,7 +67,9 @@ class Trail:
         except Unfit as wrong:
             there = segments(self.folder)
             if there and there[0][0] > self.last:
-                raise Gone(f"{self.folder}: commits that are needed were removed meanwhile: compare again, or keep them by --feed-max-age") from None
+                raise Gone(
+                    f"{self.folder}: commits that are needed were removed meanwhile: compare again, or keep them by --feed-max-age"
+                ) from None
             raise wrong
 
     def commits(self, until: int) -> Iterator[Commit]:

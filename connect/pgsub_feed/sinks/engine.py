@@ -15,7 +15,8 @@ Read = Callable[[], Iterable[Part]]
 
 @dataclasses.dataclass(frozen=True)
 class Wanted:
-    """What a sink keeps: of the feed with this head the tables that were chosen, by their names; all where none is."""
+    """What a sink keeps: of the feed with this head the tables that were chosen, by their names;
+    all where none is."""
 
     head: Head
     chosen: tuple[str, ...]
@@ -30,12 +31,14 @@ class Wanted:
 
 
 class Engine(Protocol):
-    """Keeps commits. `at` is the LSN up to which all are there: those after it that were taken aren't, until `settle`."""
+    """Keeps commits. `at` is the LSN up to which all are there: those after it that were taken
+    aren't, until `settle`."""
 
     at: int
 
     def open(self, wanted: Wanted) -> bool:
-        """Looks at what is there; whether that is something that can be gone on with. An Unfit says that it is of something else."""
+        """Looks at what is there; whether that is something that can be gone on with. An Unfit says
+        that it is of something else."""
 
     def begin(self, base: Base) -> None:
         """Begins anew, with the rows of a base."""
@@ -50,16 +53,19 @@ class Engine(Protocol):
         """Forgets what was taken since it was settled."""
 
     def finish(self, seconds: float) -> bool:
-        """Has what was taken, where that takes no longer. Returns whether so. Nothing is taken afterwards."""
+        """Has what was taken, where that takes no longer. Returns whether so. Nothing is taken
+        afterwards."""
 
     def look(self) -> None:
         """Looks, while there is nothing to take, whether it can go on."""
 
     def check_disk(self) -> None:
-        """Rejects settings under which it is never known what the engine's disk has. It alters nothing."""
+        """Rejects settings under which it is never known what the engine's disk has. It alters
+        nothing."""
 
     def safe(self) -> int | None:
-        """An LSN whose rows the engine has even if it is lost just now and comes back from its disk; None where that isn't known."""
+        """An LSN whose rows the engine has even if it is lost just now and comes back from its
+        disk; None where that isn't known."""
 
     def close(self) -> None:
         """Ends the connection."""

@@ -1,4 +1,5 @@
-"""Changes as objects, with the rows by the names of the columns. Values are texts, as in the feed."""
+"""Changes as objects, with the rows by the names of the columns. Values are texts, as in the feed.
+"""
 
 from __future__ import annotations
 
@@ -6,9 +7,10 @@ import json
 from collections.abc import Sequence
 from typing import Optional
 
+from pgsub_connect.drift.remembered import Relation
+
 from ..formats.lines import old_cells
 from ..reader.commits import Cell, Cells, Change, Missed, Unsent
-from pgsub_connect.drift.remembered import Relation
 
 # The op of a row that was there before the first commit.
 BASE = "r"
@@ -21,9 +23,13 @@ def compact(value: object) -> str:
 def object_text(relation: Relation, cells: Sequence[Cell | Unsent]) -> str:
     """A row, without cells that weren't sent."""
     named = zip(relation.shape.columns, cells, strict=True)
-    return compact({
-        column.name: {"hex": it.hex()} if isinstance(it, bytes) else it for column, it in named if not isinstance(it, Unsent)
-    })
+    return compact(
+        {
+            column.name: {"hex": it.hex()} if isinstance(it, bytes) else it
+            for column, it in named
+            if not isinstance(it, Unsent)
+        }
+    )
 
 
 def entry(it: Change | Missed) -> dict[str, str]:
@@ -33,7 +39,11 @@ def entry(it: Change | Missed) -> dict[str, str]:
         told, rows = {"op": "x", "sent": f'"{it.sent}"'}, {"old": old_cells(it), "new": it.new}
     else:
         told, rows = {"op": it.op}, {"before": it.before, "after": it.after}
-    return {**told, "oid": str(it.relation.oid), **{name: object_text(it.relation, row) for name, row in rows.items() if row is not None}}
+    return {
+        **told,
+        "oid": str(it.relation.oid),
+        **{name: object_text(it.relation, row) for name, row in rows.items() if row is not None},
+    }
 
 
 def base_entry(relation: Relation, row: Cells) -> dict[str, str]:

@@ -9,17 +9,18 @@ import sqlite3
 from collections.abc import Iterator
 from typing import TYPE_CHECKING
 
+from pgsub_connect.drift.remembered import Relation
 from pgsub_connect.errors import FileError, Unfit
+from pgsub_connect.server.connection import Check
+from pgsub_connect.store.at_rest import own_name
 from pgsub_connect.store.export import run as export
-from ..tables.first_rows import check_begin, opened
+from pgsub_connect.store.file import is_export
+from pgsub_connect.store.snapshot import remove
+
 from ..reader.commits import Cells
 from ..tables.file import unlisted
+from ..tables.first_rows import check_begin, opened
 from ..tables.names import POSITION, TABLES, names_of, told_columns
-from pgsub_connect.server.connection import Check
-from pgsub_connect.drift.remembered import Relation
-from pgsub_connect.store.at_rest import own_name
-from pgsub_connect.store.snapshot import remove
-from pgsub_connect.store.file import is_export
 from ..texts import identifier, parse_lsn
 
 if TYPE_CHECKING:
@@ -49,7 +50,9 @@ class Exported(Base):
 
     def tables(self) -> list[Relation]:
         found = []
-        for name, schema, table, oid in self.db.execute(f"SELECT * FROM {TABLES} ORDER BY oid").fetchall():
+        for name, schema, table, oid in self.db.execute(
+            f"SELECT * FROM {TABLES} ORDER BY oid"
+        ).fetchall():
             relation = unlisted(self.db, name, schema, table, oid)
             if not self.chosen or self.chosen & names_of(relation.namespace, relation.name):
                 self.check(name, relation)
@@ -59,22 +62,29 @@ class Exported(Base):
 
     def check(self, name: str, relation: Relation) -> None:
         """Rejects a table whose values, or the names of whose columns, aren't the server's."""
-        if self.db.execute("SELECT EXISTS (SELECT 1 FROM pragma_table_info(?) WHERE type <> 'TEXT')", (name,)).fetchone()[0]:
-            raise FileError(f"--base {self.path}: its values aren't as the server prints them: make it by `pgsub-connect export --text`")
+        if self.db.execute(
+            "SELECT EXISTS (SELECT 1 FROM pragma_table_info(?) WHERE type <> 'TEXT')", (name,)
+        ).fetchone()[0]:
+            raise FileError(
+                f"--base {self.path}: its values aren't as the server prints them: make it by `pgsub-connect export --text`"
+            )
         columns = [it.name for it in relation.shape.columns]
         if told_columns(columns) != columns:
             text = "names of columns are equal but for case, and an export can't tell them apart: choose other tables"
             raise Unfit(f"{relation.text()}: {text}")
 
     def rows(self, relation: Relation) -> Iterator[Cells]:
-        for row in self.db.execute(f"SELECT * FROM {identifier(self.names[relation.oid])} ORDER BY rowid"):
+        for row in self.db.execute(
+            f"SELECT * FROM {identifier(self.names[relation.oid])} ORDER BY rowid"
+        ):
             # (one without columns has one there)
             yield list(row) if relation.shape.columns else []
 
 
 @contextlib.contextmanager
 def base_of(options: Options, chosen: tuple[str, ...], check: Check) -> Iterator[Base]:
-    """What a sink begins with: an export that is named or asked for, or nothing, where that is what its feed begins with."""
+    """What a sink begins with: an export that is named or asked for, or nothing, where that is what
+    its feed begins with."""
     if options.base:
         with exported(options.base, chosen) as found:
             yield found

@@ -1,4 +1,5 @@
-"""What JetStream is asked: a stream, its messages, and that it takes one in the place where it belongs."""
+"""What JetStream is asked: a stream, its messages, and that it takes one in the place where it
+belongs."""
 
 from __future__ import annotations
 
@@ -13,13 +14,15 @@ from collections.abc import Iterator
 from typing import Any
 
 from pgsub_connect.errors import EngineError, Passing, TooLarge
+
 from ..json_texts import Unreadable, list_of, object_of, text_of, whole_of
 from ..texts import shortened
 from .nats_wire import Message, Wire, header_bytes, read_headers
 
 # How long to wait for what it says, in seconds.
 LONGEST = 30.0
-# How many messages, and bytes of them, may be published until it has said that it has the first of them.
+# How many messages, and bytes of them, may be published until it has said that it has the first of
+# them.
 MOST, ROOM = 4000, 8 << 20
 NO_STREAM, NO_MESSAGE, WRONG_SEQUENCE, OTHER_TOO_LARGE = 10059, 10037, 10071, 10054
 NO_JETSTREAM = (10039, 10076)
@@ -40,7 +43,8 @@ class Stored:
 
 @dataclasses.dataclass(frozen=True)
 class Info:
-    """What is told of a stream: how many messages it has, the sequences of the first and the last one, and its subjects."""
+    """What is told of a stream: how many messages it has, the sequences of the first and the last
+    one, and its subjects."""
 
     messages: int
     first: int
@@ -78,14 +82,18 @@ class JetStream:
         reply = f"{self.inbox}.ask{self.asked}"
         self.wire.publish(f"$JS.API.{what}", reply, b"", json.dumps(body).encode() if body else b"")
         end = time.monotonic() + LONGEST
-        while (message := self.wire.receive(max(0.0, end - time.monotonic()))) is not None and time.monotonic() <= end:
+        while (
+            message := self.wire.receive(max(0.0, end - time.monotonic()))
+        ) is not None and time.monotonic() <= end:
             if message.subject == reply:
                 return self.parsed(message)
         raise Passing(f"{self.where}: no answer in {LONGEST:.0f} seconds")
 
     def parsed(self, message: Message) -> dict[str, Any]:
         if message.status == "503":
-            raise EngineError(f"{self.where}: nothing answers: the server has no JetStream, or the stream not this subject")
+            raise EngineError(
+                f"{self.where}: nothing answers: the server has no JetStream, or the stream not this subject"
+            )
         return self.wire.parsed(message.data)
 
     def need(self, what: str, body: dict[str, Any], passes: int = 0) -> dict[str, Any] | None:
@@ -106,20 +114,34 @@ class JetStream:
             yield
         except Unreadable as error:
             told = shortened(json.dumps(found))
-            raise EngineError(f"{self.where}: it said what isn't JetStream's ({error}): is it of another version? {told}") from None
+            raise EngineError(
+                f"{self.where}: it said what isn't JetStream's ({error}): is it of another version? {told}"
+            ) from None
 
     def wrong(self, error: dict[str, Any]) -> Exception:
-        code, kind, about = error.get("code"), error.get("err_code"), shortened(str(error.get("description", error)))
+        code, kind, about = (
+            error.get("code"),
+            error.get("err_code"),
+            shortened(str(error.get("description", error))),
+        )
         if kind == OTHER_TOO_LARGE:
             return TooLarge(f"{self.where}: {about}")
         is_away = code in PASSING and kind not in NO_JETSTREAM
-        return (Passing if is_away or kind == WRONG_SEQUENCE or FULL in about else EngineError)(f"{self.where}: {about}")
+        return (Passing if is_away or kind == WRONG_SEQUENCE or FULL in about else EngineError)(
+            f"{self.where}: {about}"
+        )
 
     def begin(self) -> Info:
         """Makes the stream, where it isn't there. Returns what is told of it."""
         found = self.need(f"STREAM.INFO.{self.stream}", {}, NO_STREAM)
         if found is None:
-            config = {"name": self.stream, "subjects": [f"{self.stream}.>"], "storage": "file", "retention": "limits", "num_replicas": 1}
+            config = {
+                "name": self.stream,
+                "subjects": [f"{self.stream}.>"],
+                "storage": "file",
+                "retention": "limits",
+                "num_replicas": 1,
+            }
             found = self.need(f"STREAM.CREATE.{self.stream}", config)
         assert found is not None
         info = self.info_of(found)
@@ -163,7 +185,8 @@ class JetStream:
         return header_bytes({"Nats-Msg-Id": id, "Nats-Expected-Last-Sequence": str(self.sequence)})
 
     def publish(self, subject: str, id: str, payload: bytes) -> None:
-        """Publishes a message as the one after those before: the stream takes it there or not at all."""
+        """Publishes a message as the one after those before: the stream takes it there or not at
+        all."""
         headers = self.headers(id)
         self.sequence += 1
         size = len(headers) + len(payload)
@@ -178,7 +201,9 @@ class JetStream:
         while self.waiting and (len(self.waiting) > most or self.room > room):
             message = self.wire.receive(LONGEST)
             if message is None:
-                raise Passing(f"{self.where}: it doesn't say in {LONGEST:.0f} seconds that it has a message")
+                raise Passing(
+                    f"{self.where}: it doesn't say in {LONGEST:.0f} seconds that it has a message"
+                )
             if message.subject.startswith(f"{self.inbox}.ask"):
                 continue
             self.take(message)
@@ -192,10 +217,15 @@ class JetStream:
             with self.understood(said):
                 error = object_of(said["error"])
             raise self.wrong(error)
-        is_ours = message.subject == f"{self.inbox}.{first.sequence}" and said.get("seq") == first.sequence
+        is_ours = (
+            message.subject == f"{self.inbox}.{first.sequence}"
+            and said.get("seq") == first.sequence
+        )
         if said.get("duplicate") or not is_ours:
             told = shortened(str(said))
-            raise Passing(f"{self.where}: something else publishes to it: it has {told} in place of message {first.sequence}")
+            raise Passing(
+                f"{self.where}: something else publishes to it: it has {told} in place of message {first.sequence}"
+            )
 
 
 def bytes_of(value: Any) -> bytes:

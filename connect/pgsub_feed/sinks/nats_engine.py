@@ -1,7 +1,9 @@
-"""NATS JetStream: the stream's own last message says where a sink is, and each message is taken in its place or not at all.
+"""NATS JetStream: the stream's own last message says where a sink is, and each message is taken in
+its place or not at all.
 
-A commit of which only a part was published is completed: its first messages are there, and those that follow are published. Nothing has
-two messages, since one is only taken as the one after the message that was the last when it was made.
+A commit of which only a part was published is completed: its first messages are there, and those
+that follow are published. Nothing has two messages, since one is only taken as the one after the
+message that was the last when it was made.
 """
 
 from __future__ import annotations
@@ -12,17 +14,27 @@ import time
 from collections.abc import Iterable, Iterator
 from typing import Any
 
-from .. import log
 from pgsub_connect.errors import Passing, Stopped, TooLarge, Unfit
+from pgsub_connect.server.connection import Check
+
+from .. import log
 from ..faults import Damaged
 from ..reader.commits import Commit, TableLine
 from ..tables.names import names_of
-from pgsub_connect.server.connection import Check
 from ..texts import lsn_text, shortened
-from .first_rows import Base
 from .engine import Read, Wanted
+from .first_rows import Base
 from .jetstream import Info, JetStream, Stored
-from .nats_messages import COMMIT, Said, base_message, change_message, last_message, numbered, read_id, read_last
+from .nats_messages import (
+    COMMIT,
+    Said,
+    base_message,
+    change_message,
+    last_message,
+    numbered,
+    read_id,
+    read_last,
+)
 from .nats_wire import Wire
 from .reached import Trail
 
@@ -44,7 +56,8 @@ class Nats:
         self.stream, self.name, self.check = stream, stream.stream, check
         self.at = self.end = 0
         self.looked = time.monotonic()
-        # of the commit of which a part is published already: where it ends, and the number of the last change
+        # of the commit of which a part is published already: where it ends, and the number of the
+        # last change
         self.part: tuple[int, int] | None = None
         # whether there is a part of a base
         self.has_left = False
@@ -57,17 +70,28 @@ class Nats:
         self.about: dict[str, Any] = {**wanted.source(), "tables": list(wanted.chosen)}
         info = self.stream.begin()
         if f"{self.name}.>" not in info.subjects:
-            raise Unfit(f"{self.stream.where}: it is there, and its subjects aren't {self.name}.>: take another one")
+            raise Unfit(
+                f"{self.stream.where}: it is there, and its subjects aren't {self.name}.>: take another one"
+            )
         if not self.stream.sequence:
             return False
         last = self.stream.message(seq=self.stream.sequence) if info.messages else None
         read = read_id(last.id) if last else None
         if last is None or read is None:
-            found = f"its last one, {last.sequence}, isn't of a sink" if last else "its last one is gone"
-            raise Unfit(f"{self.stream.where}: messages are there, and {found}: take another one, or remove it to begin anew")
-        commit = last if read.n is None else self.stream.message(last_by_subj=f"{self.name}.{COMMIT}")
+            found = (
+                f"its last one, {last.sequence}, isn't of a sink"
+                if last
+                else "its last one is gone"
+            )
+            raise Unfit(
+                f"{self.stream.where}: messages are there, and {found}: take another one, or remove it to begin anew"
+            )
+        commit = (
+            last if read.n is None else self.stream.message(last_by_subj=f"{self.name}.{COMMIT}")
+        )
         if commit is None and read.n == -1:
-            # (the rows of a base, of which a part was published; they go once there is something to begin with)
+            # (the rows of a base, of which a part was published; they go once there is something to
+            # begin with)
             self.has_left = True
             return False
         rows = self.go_on(commit, read.lsn, read.n)
@@ -76,35 +100,43 @@ class Nats:
         return True
 
     def remove_before(self, first: int, info: Info) -> None:
-        """Removes what a base that was begun before has left before the first message of the one that is whole."""
+        """Removes what a base that was begun before has left before the first message of the one
+        that is whole."""
         if 0 < info.first < first:
             self.stream.purge(seq=first)
 
     def go_on(self, commit: Stored | None, lsn: int, n: int | None) -> int | None:
-        """Goes on after the last message of a commit, and the messages of a part of the next one. Returns how many rows that commit has,
-        which is a base."""
+        """Goes on after the last message of a commit, and the messages of a part of the next one.
+        Returns how many rows that commit has, which is a base."""
         try:
             at, about, rows = read_last(commit.data if commit else b"")
         except ValueError:
-            raise Unfit(f"{self.stream.where}: the last message of the commit before is gone: remove it to begin anew") from None
+            raise Unfit(
+                f"{self.stream.where}: the last message of the commit before is gone: remove it to begin anew"
+            ) from None
         if about != self.about:
             told = shortened(str(about))
-            raise Unfit(f"{self.stream.where}: what is kept there is of {told}, and this would be of {self.about}: take another stream")
+            raise Unfit(
+                f"{self.stream.where}: what is kept there is of {told}, and this would be of {self.about}: take another stream"
+            )
         self.at = self.end = at
         self.trail.note(at, time.monotonic())
         self.part = None if n is None else (lsn, n)
         return rows
 
     def remove_left(self) -> None:
-        """Removes the part of a base that a sink has left, but for its last message: by that the next start knows what there is. One that
-        publishes it still would go on, and never know of it."""
+        """Removes the part of a base that a sink has left, but for its last message: by that the
+        next start knows what there is. One that publishes it still would go on, and never know of
+        it."""
         end = time.monotonic() + STILL
         while time.monotonic() < end:
             self.check()
             time.sleep(STILL / 20)
         if self.stream.last() != self.stream.sequence:
             raise Passing(f"{self.stream.where}: another sink publishes the rows of a base there")
-        log.warning(f"{self.stream.where}: its messages are a part of a base: they go, and it begins anew")
+        log.warning(
+            f"{self.stream.where}: its messages are a part of a base: they go, and it begins anew"
+        )
         self.stream.purge(keep=1)
 
     def begin(self, base: Base) -> None:
@@ -138,16 +170,21 @@ class Nats:
             try:
                 self.publish_all(self.messages(commit, read))
             except Damaged as damaged:
-                raise Passing(f"the feed was altered while a commit was published: {damaged}") from None
+                raise Passing(
+                    f"the feed was altered while a commit was published: {damaged}"
+                ) from None
         self.part, self.end = None, commit.end
 
     def messages(self, commit: Commit, read: Read) -> Iterator[Said]:
-        """The messages of a commit that aren't there yet. Nothing is published of one that has a change which is too large."""
+        """The messages of a commit that aren't there yet. Nothing is published of one that has a
+        change which is too large."""
         after = self.part[1] if self.part else -1
         for part in read():
             if isinstance(part, TableLine) or part.n <= after:
                 continue
-            if not self.chosen or self.chosen & names_of(part.relation.namespace, part.relation.name):
+            if not self.chosen or self.chosen & names_of(
+                part.relation.namespace, part.relation.name
+            ):
                 yield self.sized(change_message(self.name, commit, part))
         yield last_message(self.name, commit, self.about)
 

@@ -6,8 +6,9 @@
 | a change | `0/600:0` | `pgsub.public.stock` | `end`, `n`, `op`, `schema`, `table`, `oid`, and the rows `before` and `after` |
 | the last one | `0/600:commit` | `pgsub.commit` | what the feed has of the commit, and what is kept of which feed; of a base, how many `rows` it has |
 
-An id is that of one message for ever, since a stream takes none twice within some minutes, whatever has become of the first. So a base that
-is begun anew has another number, `5c0f1a9e`. As in the feed `end` is where a commit ends, and `lsn` its final LSN.
+An id is that of one message for ever, since a stream takes none twice within some minutes, whatever
+has become of the first. So a base that is begun anew has another number, `5c0f1a9e`. As in the feed
+`end` is where a commit ends, and `lsn` its final LSN.
 """
 
 from __future__ import annotations
@@ -17,10 +18,11 @@ import re
 from collections.abc import Iterator
 from typing import Any, NamedTuple
 
-from ..formats.keys import subject
-from ..reader.commits import Cells, Change, Commit, Missed
-from ..json_texts import Unreadable, lsn_of, object_of, parsed, whole_of
 from pgsub_connect.drift.remembered import Relation
+
+from ..formats.keys import subject
+from ..json_texts import Unreadable, lsn_of, object_of, parsed, whole_of
+from ..reader.commits import Cells, Change, Commit, Missed
 from ..texts import lsn_text, parse_lsn
 from .entries import base_entry, compact, entry
 
@@ -39,7 +41,8 @@ class Said(NamedTuple):
 
 
 class Read(NamedTuple):
-    """What the id of a message says: its LSN, and which change it is of; None of the last one, and -1 of a row of a base."""
+    """What the id of a message says: its LSN, and which change it is of; None of the last one, and
+    -1 of a row of a base."""
 
     lsn: int
     n: int | None
@@ -57,35 +60,60 @@ def read_id(text: str) -> Read | None:
         return None
 
 
-def row_message(stream: str, relation: Relation, lsn: int, n: int, id: str, told: dict[str, str]) -> Said:
+def row_message(
+    stream: str, relation: Relation, lsn: int, n: int, id: str, told: dict[str, str]
+) -> Said:
     fields = {
-        "end": f'"{lsn_text(lsn)}"', "n": str(n), "op": f'"{told["op"]}"', "schema": json.dumps(relation.namespace or "pg_catalog"),
-        "table": json.dumps(relation.name), **{name: it for name, it in told.items() if name != "op"},
+        "end": f'"{lsn_text(lsn)}"',
+        "n": str(n),
+        "op": f'"{told["op"]}"',
+        "schema": json.dumps(relation.namespace or "pg_catalog"),
+        "table": json.dumps(relation.name),
+        **{name: it for name, it in told.items() if name != "op"},
     }
     body = ",".join(f'"{name}":{it}' for name, it in fields.items())
-    return Said(subject(stream, relation.namespace, relation.name), id, f"{{{body}}}".encode(), relation.text())
+    return Said(
+        subject(stream, relation.namespace, relation.name),
+        id,
+        f"{{{body}}}".encode(),
+        relation.text(),
+    )
 
 
 def change_message(stream: str, commit: Commit, it: Change | Missed) -> Said:
     return row_message(stream, it.relation, commit.end, it.n, f"{commit.text()}:{it.n}", entry(it))
 
 
-def base_message(stream: str, relation: Relation, lsn: int, number: str, n: int, row: Cells) -> Said:
-    return row_message(stream, relation, lsn, n, f"{lsn_text(lsn)}:base:{number}:{n}", base_entry(relation, row))
+def base_message(
+    stream: str, relation: Relation, lsn: int, number: str, n: int, row: Cells
+) -> Said:
+    return row_message(
+        stream, relation, lsn, n, f"{lsn_text(lsn)}:base:{number}:{n}", base_entry(relation, row)
+    )
 
 
-def last_message(stream: str, commit: Commit, about: dict[str, Any], rows: int | None = None) -> Said:
+def last_message(
+    stream: str, commit: Commit, about: dict[str, Any], rows: int | None = None
+) -> Said:
     """The last message of a commit, or of a base with so many rows."""
     told = {
-        "end": commit.text(), "prev": lsn_text(commit.prev), "changes": commit.changes,
-        "lsn": None if commit.lsn is None else lsn_text(commit.lsn), "xid": commit.xid, "ts_us": commit.ts_us,
-        **({} if rows is None else {"rows": rows}), **about,
+        "end": commit.text(),
+        "prev": lsn_text(commit.prev),
+        "changes": commit.changes,
+        "lsn": None if commit.lsn is None else lsn_text(commit.lsn),
+        "xid": commit.xid,
+        "ts_us": commit.ts_us,
+        **({} if rows is None else {"rows": rows}),
+        **about,
     }
-    return Said(f"{stream}.{COMMIT}", f"{commit.text()}:{COMMIT}", compact(told).encode(), "the commit")
+    return Said(
+        f"{stream}.{COMMIT}", f"{commit.text()}:{COMMIT}", compact(told).encode(), "the commit"
+    )
 
 
 class Last(NamedTuple):
-    """What a last message says: its LSN, what is kept of which feed, and how many rows a base has; None where it isn't of one."""
+    """What a last message says: its LSN, what is kept of which feed, and how many rows a base has;
+    None where it isn't of one."""
 
     end: int
     about: dict[str, Any]
@@ -98,7 +126,9 @@ def read_last(data: bytes) -> Last:
     if missing := {"system", "database", "slot", "tables"} - told.keys():
         raise Unreadable(f"there is no {min(missing)}")
     about = {name: told[name] for name in ("system", "database", "slot", "tables")}
-    return Last(lsn_of(told.get("end")), about, None if told.get("rows") is None else whole_of(told["rows"]))
+    return Last(
+        lsn_of(told.get("end")), about, None if told.get("rows") is None else whole_of(told["rows"])
+    )
 
 
 def numbered(relations: list[Relation], rows: Any) -> Iterator[tuple[Relation, int, Cells]]:

@@ -22,10 +22,11 @@ import time
 import urllib.parse
 from typing import Any
 
-from .. import log
 from pgsub_connect.errors import EngineError, Passing, UsageError
-from ..json_texts import Unreadable, object_of, parsed, whole_of
 from pgsub_connect.server.connection import Check, never
+
+from .. import log
+from ..json_texts import Unreadable, object_of, parsed, whole_of
 from ..texts import shortened
 from .connecting import BUSY, connected, encrypted, is_loopback, is_ready
 
@@ -38,12 +39,21 @@ HEAD = b"NATS/1.0"
 END = b"\r\n"
 MESSAGES = (b"MSG", b"HMSG")
 # What a server says where another try ends in the same way.
-LASTING = ("authorization", "authentication", "permissions", "maximum payload", "parser", "unknown protocol", "invalid")
+LASTING = (
+    "authorization",
+    "authentication",
+    "permissions",
+    "maximum payload",
+    "parser",
+    "unknown protocol",
+    "invalid",
+)
 
 
 @dataclasses.dataclass(frozen=True)
 class Message:
-    """What has come to a subscription. `status` is that of a message of the server itself, "" of any other."""
+    """What has come to a subscription. `status` is that of a message of the server itself, "" of
+    any other."""
 
     subject: str
     data: bytes
@@ -52,7 +62,9 @@ class Message:
 
 
 def header_bytes(headers: dict[str, str]) -> bytes:
-    return b"".join([HEAD, END, *(f"{name}: {value}\r\n".encode() for name, value in headers.items()), END])
+    return b"".join(
+        [HEAD, END, *(f"{name}: {value}\r\n".encode() for name, value in headers.items()), END]
+    )
 
 
 def read_headers(text: bytes) -> tuple[str, dict[str, str]]:
@@ -70,7 +82,8 @@ def op_of(line: bytes) -> bytes:
 
 
 class Wire:
-    """A connection. It isn't made again where it is lost. `check` is called while it waits: what that raises leaves what is sent whole."""
+    """A connection. It isn't made again where it is lost. `check` is called while it waits: what
+    that raises leaves what is sent whole."""
 
     def __init__(self, url: str, check: Check = never) -> None:
         try:
@@ -105,10 +118,30 @@ class Wire:
             self.encrypt()
         elif parts.username is not None and not is_loopback(self.host):
             log.warning(f"{self.where}: the password goes there in plain text: use tls://")
-        user, password = (urllib.parse.unquote(it) if it is not None else None for it in (parts.username, parts.password))
-        login = {} if user is None else {"auth_token": user} if password is None else {"user": user, "pass": password}
-        about = {"verbose": False, "pedantic": False, "lang": "python3", "version": "1", "name": "pgsub-connect", "protocol": 1}
-        self.put(b"CONNECT " + json.dumps({**about, "headers": True, "no_responders": True, **login}).encode() + END)
+        user, password = (
+            urllib.parse.unquote(it) if it is not None else None
+            for it in (parts.username, parts.password)
+        )
+        login = (
+            {}
+            if user is None
+            else {"auth_token": user}
+            if password is None
+            else {"user": user, "pass": password}
+        )
+        about = {
+            "verbose": False,
+            "pedantic": False,
+            "lang": "python3",
+            "version": "1",
+            "name": "pgsub-connect",
+            "protocol": 1,
+        }
+        self.put(
+            b"CONNECT "
+            + json.dumps({**about, "headers": True, "no_responders": True, **login}).encode()
+            + END
+        )
         self.ping(CONNECT)
 
     def encrypt(self) -> None:
@@ -147,7 +180,9 @@ class Wire:
             try:
                 sent = self.socket.send(self.going[:CHUNK])
             except BUSY as busy:
-                if not is_ready(self.socket, end, self.check, not isinstance(busy, ssl.SSLWantReadError)):
+                if not is_ready(
+                    self.socket, end, self.check, not isinstance(busy, ssl.SSLWantReadError)
+                ):
                     raise self.lost(f"it takes nothing for {LONGEST:.0f} seconds") from None
             except OSError as error:
                 raise self.lost(str(error)) from None
@@ -174,7 +209,12 @@ class Wire:
     def publish(self, subject: str, reply: str, headers: bytes, payload: bytes) -> None:
         """Publishes a message; with headers, unless these are empty."""
         if headers:
-            self.put(f"HPUB {subject} {reply} {len(headers)} {len(headers) + len(payload)}\r\n".encode() + headers + payload + END)
+            self.put(
+                f"HPUB {subject} {reply} {len(headers)} {len(headers) + len(payload)}\r\n".encode()
+                + headers
+                + payload
+                + END
+            )
         else:
             self.put(f"PUB {subject} {reply} {len(payload)}\r\n".encode() + payload + END)
 
@@ -225,7 +265,9 @@ class Wire:
         return Message(subject, body[at:-2], status, headers)
 
     def wrong(self, line: bytes) -> EngineError:
-        return EngineError(f"{self.where}: it said {line[:80].decode(errors='backslashreplace')!r}, which isn't NATS' protocol")
+        return EngineError(
+            f"{self.where}: it said {line[:80].decode(errors='backslashreplace')!r}, which isn't NATS' protocol"
+        )
 
     def parsed(self, text: bytes) -> dict[str, Any]:
         try:

@@ -11,7 +11,8 @@ MOST = 50000
 
 
 class Trail:
-    """LSNs, each with a time at which it was reached for sure. `upto` is the last one that was passed over, None before there is one."""
+    """LSNs, each with a time at which it was reached for sure. `upto` is the last one that was
+    passed over, None before there is one."""
 
     def __init__(self) -> None:
         self.upto: int | None = None

@@ -8,16 +8,29 @@ import urllib.parse
 from collections.abc import Callable, Iterator, Sequence
 from typing import Any, Protocol, Union
 
-from .. import log
 from pgsub_connect.errors import EngineError, FileError, Passing, Stopped, UsageError
-from ..interruption import interruptible
 from pgsub_connect.server.connection import Check, never
+
+from .. import log
+from ..interruption import interruptible
 from ..texts import shortened
 from .connecting import addresses, is_loopback
 
 Command = Sequence[Union[bytes, str, int]]
-# The errors that may pass: it loads its files or runs a script, its memory or its disk is full, or another one is the primary by now.
-PASSES = ("LOADING", "BUSY", "OOM", "MISCONF", "READONLY", "MASTERDOWN", "CLUSTERDOWN", "TRYAGAIN", "NOREPLICAS", "NOGOODSLAVE")
+# The errors that may pass: it loads its files or runs a script, its memory or its disk is full, or
+# another one is the primary by now.
+PASSES = (
+    "LOADING",
+    "BUSY",
+    "OOM",
+    "MISCONF",
+    "READONLY",
+    "MASTERDOWN",
+    "CLUSTERDOWN",
+    "TRYAGAIN",
+    "NOREPLICAS",
+    "NOGOODSLAVE",
+)
 # How long to wait for a connection, and for what it says, in seconds.
 CONNECT, LONGEST = 10.0, 300.0
 # From how many bytes on Redis may end a connection because of them.
@@ -41,7 +54,8 @@ def raised(said: Said, where: str) -> Exception:
 
 @contextlib.contextmanager
 def understood(where: str) -> Iterator[None]:
-    """Rejects what Redis has said where that isn't what the command is for, or what is kept there isn't a sink's."""
+    """Rejects what Redis has said where that isn't what the command is for, or what is kept there
+    isn't a sink's."""
     try:
         yield
     except (ValueError, TypeError, KeyError, IndexError, AttributeError, RecursionError) as error:
@@ -51,13 +65,15 @@ def understood(where: str) -> Iterator[None]:
 
 
 def packed_command(command: Command) -> bytes:
-    """A command as it is sent. (The library takes longer for that than all else that a change needs.)"""
+    """A command as it is sent. (The library takes longer for that than all else that a change
+    needs.)"""
     words = [it if isinstance(it, bytes) else str(it).encode() for it in command]
     return b"".join([b"*%d\r\n" % len(words), *(b"$%d\r\n%b\r\n" % (len(it), it) for it in words)])
 
 
 class Calls(Protocol):
-    """A connection. What Redis says is bytes, a number, None or a list of these; an error is a Said that is returned.
+    """A connection. What Redis says is bytes, a number, None or a list of these; an error is a Said
+    that is returned.
 
     `check` is called before it is waited for, and a signal ends that: then the connection is lost.
     """
@@ -74,7 +90,8 @@ class Calls(Protocol):
 
 
 class Connection:
-    """A connection to a real one. It isn't made again where it is lost, since what was watched would be forgotten."""
+    """A connection to a real one. It isn't made again where it is lost, since what was watched
+    would be forgotten."""
 
     def __init__(self, url: str, check: Check = never) -> None:
         self.check, self.is_lost = check, False
@@ -84,7 +101,11 @@ class Connection:
             raise FileError("python3-redis is needed: apt-get install python3-redis") from None
         try:
             # (a socket of a file takes neither)
-            more = {} if url.startswith("unix:") else {"socket_connect_timeout": CONNECT, "socket_keepalive": True}
+            more = (
+                {}
+                if url.startswith("unix:")
+                else {"socket_connect_timeout": CONNECT, "socket_keepalive": True}
+            )
             pool = self.redis.ConnectionPool.from_url(url, socket_timeout=LONGEST, **more)
             self.connection = pool.make_connection()
         except (ValueError, TypeError) as error:
@@ -97,7 +118,11 @@ class Connection:
 
     def look_up(self, url: str, host: str, port: int) -> None:
         """Looks at where it is."""
-        if urllib.parse.urlsplit(url).password and url.startswith("redis:") and not is_loopback(host):
+        if (
+            urllib.parse.urlsplit(url).password
+            and url.startswith("redis:")
+            and not is_loopback(host)
+        ):
             log.warning(f"{self.where}: the password goes there in plain text: use rediss://")
         try:
             # (the library's own look can't be ended)
@@ -119,18 +144,31 @@ class Connection:
         except errors.ResponseError as error:
             raise raised(Said(self.text(error)), self.where) from None
         except (errors.InvalidResponse, ValueError) as error:
-            raise EngineError(f"{self.where}: it said what isn't Redis' protocol: {str(error)[:200]}") from None
+            raise EngineError(
+                f"{self.where}: it said what isn't Redis' protocol: {str(error)[:200]}"
+            ) from None
         except RecursionError:
             raise EngineError(f"{self.where}: it said what isn't Redis' protocol") from None
         except (errors.RedisError, OSError) as error:
-            hint = f" (of {size >> 20} MB that were sent: client-query-buffer-limit may be below that)" if size > MUCH else ""
-            raise Passing(f"{self.where}: {shortened(str(error)) or type(error).__name__}{hint}") from None
+            hint = (
+                f" (of {size >> 20} MB that were sent: client-query-buffer-limit may be below that)"
+                if size > MUCH
+                else ""
+            )
+            raise Passing(
+                f"{self.where}: {shortened(str(error)) or type(error).__name__}{hint}"
+            ) from None
 
     def text(self, error: Exception) -> str:
-        """An error as Redis has said it: the library takes the code away from those that it knows."""
+        """An error as Redis has said it: the library takes the code away from those that it
+        knows."""
         codes = {
-            "BusyLoadingError": "LOADING", "ReadOnlyError": "READONLY", "NoScriptError": "NOSCRIPT", "ExecAbortError": "EXECABORT",
-            "NoPermissionError": "NOPERM", "OutOfMemoryError": "OOM",
+            "BusyLoadingError": "LOADING",
+            "ReadOnlyError": "READONLY",
+            "NoScriptError": "NOSCRIPT",
+            "ExecAbortError": "EXECABORT",
+            "NoPermissionError": "NOPERM",
+            "OutOfMemoryError": "OOM",
         }
         code = codes.get(type(error).__name__, "")
         return str(error) if str(error).startswith(code) else f"{code} {error}"

@@ -1,4 +1,5 @@
-"""What Redis has on its disk, which it writes on its own: by a log of commands, or by whole copies."""
+"""What Redis has on its disk, which it writes on its own: by a log of commands, or by whole copies.
+"""
 
 from __future__ import annotations
 
@@ -6,12 +7,14 @@ import time
 from collections.abc import Iterable
 from typing import Any
 
-from .. import log
 from pgsub_connect.errors import EngineError
-from .redis_calls import Calls, Said, understood
-from .reached import Trail
 
-# How much later than it says a log is written, and how much may be wrong with its times, in seconds.
+from .. import log
+from .reached import Trail
+from .redis_calls import Calls, Said, understood
+
+# How much later than it says a log is written, and how much may be wrong with its times, in
+# seconds.
 LATE, WRONG = 3.0, 2.0
 # How often it is asked, in seconds.
 OFTEN = 1.0
@@ -37,10 +40,14 @@ class Disk:
                 return
             unsynced(syncs)
         if isinstance(syncs, Said):
-            log.warning(f"{self.calls.where}: it doesn't tell whether it syncs its log ({syncs}): that is taken for appendfsync everysec")
+            log.warning(
+                f"{self.calls.where}: it doesn't tell whether it syncs its log ({syncs}): that is taken for appendfsync everysec"
+            )
         if names := unsynced(syncs):
             better = " and ".join(f"{it.decode()} {UNSYNCED[it][1]}" for it in names)
-            raise EngineError(f"{self.calls.where}: {told(names)}, so it is never known what its disk has: say {better}, or no --reader")
+            raise EngineError(
+                f"{self.calls.where}: {told(names)}, so it is never known what its disk has: say {better}, or no --reader"
+            )
 
     def note(self, at: int) -> None:
         self.trail.note(at, time.time())
@@ -55,13 +62,19 @@ class Disk:
 
     def moment(self, now: float) -> float:
         """All that was written before is on the disk."""
-        info, clock, saves, syncs = self.calls.run([INFO, ("TIME",), ("CONFIG", "GET", "save"), SYNCS])
+        info, clock, saves, syncs = self.calls.run(
+            [INFO, ("TIME",), ("CONFIG", "GET", "save"), SYNCS]
+        )
         if isinstance(info, Said) or isinstance(clock, Said):
             return 0.0
         found = fields(info)
         if found.get("aof_enabled") == "1":
             self.note_syncs(told(unsynced(syncs)), now)
-            return now - LATE if found.get("aof_last_write_status") == "ok" and now - self.unsynced > LATE else 0.0
+            return (
+                now - LATE
+                if found.get("aof_last_write_status") == "ok" and now - self.unsynced > LATE
+                else 0.0
+            )
         if not isinstance(saves, Said) and not any(saves[1:]):
             # (it keeps nothing, so after its end all begins anew)
             return now + 1
@@ -71,7 +84,9 @@ class Disk:
 
     def note_syncs(self, text: str, now: float) -> None:
         if text and not self.unsynced:
-            log.warning(f"{self.calls.where}: {text}, so it isn't known any more what its disk has: the reader's LSN stays")
+            log.warning(
+                f"{self.calls.where}: {text}, so it isn't known any more what its disk has: the reader's LSN stays"
+            )
         self.unsynced = now if text else self.unsynced if now - self.unsynced <= LATE else 0.0
 
 

@@ -8,7 +8,8 @@
 | `pgsub:tables` | the definitions that were told last, and the names of tables |
 | `pgsub:loading` | while the rows of a base are written: the names of its tables |
 
-The first two are watched from one MULTI to the next. So where another sink has begun, or has written, a MULTI has no effect at all.
+The first two are watched from one MULTI to the next. So where another sink has begun, or has
+written, a MULTI has no effect at all.
 """
 
 from __future__ import annotations
@@ -23,18 +24,25 @@ from collections.abc import Iterable, Iterator, Sequence
 from typing import Any, Optional, Protocol
 
 from pgsub_connect.errors import EngineError, Passing, Stopped, Unfit
-from ..reader.commits import Cells, Change, Commit, Missed, TableLine
+from pgsub_connect.server.connection import Check, never
+
 from ..interruption import at_most
 from ..json_texts import list_of, parsed, text_of
-from pgsub_connect.server.connection import Check, never
+from ..reader.commits import Cells, Change, Commit, Missed, TableLine
 from ..texts import lsn_text, parse_lsn, shortened
-from .first_rows import Base
 from .engine import Read, Wanted
+from .first_rows import Base
 from .redis_calls import Calls, Command, Said, raised, understood
-from .relations import Holder, Kept, Relations
 from .redis_disk import Disk
+from .relations import Holder, Kept, Relations
 
-LSN, SINK, FEED, TABLES, LOADING = "pgsub:lsn", "pgsub:sink", "pgsub:feed", "pgsub:tables", "pgsub:loading"
+LSN, SINK, FEED, TABLES, LOADING = (
+    "pgsub:lsn",
+    "pgsub:sink",
+    "pgsub:feed",
+    "pgsub:tables",
+    "pgsub:loading",
+)
 WATCH, ASK = ("WATCH", LSN, SINK), ("MGET", LSN, SINK)
 # How many commands one MULTI gets where more commits are there.
 MOST = 20000
@@ -45,7 +53,8 @@ OFTEN = 5.0
 
 
 class Form(Holder, Protocol):
-    """How rows and changes are written. What it was given waits until it is written by `commands`, or forgotten by `clear`."""
+    """How rows and changes are written. What it was given waits until it is written by `commands`,
+    or forgotten by `clear`."""
 
     name: str
     is_keyed_only: bool
@@ -87,7 +96,8 @@ class Redis:
     def __init__(self, calls: Calls, form: Form, check: Check) -> None:
         self.calls, self.form, self.check = calls, form, check
         self.owner = f"{socket.gethostname()} {os.getpid()} {secrets.token_hex(8)}".encode()
-        # the LSN that all is at, as a text too, None before there is one; and where the last commit ends that was taken
+        # the LSN that all is at, as a text too, None before there is one; and where the last commit
+        # ends that was taken
         self.at, self.lsn, self.end = 0, None, 0
         self.looked = time.monotonic()
         self.left: list[str] = []
@@ -101,10 +111,15 @@ class Redis:
 
     def open(self, wanted: Wanted) -> bool:
         self.relations = Relations(wanted.chosen, self.form.is_keyed_only, self.form)
-        self.about: dict[str, Any] = {**wanted.source(), "tables": list(wanted.chosen), "as": self.form.name}
+        self.about: dict[str, Any] = {
+            **wanted.source(),
+            "tables": list(wanted.chosen),
+            "as": self.form.name,
+        }
         lsn, about = self.two(("MGET", LSN, FEED))
         if lsn is None:
-            # (another one may begin just now, and goes on as long as there is nothing to begin with here)
+            # (another one may begin just now, and goes on as long as there is nothing to begin with
+            # here)
             return False
         # (before this one takes over, since another one that is fine would end)
         self.check_about(about)
@@ -117,7 +132,9 @@ class Redis:
             raise Passing(f"{self.calls.where}: {LSN} was removed just now")
         self.check_about(about)
         if tables is None:
-            raise Unfit(f"{self.calls.where}: something else has removed {TABLES}: remove {LSN} and the rows to begin anew")
+            raise Unfit(
+                f"{self.calls.where}: something else has removed {TABLES}: remove {LSN} and the rows to begin anew"
+            )
         with understood(self.calls.where):
             self.relations.load(tables.decode())
             at = parse_lsn(self.lsn.decode())
@@ -134,8 +151,12 @@ class Redis:
         with understood(self.calls.where):
             is_same = about is not None and parsed(about) == self.about
         if not is_same:
-            was, now = shortened((about or b"nothing").decode(errors="replace")), json.dumps(self.about)
-            raise Unfit(f"{self.calls.where}: what is kept there is of {was}, and this would be of {now}: take another database")
+            was, now = shortened((about or b"nothing").decode(errors="replace")), json.dumps(
+                self.about
+            )
+            raise Unfit(
+                f"{self.calls.where}: what is kept there is of {was}, and this would be of {now}: take another database"
+            )
 
     def reach(self, at: int) -> None:
         self.at = self.end = at
@@ -166,7 +187,8 @@ class Redis:
                 raise raised(it, self.calls.where)
 
     def transact(self, commands: Sequence[Command], after: bytes | None) -> None:
-        """Runs commands in one MULTI, which leave the LSN at what is said, as long as this is the sink that writes."""
+        """Runs commands in one MULTI, which leave the LSN at what is said, as long as this is the
+        sink that writes."""
         for _ in range(TRIES):
             if watched := self.form.watched():
                 self.run([("WATCH", *watched)])
@@ -182,15 +204,23 @@ class Redis:
 
     def check_owner(self, found: bytes | None) -> None:
         if found is None:
-            raise Unfit(f"{self.calls.where}: something else has removed keys of the sink, {SINK} among them")
+            raise Unfit(
+                f"{self.calls.where}: something else has removed keys of the sink, {SINK} among them"
+            )
         if found != self.owner:
             told = shortened(found.decode(errors="replace"))
-            raise Unfit(f"{self.calls.where}: another sink has begun to write there, {told}, so this one ends")
+            raise Unfit(
+                f"{self.calls.where}: another sink has begun to write there, {told}, so this one ends"
+            )
 
     def check_lsn(self, found: bytes | None, expected: bytes | None) -> None:
         if found != expected:
-            told, should = (shortened((it or b"none").decode(errors="replace")) for it in (found, expected))
-            raise Unfit(f"{self.calls.where}: {LSN} is {told} in place of {should}, so something else has written it: this sink ends")
+            told, should = (
+                shortened((it or b"none").decode(errors="replace")) for it in (found, expected)
+            )
+            raise Unfit(
+                f"{self.calls.where}: {LSN} is {told} in place of {should}, so something else has written it: this sink ends"
+            )
 
     def check_done(self, done: list[Any], lsn: bytes | None, after: bytes | None) -> None:
         with understood(self.calls.where):
@@ -198,7 +228,9 @@ class Redis:
         if wrong:
             # (the others had their effect, so nothing may go on from there)
             self.run([("DEL", LSN)])
-            raise EngineError(f"{self.calls.where}: keys of the sink were altered by something else, begin anew: {wrong[0]}")
+            raise EngineError(
+                f"{self.calls.where}: keys of the sink were altered by something else, begin anew: {wrong[0]}"
+            )
         self.check_lsn(lsn, after)
         self.lsn = after
 
@@ -211,7 +243,9 @@ class Redis:
         self.take_over()
         self.check_lsn(self.lsn, None)
         with understood(self.calls.where):
-            self.left = [text_of(it) for it in list_of(parsed(self.run([("MGET", LOADING)])[0][0] or b"[]"))]
+            self.left = [
+                text_of(it) for it in list_of(parsed(self.run([("MGET", LOADING)])[0][0] or b"[]"))
+            ]
         self.transact([*form.removals(self.left), ("DEL", LOADING)], self.lsn)
         form.check_new()
         tables = [it for it in map(self.relations.describe, base.tables()) if it]

@@ -1,7 +1,8 @@
-"""A hash of Redis for each row: `stock:A-1` has the row of `stock` with the key `A-1`, its fields the values that aren't null.
+"""A hash of Redis for each row: `stock:A-1` has the row of `stock` with the key `A-1`, its fields
+the values that aren't null.
 
-What waits is kept by keys: of several changes of one row only the last is written. Rows of a table that is truncated, gets another name
-or another shape are looked for among all keys.
+What waits is kept by keys: of several changes of one row only the last is written. Rows of a table
+that is truncated, gets another name or another shape are looked for among all keys.
 """
 
 from __future__ import annotations
@@ -12,9 +13,10 @@ from collections.abc import Iterable, Iterator, Sequence
 from typing import Union
 
 from pgsub_connect.errors import Unfit
+from pgsub_connect.server.connection import Check
+
 from ..formats.keys import NULL, row_text
 from ..reader.commits import Cell, Cells, Change, Missed
-from pgsub_connect.server.connection import Check
 from .redis_calls import Calls, Command, Said, raised, understood
 from .relations import Kept
 
@@ -41,7 +43,12 @@ Value = Union[Fields, Stored, None]
 
 
 def fields_of(kept: Kept, cells: Sequence[Cell]) -> Fields:
-    found = tuple(it for name, cell in zip(kept.columns, cells, strict=True) if cell is not None for it in (name, cell))
+    found = tuple(
+        it
+        for name, cell in zip(kept.columns, cells, strict=True)
+        if cell is not None
+        for it in (name, cell)
+    )
     return found or EMPTY
 
 
@@ -124,7 +131,9 @@ class Hashes:
     # ---- tables
 
     def check_new(self) -> None:
-        self.foreign = {begin for begin, sign, _ in (it.partition(":") for it in self.scan("*:*")) if sign}
+        self.foreign = {
+            begin for begin, sign, _ in (it.partition(":") for it in self.scan("*:*")) if sign
+        }
 
     def make(self, new: Kept) -> None:
         if new.name in self.foreign:
@@ -141,7 +150,8 @@ class Hashes:
             yield from unlinks(list(self.rows(name)))
 
     def carry(self, old: Kept, new: Kept) -> None:
-        """Gives rows another name, another key, or the fields of another shape. (A new column is null, and so no field.)"""
+        """Gives rows another name, another key, or the fields of another shape. (A new column is
+        null, and so no field.)"""
         dropped = tuple(set(old.columns) - set(new.columns))
         is_same_key = old.keys == new.keys
         if old.name == new.name and is_same_key and not dropped:
@@ -150,7 +160,11 @@ class Hashes:
         rows = self.rows(old.name)
         for key, value in rows.items():
             is_plain = is_same_key and NULL not in key
-            other, left = (new.name + key[len(old.name) :], without(value, dropped)) if is_plain else self.rekeyed(old, new, value)
+            other, left = (
+                (new.name + key[len(old.name) :], without(value, dropped))
+                if is_plain
+                else self.rekeyed(old, new, value)
+            )
             if other in moved:
                 text = f"two rows have one key, {other}, since the server didn't send what is in it: begin anew"
                 raise Unfit(f"{new.relation.text()}: {text}")
@@ -170,14 +184,22 @@ class Hashes:
         if isinstance(said, Said):
             raise raised(said, self.calls.where)
         with understood(self.calls.where):
-            return {name.decode(): text_of(cell) for name, cell in zip(said[::2], said[1::2]) if name.decode() not in value.dropped}
+            return {
+                name.decode(): text_of(cell)
+                for name, cell in zip(said[::2], said[1::2])
+                if name.decode() not in value.dropped
+            }
 
     # ---- commands
 
     def commands(self) -> list[Command]:
         waiting = self.waiting
-        moved = [(key, it.key) for key, it in waiting.items() if isinstance(it, Stored) and it.key != key]
-        commands: list[Command] = [("RENAME", old, f"{MOVING}{at}") for at, (_, old) in enumerate(moved)]
+        moved = [
+            (key, it.key) for key, it in waiting.items() if isinstance(it, Stored) and it.key != key
+        ]
+        commands: list[Command] = [
+            ("RENAME", old, f"{MOVING}{at}") for at, (_, old) in enumerate(moved)
+        ]
         # (whatever a key has, a row takes its place)
         commands += unlinks([key for key, it in waiting.items() if not isinstance(it, Stored)])
         commands += [("RENAME", f"{MOVING}{at}", key) for at, (key, _) in enumerate(moved)]
@@ -198,7 +220,12 @@ def without(value: Stored | Fields, dropped: tuple[str, ...]) -> Stored | Fields
     """A row without some of its fields."""
     if isinstance(value, Stored):
         return Stored(value.key, tuple({*value.dropped, *dropped}))
-    left = tuple(it for name, cell in zip(value[::2], value[1::2]) if name not in dropped for it in (name, cell))
+    left = tuple(
+        it
+        for name, cell in zip(value[::2], value[1::2])
+        if name not in dropped
+        for it in (name, cell)
+    )
     return left or EMPTY
 
 

@@ -1,10 +1,12 @@
-"""A stream of Redis for each table: an entry for each change, its id the LSN at which its commit ends and its number in there."""
+"""A stream of Redis for each table: an entry for each change, its id the LSN at which its commit
+ends and its number in there."""
 
 from __future__ import annotations
 
 from collections.abc import Iterable, Iterator
 
 from pgsub_connect.errors import Unfit
+
 from ..reader.commits import Cells, Change, Missed
 from .entries import base_entry, entry
 from .redis_calls import Calls, Command, Said, raised, understood
@@ -33,7 +35,9 @@ class Streams:
 
     def add(self, kept: Kept, lsn: int, n: int, told: dict[str, str]) -> None:
         self.first.setdefault(kept.name, (lsn, n))
-        self.waiting.append(("XADD", kept.name, f"{lsn}-{n}", *(it for pair in told.items() for it in pair)))
+        self.waiting.append(
+            ("XADD", kept.name, f"{lsn}-{n}", *(it for pair in told.items() for it in pair))
+        )
 
     def put(self, kept: Kept, row: Cells, n: int, lsn: int) -> None:
         self.add(kept, lsn, n, base_entry(kept.relation, row))
@@ -51,19 +55,25 @@ class Streams:
             last = self.last(stream, it)
             if last >= first:
                 text = "{}-{} isn't above {}-{}, which it has".format(*first, *last)
-                raise Unfit(f"{self.calls.where}: something else has written the stream {stream}: {text}. Take another database")
+                raise Unfit(
+                    f"{self.calls.where}: something else has written the stream {stream}: {text}. Take another database"
+                )
 
     def last(self, stream: str, said: object) -> tuple[int, int]:
         if isinstance(said, Said):
             if "no such key" in str(said):
                 return NONE
             if str(said).startswith("WRONGTYPE"):
-                raise Unfit(f"{self.calls.where}: the key {stream} is there already, and isn't a stream: take another database")
+                raise Unfit(
+                    f"{self.calls.where}: the key {stream} is there already, and isn't a stream: take another database"
+                )
             raise raised(said, self.calls.where)
         with understood(self.calls.where):
             if not isinstance(said, list):
                 raise TypeError("no list")
-            milliseconds, _, number = dict(zip(said[::2], said[1::2]))[b"last-generated-id"].partition(b"-")
+            milliseconds, _, number = dict(zip(said[::2], said[1::2]))[
+                b"last-generated-id"
+            ].partition(b"-")
             return int(milliseconds), int(number)
 
     def accepts(self, said: Said) -> bool:

@@ -1,7 +1,8 @@
 """The tables that an engine keeps: the definition of each that was told last, and its name.
 
-As in tables of SQLite a name belongs to the table that was described with it last. Another one that had it is called `pgsub:old:OID`
-from then on, since the server doesn't say whether it was dropped or gets another name.
+As in tables of SQLite a name belongs to the table that was described with it last. Another one that
+had it is called `pgsub:old:OID` from then on, since the server doesn't say whether it was dropped
+or gets another name.
 """
 
 from __future__ import annotations
@@ -11,14 +12,15 @@ import functools
 import json
 from typing import Any, Protocol
 
-from .. import log
-from pgsub_connect.errors import Unfit
-from ..reader.lines import read_relation
-from ..formats.keys import key_of, table_text
-from ..tables.file import relation_text
-from ..json_texts import object_of, oid_of, parsed, text_of
-from ..tables.names import names_of
 from pgsub_connect.drift.remembered import Relation
+from pgsub_connect.errors import Unfit
+
+from .. import log
+from ..formats.keys import key_of, table_text
+from ..json_texts import object_of, oid_of, parsed, text_of
+from ..reader.lines import read_relation
+from ..tables.file import relation_text
+from ..tables.names import names_of
 
 ASIDE = "pgsub:old:"
 # A table whose name is what the engine's own keys begin with.
@@ -85,7 +87,9 @@ class Relations:
             self.put(Kept(read_relation(definition), text_of(name)))
 
     def text(self) -> str:
-        kept = ",".join(f"[{json.dumps(it.name)},{relation_text(it.relation)}]" for it in self.kept.values())
+        kept = ",".join(
+            f"[{json.dumps(it.name)},{relation_text(it.relation)}]" for it in self.kept.values()
+        )
         return f'{{"kept":[{kept}],"left":{json.dumps(sorted(self.left))}}}'
 
     def put(self, kept: Kept) -> None:
@@ -119,7 +123,9 @@ class Relations:
         is_bag = self.is_keyed_only and not key_of(relation)
         if is_bag and relation.oid not in self.told:
             self.told.add(relation.oid)
-            log.warning(f"{relation.text()} has no key, so its rows can't be hashes and are left out: --as streams has its changes")
+            log.warning(
+                f"{relation.text()} has no key, so its rows can't be hashes and are left out: --as streams has its changes"
+            )
         return is_bag
 
     def leave_out(self, relation: Relation, kept: Kept | None) -> None:

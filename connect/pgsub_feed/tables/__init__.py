@@ -1,1 +1,2 @@
-"""Tables of SQLite that follow a feed: the file, its values and names, and how commits change it."""
+"""Tables of SQLite that follow a feed: the file, its values and names, and how commits change it.
+"""

@@ -6,14 +6,15 @@ import itertools
 import sqlite3
 from collections.abc import Iterable, Sequence
 
-from pgsub_connect.store.export import Bound
-from pgsub_connect.server.connection import Check
-from pgsub_connect.drift.remembered import Relation
 from pgsub_connect.add.replacement import XID
-from .set_aside import CANT_KEEP, Unkept, is_of_table, reason
-from .table import Kept
+from pgsub_connect.drift.remembered import Relation
+from pgsub_connect.server.connection import Check
+from pgsub_connect.store.export import Bound
+
 from ..reader.commits import Change, Commit, Part, TableLine
 from .file import Rows
+from .set_aside import CANT_KEEP, Unkept, is_of_table, reason
+from .table import Kept
 
 # How many changes of one table are made at once.
 MOST = 1000
@@ -28,20 +29,26 @@ class Applier:
         # what the changes that wait are of
         self.relation: Relation | None = None
         self.op = ""
-        # of the commit: where it ends, the tables that were described, and whether it repairs rows, but for tables that it truncates
+        # of the commit: where it ends, the tables that were described, and whether it repairs rows,
+        # but for tables that it truncates
         self.at = 0
         self.kept: dict[int, Kept | None] = {}
         self.is_repair, self.truncated = False, set[int]()
 
     def apply(self, commit: Commit, parts: Iterable[Part]) -> None:
-        """Makes the changes of a commit, all of them: whoever calls has begun a transaction, and ends it."""
+        """Makes the changes of a commit, all of them: whoever calls has begun a transaction, and
+        ends it."""
         self.waiting.clear()
         self.kept.clear()
         self.truncated.clear()
         self.at, self.is_repair = commit.end, commit.xid == XID
         for part in parts:
             if isinstance(part, Change):
-                if part.op != self.op or part.relation is not self.relation or len(self.waiting) >= MOST:
+                if (
+                    part.op != self.op
+                    or part.relation is not self.relation
+                    or len(self.waiting) >= MOST
+                ):
                     self.flush()
                     self.op, self.relation = part.op, part.relation
                 self.waiting.append(part)
@@ -55,7 +62,8 @@ class Applier:
         self.kept[relation.oid] = self.rows.describe(relation, self.at)
 
     def flush(self) -> None:
-        """Makes the changes that wait. A table that can't have them is set aside, until it is truncated."""
+        """Makes the changes that wait. A table that can't have them is set aside, until it is
+        truncated."""
         waiting, self.waiting = self.waiting, []
         if not waiting:
             return
@@ -87,9 +95,15 @@ class Applier:
             self.rows.digests.note(kept, changes)
 
     def repair(self, kept: Kept, changes: list[Change]) -> None:
-        """Makes rows what they were repaired to. What the copy had of them before may never have been here."""
-        if not kept.target.is_keyed or any(it.after and kept.has_null_key(it.after) for it in changes):
-            raise Unkept(kept.relation, "rows were repaired, and without a key nobody knows which of those here")
+        """Makes rows what they were repaired to. What the copy had of them before may never have
+        been here."""
+        if not kept.target.is_keyed or any(
+            it.after and kept.has_null_key(it.after) for it in changes
+        ):
+            raise Unkept(
+                kept.relation,
+                "rows were repaired, and without a key nobody knows which of those here",
+            )
         images = (it for change in changes for it in (change.before, change.after) if it)
         keys = list(dict.fromkeys(tuple(kept.searched(it)) for it in images))
         if self.rows.digests:
@@ -102,7 +116,8 @@ class Applier:
             self.rows.digests.note(kept, added)
 
     def make(self, kept: Kept, changes: list[Change]) -> None:
-        """Makes changes of one kind. A table whose key turns out to be none of SQLite's is made anew."""
+        """Makes changes of one kind. A table whose key turns out to be none of SQLite's is made
+        anew."""
         if any(it.after and kept.has_null_key(it.after) for it in changes):
             kept = self.loosened(kept)
         # (a single statement leaves nothing where it fails)
@@ -140,11 +155,16 @@ class Applier:
         if op == "d":
             self.run(kept, kept.deletion, [kept.searched(it.before or ()) for it in changes])
             return
-        for keeps, some in itertools.groupby(changes, lambda it: kept.keeps_key(it.before or (), it.after or ())):
+        for keeps, some in itertools.groupby(
+            changes, lambda it: kept.keeps_key(it.before or (), it.after or ())
+        ):
             rows = [kept.row(it.after or ()) + kept.searched(it.before or ()) for it in some]
             self.run(kept, kept.change if keeps else kept.update, rows)
 
     def run(self, kept: Kept, statement: str, rows: Sequence[Sequence[Bound]]) -> None:
         """Runs a statement with each of these, which has to change one row each time."""
         if statement and self.db.executemany(statement, rows).rowcount != len(rows):
-            raise Unkept(kept.relation, "a row that the feed changes isn't in it: another program has changed the file")
+            raise Unkept(
+                kept.relation,
+                "a row that the feed changes isn't in it: another program has changed the file",
+            )

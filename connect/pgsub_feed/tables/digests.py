@@ -1,9 +1,11 @@
-"""The digests of tables that follow a feed: of each how many rows it has, and two sums of words of their hashes, as of the file's LSN.
+"""The digests of tables that follow a feed: of each how many rows it has, and two sums of words of
+their hashes, as of the file's LSN.
 
-They are those that the module `digests` has of a table with one chunk, so a server computes the same over a snapshot, and two files are
-compared by them. They are changed with each image, in the transaction that changes the rows: `pgsub_digests` has by `oid` those of each
-table whose definition was told. A file with this table has another version, so that no program goes on with it that leaves them as they
-are. Rows that get another shape are added up anew.
+They are those that the module `digests` has of a table with one chunk, so a server computes the
+same over a snapshot, and two files are compared by them. They are changed with each image, in the
+transaction that changes the rows: `pgsub_digests` has by `oid` those of each table whose definition
+was told. A file with this table has another version, so that no program goes on with it that leaves
+them as they are. Rows that get another shape are added up anew.
 """
 
 from __future__ import annotations
@@ -13,11 +15,12 @@ import sqlite3
 from collections.abc import Iterable, Sequence
 from typing import NamedTuple, cast
 
-from pgsub_connect.verify.digests import FIRST_WORD, Field, SECOND_WORD, hash_of, text_of, words_of
 from pgsub_connect.store.export import Bound
+from pgsub_connect.verify.digests import FIRST_WORD, SECOND_WORD, Field, hash_of, text_of, words_of
+
+from ..reader.commits import Cells, Change
 from .printed import Fields
 from .table import Kept, Valued
-from ..reader.commits import Cells, Change
 
 DIGESTS = "pgsub_digests"
 # The version of a file with digests.
@@ -50,7 +53,10 @@ def read_digests(db: sqlite3.Connection) -> dict[int, Digest]:
     """By OID that of each table; none where the file keeps none."""
     if not has_digests(db):
         return {}
-    return {oid: Digest(*more) for oid, *more in db.execute(f"SELECT oid, rows, first, second FROM {DIGESTS}")}
+    return {
+        oid: Digest(*more)
+        for oid, *more in db.execute(f"SELECT oid, rows, first, second FROM {DIGESTS}")
+    }
 
 
 def summed(rows: Iterable[Iterable[Field]]) -> Digest:
@@ -66,7 +72,9 @@ def plain_text(cells: Cells) -> bytes | None:
     """The text of a row with texts of ASCII alone, None of any other."""
     if bytes in map(type, cells):
         return None
-    text = "".join(["n" if it is None else f"{len(it)}:{it}" for it in cast(list[str | None], cells)])
+    text = "".join(
+        ["n" if it is None else f"{len(it)}:{it}" for it in cast(list[str | None], cells)]
+    )
     return text.encode() if text.isascii() else None
 
 
@@ -107,7 +115,8 @@ class Digests:
         self.images.pop(kept.oid, None)
 
     def note(self, kept: Kept, changes: list[Change]) -> None:
-        """Takes changes of one kind into account. (A table of which nothing was told has no digest yet.)"""
+        """Takes changes of one kind into account. (A table of which nothing was told has no digest
+        yet.)"""
         if kept.oid not in self.known:
             return
         if changes[0].op == "t":

@@ -10,7 +10,8 @@
 | `pgsub_digests` | where that was asked for, by `oid` a digest of the table's rows, as the module `digesting` says |
 | any other | the rows of one of the publisher's tables |
 
-Where another table got the name of one, the older one's rows are in `pgsub_old OID`: it may come back under another name.
+Where another table got the name of one, the older one's rows are in `pgsub_old OID`: it may come
+back under another name.
 """
 
 from __future__ import annotations
@@ -18,23 +19,24 @@ from __future__ import annotations
 import json
 import sqlite3
 
-from .. import log
-from pgsub_connect.server.catalog import Column, Shape
-from pgsub_connect.errors import FileError, Passing, Unfit
-from pgsub_connect.store.export import NONE, key_index
-from .names import OLD, POSITION, TABLES, distinct_name, folded, names_of, told_columns
 from pgsub_connect.drift.remembered import Relation
-from ..texts import identifier, lsn_text, parse_lsn
-from .set_aside import Asides, CANT_KEEP, Unkept, is_of_table, nested, reason
-from .reshape import LOOSE, carry, loosen, sources
+from pgsub_connect.errors import FileError, Passing, Unfit
+from pgsub_connect.server.catalog import Column, Shape
+from pgsub_connect.store.export import NONE, key_index
+
+from .. import log
+from ..reader.commits import Head
 from ..reader.lines import read_relation
-from .digests import Digests, has_digests
+from ..texts import identifier, lsn_text, parse_lsn
 from .digests import FORMAT as WITH_DIGESTS
 from .digests import SCHEMA as DIGESTS_SCHEMA
-from .user_sql import Init
-from .table import IS_MINUS_ZERO, Kept, is_minus_zero, rows_index
+from .digests import Digests, has_digests
+from .names import OLD, POSITION, TABLES, distinct_name, folded, names_of, told_columns
 from .primary_keys import Keys, inherited, primary_in
-from ..reader.commits import Head
+from .reshape import LOOSE, carry, loosen, sources
+from .set_aside import CANT_KEEP, Asides, Unkept, is_of_table, nested, reason
+from .table import IS_MINUS_ZERO, Kept, is_minus_zero, rows_index
+from .user_sql import Init
 
 APPLICATION, FORMAT = 0x70677374, 1
 RELATIONS, FEED = "pgsub_relations", "pgsub_feed"
@@ -61,7 +63,14 @@ def relation_text(it: Relation) -> str:
     """A definition as the feed has it."""
     columns = [[column.name, column.type_oid, column.modifier] for column in it.shape.columns]
     key = [column.name for column in it.shape.columns if column.key] or None
-    told = {"oid": it.oid, "schema": it.namespace, "table": it.name, "identity": it.shape.identity, "key": key, "columns": columns}
+    told = {
+        "oid": it.oid,
+        "schema": it.namespace,
+        "table": it.name,
+        "identity": it.shape.identity,
+        "key": key,
+        "columns": columns,
+    }
     return json.dumps(told, ensure_ascii=False, separators=(",", ":"))
 
 
@@ -74,14 +83,20 @@ def unlisted(db: sqlite3.Connection, name: str, schema: str, table: str, oid: in
     info = db.execute("SELECT name, type, pk FROM pragma_table_info(?)", (name,)).fetchall()
     if [column for column, _, _ in info] == [NONE.name]:
         info = []
-    indexed = {column for (column,) in db.execute("SELECT name FROM pragma_index_info(?)", (key_index(oid),))}
+    indexed = {
+        column
+        for (column,) in db.execute("SELECT name FROM pragma_index_info(?)", (key_index(oid),))
+    }
     keys = {column for column, _, at in info if at} or indexed
-    columns = tuple(Column(column, TYPES.get(kind, 25), -1, column in keys) for column, kind, _ in info)
+    columns = tuple(
+        Column(column, TYPES.get(kind, 25), -1, column in keys) for column, kind, _ in info
+    )
     return Relation(oid, schema, table, Shape("d" if keys else "f", columns))
 
 
 class Rows:
-    """The file, open for writing. All that is done to it is in a transaction, which `settle` commits with an LSN."""
+    """The file, open for writing. All that is done to it is in a transaction, which `settle`
+    commits with an LSN."""
 
     def __init__(self, path: str, init: Init | None = None, store: str = "") -> None:
         self.path, self.init, self.keys = path, init, Keys(store)
@@ -100,7 +115,12 @@ class Rows:
         if self.db.execute("PRAGMA journal_mode = WAL").fetchone()[0] != "wal":
             raise FileError(f"{self.path}: SQLite can't keep a log beside the file there")
         # (what a power cut takes, the feed still has)
-        for pragma in ("synchronous = NORMAL", "legacy_alter_table = ON", "foreign_keys = OFF", "cache_size = -32000"):
+        for pragma in (
+            "synchronous = NORMAL",
+            "legacy_alter_table = ON",
+            "foreign_keys = OFF",
+            "cache_size = -32000",
+        ):
             self.db.execute(f"PRAGMA {pragma}")
         self.db.create_function(IS_MINUS_ZERO, 1, is_minus_zero, deterministic=True)
 
@@ -110,20 +130,28 @@ class Rows:
         self.at = self.position()
         self.kept: dict[int, Kept] = {}
         self.left_out: set[int] = set()
-        # those that have a name of the publisher's, by that as SQLite compares it, and by the publisher's
+        # those that have a name of the publisher's, by that as SQLite compares it, and by the
+        # publisher's
         self.names: dict[str, Kept] = {}
         self.holders: dict[tuple[str, str], Kept] = {}
         self.asides.load()
         self.untold: set[int] = set()
         self.is_init_due = False
-        tables = {oid: (name, schema, table) for name, schema, table, oid in db.execute(f"SELECT * FROM {TABLES}")}
+        tables = {
+            oid: (name, schema, table)
+            for name, schema, table, oid in db.execute(f"SELECT * FROM {TABLES}")
+        }
         for oid, name, definition in db.execute(f"SELECT * FROM {RELATIONS}").fetchall():
             if name is None:
                 self.left_out |= {oid} - self.asides.known.keys()
                 continue
             if definition is None:
                 self.untold.add(oid)
-            relation = read_relation(json.loads(definition)) if definition else unlisted(db, *tables[oid], oid)
+            relation = (
+                read_relation(json.loads(definition))
+                if definition
+                else unlisted(db, *tables[oid], oid)
+            )
             self.load(name, relation)
         chosen = db.execute(f"SELECT chosen FROM {FEED}").fetchone()
         self.chosen = set(json.loads(chosen[0])) if chosen else set[str]()
@@ -134,7 +162,11 @@ class Rows:
         primary = primary_in(relation, [at for (at,) in keys])
         kept = Kept(name, relation, primary, is_loose=not keys)
         indexes = [key_index(relation.oid), rows_index(relation.oid)]
-        kept.has_index = bool(self.db.execute("SELECT 1 FROM sqlite_schema WHERE type = 'index' AND name IN (?, ?)", indexes).fetchone())
+        kept.has_index = bool(
+            self.db.execute(
+                "SELECT 1 FROM sqlite_schema WHERE type = 'index' AND name IN (?, ?)", indexes
+            ).fetchone()
+        )
         if relation.oid in self.untold:
             names = told_columns(it.name for it in relation.shape.columns)
             kept.others = {it: at for at, it in enumerate(names)}
@@ -182,7 +214,8 @@ class Rows:
         self.is_init_due = is_init_due
 
     def close(self, is_orderly: bool) -> None:
-        """Closes the file. At an orderly end it needs no log, unless somebody reads it just then."""
+        """Closes the file. At an orderly end it needs no log, unless somebody reads it just
+        then."""
         if self.db.in_transaction:
             self.db.execute("ROLLBACK")
         if is_orderly:
@@ -206,7 +239,9 @@ class Rows:
 
     def check_source(self, head: Head) -> None:
         """Notes what the feed is a feed of, or rejects one of something else."""
-        system, database, slot = self.db.execute(f"SELECT system, database, slot FROM {FEED}").fetchone()
+        system, database, slot = self.db.execute(
+            f"SELECT system, database, slot FROM {FEED}"
+        ).fetchone()
         if system is None:
             self.begin()
             self.db.execute(f"UPDATE {FEED} SET system = ?, database = ?, slot = ?", head.source())
@@ -216,7 +251,8 @@ class Rows:
             raise Unfit(f"{self.path} has rows of {was.text()}, and the feed is of {head.text()}")
 
     def keep_digests(self) -> None:
-        """Keeps a digest of each table from now on. (One whose definition wasn't told gets it with that.)"""
+        """Keeps a digest of each table from now on. (One whose definition wasn't told gets it with
+        that.)"""
         self.begin()
         self.db.execute(DIGESTS_SCHEMA)
         self.db.execute(f"PRAGMA user_version = {WITH_DIGESTS}")
@@ -232,8 +268,8 @@ class Rows:
     # ---- its tables
 
     def describe(self, relation: Relation, at: int) -> Kept | None:
-        """The table of a relation, in the shape that was told last, by the commit that ends there. None of one that
-        wasn't chosen, or is set aside."""
+        """The table of a relation, in the shape that was told last, by the commit that ends there.
+        None of one that wasn't chosen, or is set aside."""
         kept = self.kept.get(relation.oid)
         is_older = kept is not None and kept.name.startswith(OLDER)
         if kept and kept.relation == relation and relation.oid not in self.untold and not is_older:
@@ -262,7 +298,10 @@ class Rows:
     def shape(self, relation: Relation) -> Kept:
         kept = self.kept.get(relation.oid)
         if relation.oid in self.left_out:
-            raise Unkept(relation, "it had another name before, which wasn't chosen: its rows from then are missing")
+            raise Unkept(
+                relation,
+                "it had another name before, which wasn't chosen: its rows from then are missing",
+            )
         name = self.claim(relation, kept)
         before = kept and relation.oid not in self.untold and kept.relation.shape.columns
         primary = self.keys.of(relation)
@@ -280,7 +319,8 @@ class Rows:
         return kept
 
     def claim(self, relation: Relation, kept: Kept | None) -> str:
-        """The name of a relation's table. Another table that has the same name at the publisher is moved aside."""
+        """The name of a relation's table. Another table that has the same name at the publisher is
+        moved aside."""
         named = full_name(relation)
         holder = self.holders.get(named)
         if holder and holder.oid != relation.oid:
@@ -289,14 +329,18 @@ class Rows:
         elif holder:
             return holder.name
         own = {folded(kept.name)} if kept else set[str]()
-        return distinct_name(relation.oid, *named, self.names.keys() - own if own else self.names.keys())
+        return distinct_name(
+            relation.oid, *named, self.names.keys() - own if own else self.names.keys()
+        )
 
     def set_aside(self, relation: Relation, at: int, why: str) -> None:
         """Leaves a table out from the commit that ends there on, until its rows come anew."""
         if kept := self.kept.get(relation.oid):
             self.drop(kept)
         self.left_out.discard(relation.oid)
-        self.db.execute(f"INSERT OR REPLACE INTO {RELATIONS} VALUES (?, NULL, NULL)", (relation.oid,))
+        self.db.execute(
+            f"INSERT OR REPLACE INTO {RELATIONS} VALUES (?, NULL, NULL)", (relation.oid,)
+        )
         self.asides.put(relation, at, why)
 
     def take_up(self, relation: Relation, at: int) -> Kept | None:
@@ -316,7 +360,9 @@ class Rows:
     def reshaped(self, old: Kept, new: Kept) -> Kept:
         """Makes a table have a new shape, where it is another one."""
         was, now = old.target, new.target
-        is_same = (was.columns, was.key) == (now.columns, now.key) and [it[0] for it in was.kinds] == [it[0] for it in now.kinds]
+        is_same = (was.columns, was.key) == (now.columns, now.key) and [
+            it[0] for it in was.kinds
+        ] == [it[0] for it in now.kinds]
         if is_same and (old.oid in self.untold or sources(old, new) == list(range(new.width))):
             same = Kept(new.name, new.relation, new.primary, is_loose=not was.is_keyed)
             same.has_index = old.has_index
@@ -357,7 +403,9 @@ class Rows:
         self.asides.drop(relation.oid)
         if relation.oid not in self.left_out:
             self.left_out.add(relation.oid)
-            self.db.execute(f"INSERT OR REPLACE INTO {RELATIONS} VALUES (?, NULL, NULL)", (relation.oid,))
+            self.db.execute(
+                f"INSERT OR REPLACE INTO {RELATIONS} VALUES (?, NULL, NULL)", (relation.oid,)
+            )
 
     def forget(self, kept: Kept) -> None:
         """Takes a table's name away."""
@@ -379,7 +427,10 @@ class Rows:
             self.hold(kept)
             named = (kept.name, relation.namespace or "pg_catalog", relation.name, kept.oid)
             self.db.execute(f"INSERT INTO {TABLES} VALUES (?, ?, ?, ?)", named)
-        self.db.execute(f"INSERT OR REPLACE INTO {RELATIONS} VALUES (?, ?, ?)", (kept.oid, kept.name, relation_text(relation)))
+        self.db.execute(
+            f"INSERT OR REPLACE INTO {RELATIONS} VALUES (?, ?, ?)",
+            (kept.oid, kept.name, relation_text(relation)),
+        )
 
     def initialize(self) -> None:
         """Runs what the user wants to have run after a table was made or altered."""

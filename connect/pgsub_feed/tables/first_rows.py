@@ -12,19 +12,20 @@ from collections.abc import Iterable, Iterator
 from typing import TYPE_CHECKING
 
 from pgsub_connect.errors import FileError, Passing, Unfit
-from pgsub_connect.store.export import run as export
-from .names import POSITION, TABLES, names_of
-from ..ownership import real
-from pgsub_connect.store.placing import placed
 from pgsub_connect.server.connection import Check
 from pgsub_connect.store.at_rest import is_followed, own_name
-from pgsub_connect.store.snapshot import copy, remove
+from pgsub_connect.store.export import run as export
 from pgsub_connect.store.file import APPLICATION_AT, MAGIC, is_export
-from ..texts import identifier, lsn_text, parse_lsn
-from ..reader.positions import Noted
+from pgsub_connect.store.placing import placed
+from pgsub_connect.store.snapshot import copy, remove
+
+from ..ownership import real
 from ..reader.polling import Poll
+from ..reader.positions import Noted
 from ..reader.segments import Reader, read_confirmed, segments
+from ..texts import identifier, lsn_text, parse_lsn
 from .file import APPLICATION, FEED, MORE, RELATIONS, SCHEMA, path_bytes
+from .names import POSITION, TABLES, names_of
 
 if TYPE_CHECKING:
     from pgsub_connect.commands.options import Options
@@ -34,7 +35,10 @@ def is_tables(path: str) -> bool:
     """Whether a file is one of tables that follow a feed."""
     with open(path, "rb") as file:
         head = file.read(100)
-    return head.startswith(MAGIC) and int.from_bytes(head[APPLICATION_AT : APPLICATION_AT + 4], "big") == APPLICATION
+    return (
+        head.startswith(MAGIC)
+        and int.from_bytes(head[APPLICATION_AT : APPLICATION_AT + 4], "big") == APPLICATION
+    )
 
 
 def opened(path: str) -> sqlite3.Connection:
@@ -49,12 +53,15 @@ def check_file(path: str) -> None:
     if not os.path.isdir(folder):
         raise FileError(f"--into {path}: there is no folder {folder}")
     if os.path.lexists(path) and not (os.path.isfile(path) and is_tables(path)):
-        raise FileError(f"{path} is there and has no tables that follow a feed: remove it, or name another file")
+        raise FileError(
+            f"{path} is there and has no tables that follow a feed: remove it, or name another file"
+        )
 
 
 @contextlib.contextmanager
 def keeping(options: Options) -> Iterator[None]:
-    """Keeps the segments that a new reader with a name needs, while its first rows are made. Where that fails its name goes again."""
+    """Keeps the segments that a new reader with a name needs, while its first rows are made. Where
+    that fails its name goes again."""
     bases = [base for base, _ in segments(options.feed)] if options.reader else []
     if not options.reader or not bases:
         yield
@@ -75,7 +82,9 @@ def keeping(options: Options) -> Iterator[None]:
 def begins_at(options: Options) -> int:
     """An LSN that a new reader's first rows aren't below, 0 where none is known."""
     if options.base:
-        with contextlib.suppress(OSError, sqlite3.Error, TypeError, ValueError), contextlib.closing(opened(options.base)) as db:
+        with contextlib.suppress(OSError, sqlite3.Error, TypeError, ValueError), contextlib.closing(
+            opened(options.base)
+        ) as db:
             return parse_lsn(db.execute(f"SELECT lsn FROM {POSITION}").fetchone()[0])
         return 0
     # (the copy that a follower makes has all that is confirmed)
@@ -120,7 +129,10 @@ def prepare(db: sqlite3.Connection, folder: str, chosen: Iterable[str], is_base:
     for statement in (() if is_base else SCHEMA) + MORE:
         db.execute(statement)
     names = sorted(set(chosen))
-    db.execute(f"INSERT INTO {FEED} VALUES (CAST(? AS TEXT), NULL, NULL, NULL, ?)", (path_bytes(folder), json.dumps(names)))
+    db.execute(
+        f"INSERT INTO {FEED} VALUES (CAST(? AS TEXT), NULL, NULL, NULL, ?)",
+        (path_bytes(folder), json.dumps(names)),
+    )
     for name, schema, table, oid in db.execute(f"SELECT * FROM {TABLES}").fetchall():
         if not names or set(names) & names_of(schema, table):
             db.execute(f"INSERT INTO {RELATIONS} VALUES (?, ?, NULL)", (oid, name))
@@ -133,7 +145,9 @@ def prepare(db: sqlite3.Connection, folder: str, chosen: Iterable[str], is_base:
 
 def clone(base: str, new: str) -> None:
     """Copies a file that may be in use."""
-    with contextlib.closing(opened(base)) as source, contextlib.closing(sqlite3.connect(new, isolation_level=None)) as db:
+    with contextlib.closing(opened(base)) as source, contextlib.closing(
+        sqlite3.connect(new, isolation_level=None)
+    ) as db:
         source.backup(db)
         db.execute("PRAGMA journal_mode = DELETE")
 

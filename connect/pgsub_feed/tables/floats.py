@@ -1,6 +1,6 @@
-"""Numbers of floating point as the server prints them: the shortest digits that lie within what is rounded to the number, and not at its
-bound. (src/common/d2s.c and f2s.c of PostgreSQL; Python's repr takes those at a bound too, as 1e+23 for what is printed as
-9.999999999999999e+22.)
+"""Numbers of floating point as the server prints them: the shortest digits that lie within what is
+rounded to the number, and not at its bound. (src/common/d2s.c and f2s.c of PostgreSQL; Python's
+repr takes those at a bound too, as 1e+23 for what is printed as 9.999999999999999e+22.)
 """
 
 from __future__ import annotations
@@ -11,26 +11,33 @@ import struct
 from decimal import Decimal
 from fractions import Fraction
 
-# Below these numbers no bound has as few digits as a number (its digits are those of an odd number times a power of five).
+# Below these numbers no bound has as few digits as a number (its digits are those of an odd number
+# times a power of five).
 WHOLE, SHORT_WHOLE = float(1 << 52), float(1 << 22)
-# Of each of both types: the bits of a significand, the exponent of the least number, and how many digits tell any number.
+# Of each of both types: the bits of a significand, the exponent of the least number, and how many
+# digits tell any number.
 DOUBLE, SINGLE = (53, -1074, 17), (24, -149, 9)
 
 
 def printed_float(value: float, is_short: bool) -> str:
     """With an exponent below -4, and from 15 on, or 6 where it has four bytes (`is_short`)."""
     value = struct.unpack(">f", struct.pack(">f", value))[0] if is_short else value
-    sign, digits, last = Decimal(shortest(value) if is_short else repr(value)).normalize().as_tuple()
+    sign, digits, last = (
+        Decimal(shortest(value) if is_short else repr(value)).normalize().as_tuple()
+    )
     assert isinstance(last, int)
     text = "".join(map(str, digits))
-    if needs_care(abs(value), is_short) and is_other(abs(value), Fraction(int(text)) * Fraction(10) ** last, is_short):
+    if needs_care(abs(value), is_short) and is_other(
+        abs(value), Fraction(int(text)) * Fraction(10) ** last, is_short
+    ):
         text, last = within(abs(value), is_short)
     return "-" * sign + placed(text, last, 6 if is_short else 15)
 
 
 def stored_float(value: float, is_short: bool) -> str:
-    """A number of 8 bytes as the server prints that which it is stored for: read from the digits that the
-    server prints, or of 4 bytes. Any other, which no server has sent, as Python prints it."""
+    """A number of 8 bytes as the server prints that which it is stored for: read from the digits
+    that the server prints, or of 4 bytes. Any other, which no server has sent, as Python prints it.
+    """
     if not math.isfinite(value):
         return repr(value)
     try:
@@ -75,7 +82,8 @@ def bounds(value: float, is_short: bool) -> tuple[Fraction, Fraction]:
 
 
 def needs_care(value: float, is_short: bool) -> bool:
-    """Whether Python's digits may be others. (Of a power of two the closest ones may be below its closer bound.)"""
+    """Whether Python's digits may be others. (Of a power of two the closest ones may be below its
+    closer bound.)"""
     return value >= (SHORT_WHOLE if is_short else WHOLE) or is_short and math.frexp(value)[0] == 0.5
 
 

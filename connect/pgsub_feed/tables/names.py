@@ -26,7 +26,8 @@ def folded(name: str) -> str:
 
 
 def table_name(schema: str, table: str) -> str:
-    """The name that a table gets where nothing else has it: its own in `public`, and else with the schema."""
+    """The name that a table gets where nothing else has it: its own in `public`, and else with the
+    schema."""
     return table if schema == "public" else f"{schema or 'pg_catalog'}.{table}"
 
 
@@ -71,7 +72,8 @@ def unused(name: str, second: str, taken: Collection[str]) -> str:
 
 
 def told_columns(names: Iterable[str]) -> list[str]:
-    """The names that columns may have at the publisher whose names here are these, as `name_columns` gave them."""
+    """The names that columns may have at the publisher whose names here are these, as
+    `name_columns` gave them."""
     taken, found = set[str](), []
     for number, name in enumerate(names, 1):
         first = name.rstrip("_").removesuffix(f" {number}")

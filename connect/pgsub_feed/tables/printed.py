@@ -1,7 +1,9 @@
-"""The rows of a table of a file as the server prints them: what its digest is of, and what is compared.
+"""The rows of a table of a file as the server prints them: what its digest is of, and what is
+compared.
 
-Each value of SQLite is one of the server's texts, so nothing is left out: a number of floating point is the shortest digits that give it
-again, as the module `floats` says; a bool is t or f; bytes are in hexadecimal digits.
+Each value of SQLite is one of the server's texts, so nothing is left out: a number of floating
+point is the shortest digits that give it again, as the module `floats` says; a bool is t or f;
+bytes are in hexadecimal digits.
 """
 
 from __future__ import annotations
@@ -9,14 +11,15 @@ from __future__ import annotations
 from collections.abc import Sequence
 
 from pgsub_connect.server.catalog import Column
-from pgsub_connect.verify.digests import Field
 from pgsub_connect.store.export import Bound
-from .floats import stored_float
+from pgsub_connect.verify.digests import Field
+
+from ..reader.commits import Cell
 from ..texts import identifier
-from .values import BOOL, BYTEA, FLOAT4
+from .floats import stored_float
 from .reshape import printed
 from .table import Valued
-from ..reader.commits import Cell
+from .values import BOOL, BYTEA, FLOAT4
 
 
 class Fields:
@@ -27,17 +30,24 @@ class Fields:
         self.query = f"SELECT {', '.join(valued.target.columns)} FROM {identifier(valued.name)}"
 
     def of_row(self, row: Sequence[Bound]) -> list[Field]:
-        """Those of a row of SQLite. What isn't UTF-8 there stays as it is, and is equal to nothing that a server prints."""
+        """Those of a row of SQLite. What isn't UTF-8 there stays as it is, and is equal to nothing
+        that a server prints."""
         # (a table without columns has one here)
         pairs = zip(self.columns, row, strict=True) if self.columns else ()
         return [
-            None if it is None else it.encode(errors="surrogateescape") if isinstance(it, str) else told(column, it) for column, it in pairs
+            None
+            if it is None
+            else it.encode(errors="surrogateescape")
+            if isinstance(it, str)
+            else told(column, it)
+            for column, it in pairs
         ]
 
     def of_cells(self, cells: Sequence[Cell]) -> list[Field]:
         """Those of a row of a feed."""
         return [
-            None if it is None else it.encode() if isinstance(it, str) else self.of_binary(at, it) for at, it in enumerate(cells)
+            None if it is None else it.encode() if isinstance(it, str) else self.of_binary(at, it)
+            for at, it in enumerate(cells)
         ]
 
     def of_binary(self, at: int, cell: bytes) -> Field:
@@ -48,7 +58,8 @@ class Fields:
 
 
 def told(column: Column, value: Bound) -> Field:
-    """A value as the server prints it. A number that none of the type is stored as gives what no server prints."""
+    """A value as the server prints it. A number that none of the type is stored as gives what no
+    server prints."""
     if isinstance(value, float):
         return stored_float(value, column.type_oid == FLOAT4).encode()
     if column.type_oid == BOOL and isinstance(value, int) and value not in (0, 1):

@@ -1,7 +1,9 @@
-"""A table's rows in another shape: each column has the values of the one that had its name, and a new one null.
+"""A table's rows in another shape: each column has the values of the one that had its name, and a
+new one null.
 
-The server says how it altered a table, and not what it made of the rows. Where a column's type in SQLite is another one, each value
-is printed as the server prints those of the old type, and read as one of the new.
+The server says how it altered a table, and not what it made of the rows. Where a column's type in
+SQLite is another one, each value is printed as the server prints those of the old type, and read as
+one of the new.
 """
 
 from __future__ import annotations
@@ -10,15 +12,16 @@ import contextlib
 import sqlite3
 from collections.abc import Iterator
 
-from .. import log
 from pgsub_connect.server.catalog import Column
 from pgsub_connect.store.export import Bound, key_index, with_columns
+
+from .. import log
+from ..reader.commits import Cell
+from ..texts import identifier
 from .floats import printed_float
 from .names import OLD
-from ..texts import identifier
-from .values import BOOL, FLOAT4
 from .table import Kept, Valued, rows_index
-from ..reader.commits import Cell
+from .values import BOOL, FLOAT4
 
 # What is told of a table whose key is none of SQLite's.
 LOOSE = "rows have null in the key, or equal keys: the table has an index in place of a primary key"
@@ -78,11 +81,14 @@ def loosen(db: sqlite3.Connection, kept: Kept) -> Kept:
 
 
 def extend(db: sqlite3.Connection, old: Kept, new: Kept) -> bool:
-    """Adds columns to the table that is there, where nothing else was altered; whether that was so."""
+    """Adds columns to the table that is there, where nothing else was altered; whether that was
+    so."""
     was, now, count = old.target, new.target, old.width
     if (was.columns, was.key, was.is_keyed) != (now.columns[:count], now.key, now.is_keyed):
         return False
-    if [it[0] for it in was.kinds] != [it[0] for it in now.kinds[:count]] or sources(old, new)[:count] != list(range(count)):
+    if [it[0] for it in was.kinds] != [it[0] for it in now.kinds[:count]] or sources(old, new)[
+        :count
+    ] != list(range(count)):
         return False
     for column, (kind, _, _) in list(zip(now.columns, now.kinds, strict=True))[count:]:
         db.execute(f"ALTER TABLE {identifier(new.name)} ADD COLUMN {column} {kind}")
@@ -95,8 +101,15 @@ def has_null_keys(db: sqlite3.Connection, old: Kept, new: Kept) -> bool:
     if not new.target.is_keyed:
         return False
     places = sources(old, new)
-    nulls = [f"{old.target.columns[at]} IS NULL" if (at := places[key]) is not None else "TRUE" for key in new.target.key]
-    return bool(db.execute(f"SELECT EXISTS (SELECT 1 FROM {OLD} WHERE {' OR '.join(nulls[:500])})").fetchone()[0])
+    nulls = [
+        f"{old.target.columns[at]} IS NULL" if (at := places[key]) is not None else "TRUE"
+        for key in new.target.key
+    ]
+    return bool(
+        db.execute(
+            f"SELECT EXISTS (SELECT 1 FROM {OLD} WHERE {' OR '.join(nulls[:500])})"
+        ).fetchone()[0]
+    )
 
 
 def put(cursor: sqlite3.Cursor, old: Kept, new: Kept) -> None:
@@ -104,7 +117,10 @@ def put(cursor: sqlite3.Cursor, old: Kept, new: Kept) -> None:
     places = sources(old, new)
     chosen = ", ".join("NULL" if at is None else old.target.columns[at] for at in places)
     query = f"SELECT {chosen} FROM {OLD} ORDER BY {old.row_id()}"
-    kinds = [(None if at is None else old.target.kinds[at][0], kind) for at, (kind, _, _) in zip(places, new.target.kinds, strict=True)]
+    kinds = [
+        (None if at is None else old.target.kinds[at][0], kind)
+        for at, (kind, _, _) in zip(places, new.target.kinds, strict=True)
+    ]
     if all(was in (None, now) for was, now in kinds):
         cursor.execute(f"INSERT INTO {identifier(new.name)} {query}")
     else:
@@ -113,9 +129,14 @@ def put(cursor: sqlite3.Cursor, old: Kept, new: Kept) -> None:
 
 def converted(db: sqlite3.Connection, query: str, old: Kept, new: Kept) -> Iterator[list[Bound]]:
     """The rows with what their values are in the new shape."""
-    columns = [None if at is None else with_columns(old.relation).shape.columns[at] for at in sources(old, new)]
+    columns = [
+        None if at is None else with_columns(old.relation).shape.columns[at]
+        for at in sources(old, new)
+    ]
     # (closed where a value isn't one of the new type, as a table that is read can't be dropped)
     with contextlib.closing(db.execute(query)) as rows:
         for row in rows:
             pairs = zip(columns, row, strict=True)
-            yield new.row([None if column is None else printed(column, value) for column, value in pairs])
+            yield new.row(
+                [None if column is None else printed(column, value) for column, value in pairs]
+            )

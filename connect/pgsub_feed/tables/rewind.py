@@ -1,7 +1,7 @@
 """Takes a file of tables back to an LSN, by the rows that its feed has from before each change.
 
-What the feed doesn't have can't be had again: rows that a truncation took, and the values of columns that were dropped or whose type is
-another one since.
+What the feed doesn't have can't be had again: rows that a truncation took, and the values of
+columns that were dropped or whose type is another one since.
 """
 
 from __future__ import annotations
@@ -9,17 +9,18 @@ from __future__ import annotations
 import dataclasses
 from collections.abc import Iterator
 
+from pgsub_connect.drift.remembered import Relation
 from pgsub_connect.errors import Unfit
 from pgsub_connect.server.connection import Check
-from pgsub_connect.drift.remembered import Relation
-from ..texts import identifier, lsn_text
-from .applier import Applier
-from .reshape import sources
-from .table import Valued
+
 from ..reader.commits import Change, Commit, Cursor, Missed, Part, TableLine
 from ..reader.polling import Poll
 from ..reader.segments import Reader, segments
+from ..texts import identifier, lsn_text
+from .applier import Applier
 from .file import Rows
+from .reshape import sources
+from .table import Valued
 
 
 class Lost(Unfit):
@@ -28,7 +29,8 @@ class Lost(Unfit):
 
 @dataclasses.dataclass
 class Way:
-    """What lies between an LSN and that of a file: the commits, and by OID what was told of relations up to there, the latest last."""
+    """What lies between an LSN and that of a file: the commits, and by OID what was told of
+    relations up to there, the latest last."""
 
     at: int
     # whether the feed begins with an empty copy
@@ -41,7 +43,9 @@ def look(reader: Reader, rows: Rows, at: int, check: Check) -> Way:
     """Looks for the way from a file back to an LSN."""
     first = segments(reader.folder)[:1]
     if not first or first[0][0] > at:
-        raise Unfit(f"{reader.folder}: the feed doesn't have the commits after {lsn_text(at)}: begin from an export before it")
+        raise Unfit(
+            f"{reader.folder}: the feed doesn't have the commits after {lsn_text(at)}: begin from an export before it"
+        )
     way, end = Way(first[0][0], first[0][0] == 0), 0
     for commit in Poll(reader, False, check).commits():
         check()
@@ -84,7 +88,11 @@ def walk(folder: str, rows: Rows, at: int, check: Check) -> None:
 
 def forward(way: Way, at: int) -> str:
     """How the tables are had without going back."""
-    base = "without --base" if way.is_whole else f"with --base, an export or tables of {lsn_text(at)} or before"
+    base = (
+        "without --base"
+        if way.is_whole
+        else f"with --base, an export or tables of {lsn_text(at)} or before"
+    )
     return f"Go forward to there: make a new file by --into, {base}"
 
 
@@ -106,7 +114,9 @@ def turned(rows: Rows, commit: Commit, parts: list[Part]) -> Iterator[Part]:
 def turned_change(rows: Rows, commit: Commit, it: Change) -> Change | None:
     if it.op == "t":
         if rows.is_chosen(it.relation):
-            raise Lost(f"{commit.text()} truncates {it.relation.text()}, and the feed doesn't have the rows that were in it")
+            raise Lost(
+                f"{commit.text()} truncates {it.relation.text()}, and the feed doesn't have the rows that were in it"
+            )
         return None
     op = {"c": "d", "d": "c", "u": "u"}[it.op]
     return Change(op, it.relation, it.n, it.after, it.before)
@@ -118,10 +128,19 @@ def check_shape(rows: Rows, relation: Relation) -> None:
     if kept is None or kept.relation == relation or not rows.is_chosen(relation):
         return
     was = Valued(kept.name, relation)
-    for at, column, kind in zip(sources(kept, was), was.target.relation.shape.columns, was.target.kinds, strict=True):
+    for at, column, kind in zip(
+        sources(kept, was), was.target.relation.shape.columns, was.target.kinds, strict=True
+    ):
         is_lost = at is None or kept.target.kinds[at][0] != kind[0]
-        if is_lost and rows.db.execute(f"SELECT EXISTS (SELECT 1 FROM {identifier(kept.name)})").fetchone()[0]:
-            raise Lost(f"{relation.text()}: the column {column.name} was dropped or altered since, and its values are lost")
+        if (
+            is_lost
+            and rows.db.execute(
+                f"SELECT EXISTS (SELECT 1 FROM {identifier(kept.name)})"
+            ).fetchone()[0]
+        ):
+            raise Lost(
+                f"{relation.text()}: the column {column.name} was dropped or altered since, and its values are lost"
+            )
 
 
 def settle(rows: Rows, way: Way) -> None:

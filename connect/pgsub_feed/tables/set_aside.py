@@ -16,11 +16,12 @@ import sqlite3
 from collections.abc import Iterator
 from typing import NamedTuple
 
-from .. import log
-from pgsub_connect.errors import Unfit
-from .names import TABLES
 from pgsub_connect.drift.remembered import Relation
+from pgsub_connect.errors import Unfit
+
+from .. import log
 from ..texts import lsn_text, parse_lsn
+from .names import TABLES
 
 TABLE = "pgsub_aside"
 SCHEMA = (

@@ -1,4 +1,5 @@
-"""One table of a file of tables: what a row's cells are there, and the statements that change it."""
+"""One table of a file of tables: what a row's cells are there, and the statements that change it.
+"""
 
 from __future__ import annotations
 
@@ -6,13 +7,14 @@ import math
 import sqlite3
 from collections.abc import Sequence
 
-from pgsub_connect.store.export import Bound, Target, key_index, unlike_reason, with_columns
-from .names import folded, name_columns
 from pgsub_connect.drift.remembered import Relation
-from ..texts import identifier
-from .values import Unlike
-from .set_aside import Unkept
+from pgsub_connect.store.export import Bound, Target, key_index, unlike_reason, with_columns
+
 from ..reader.commits import Cell
+from ..texts import identifier
+from .names import folded, name_columns
+from .set_aside import Unkept
+from .values import Unlike
 
 # How many columns the index has by which a row without a key is found.
 INDEXED = 4
@@ -27,7 +29,11 @@ def is_minus_zero(value: Bound) -> bool:
 
 def listed(columns: Sequence[str], values: Sequence[str]) -> str:
     """A comparison that null is equal to null in."""
-    return f"({', '.join(columns)}) IS ({', '.join(values)})" if len(columns) > 1 else f"{columns[0]} IS {values[0]}"
+    return (
+        f"({', '.join(columns)}) IS ({', '.join(values)})"
+        if len(columns) > 1
+        else f"{columns[0]} IS {values[0]}"
+    )
 
 
 def rows_index(oid: int) -> str:
@@ -42,7 +48,8 @@ class Valued:
         self.relation, self.oid, self.name, self.primary = relation, relation.oid, name, primary
         self.target = Target(name, with_columns(relation), False, primary)
         self.width = len(self.target.columns)
-        # numbers of columns by names that they may have at the publisher beside their own, of a table of an export
+        # numbers of columns by names that they may have at the publisher beside their own, of a
+        # table of an export
         self.others: dict[str, int] = {}
         # the columns whose values aren't what their cells are
         self.read = [at for at, (kind, _, _) in enumerate(self.target.kinds) if kind != "TEXT"]
@@ -78,10 +85,12 @@ class Valued:
 
 
 class Kept(Valued):
-    """A table. Rows of a keyed one are found by the key, and any other's by all of their values, one of several equal rows.
+    """A table. Rows of a keyed one are found by the key, and any other's by all of their values,
+    one of several equal rows.
 
-    `primary`: the columns of its primary key, where its replica identity is another. SQLite has each
-    key once, so the row that has it is the one that the feed changes, whatever the server forbids.
+    `primary`: the columns of its primary key, where its replica identity is another. SQLite has
+    each key once, so the row that has it is the one that the feed changes, whatever the server
+    forbids.
     """
 
     def __init__(
@@ -104,28 +113,42 @@ class Kept(Valued):
         everything = list(range(self.width))
         self.found = target.key if target.is_keyed else everything
         rest = [at for at in everything if at not in self.found] if target.is_keyed else everything
-        changes = [f"{column} = {value}" for column, value in zip(columns, self.values(everything, 0), strict=True)]
+        changes = [
+            f"{column} = {value}"
+            for column, value in zip(columns, self.values(everything, 0), strict=True)
+        ]
         # (the values of the new row, and then those that find the old one)
         where = self.where(self.width)
         self.update = f"UPDATE {name} SET {', '.join(changes)} WHERE {where}"
         # of a row whose key stays
-        self.change = f"UPDATE {name} SET {', '.join(changes[at] for at in rest)} WHERE {where}" if rest else ""
+        self.change = (
+            f"UPDATE {name} SET {', '.join(changes[at] for at in rest)} WHERE {where}"
+            if rest
+            else ""
+        )
         self.deletion = f"DELETE FROM {name} WHERE {self.where(0)}"
         self.truncation = f"DELETE FROM {name}"
 
     def values(self, places: Sequence[int], first: int) -> list[str]:
         """The values of these columns as they are bound."""
         kinds = [self.target.kinds[at][0] for at in places]
-        return [f"CAST(?{at} AS TEXT)" if kind == "TEXT" else f"?{at}" for at, kind in enumerate(kinds, first + 1)]
+        return [
+            f"CAST(?{at} AS TEXT)" if kind == "TEXT" else f"?{at}"
+            for at, kind in enumerate(kinds, first + 1)
+        ]
 
     def where(self, first: int) -> str:
         """What finds a row, by values that are bound from a number on."""
-        columns, values = [self.target.columns[at] for at in self.found], self.values(self.found, first)
+        columns, values = [self.target.columns[at] for at in self.found], self.values(
+            self.found, first
+        )
         where = listed(columns, values)
         if self.target.is_keyed:
             return where
         if floats := [at for at, (kind, _, _) in enumerate(self.target.kinds) if kind == "ANY"]:
-            where += " AND " + listed(*([f"{IS_MINUS_ZERO}({some[at]})" for at in floats] for some in (columns, values)))
+            where += " AND " + listed(
+                *([f"{IS_MINUS_ZERO}({some[at]})" for at in floats] for some in (columns, values))
+            )
         row_id = self.row_id()
         return f"{row_id} = (SELECT {row_id} FROM {identifier(self.name)} WHERE {where} LIMIT 1)"
 
@@ -134,7 +157,9 @@ class Kept(Valued):
         for it in ROW_IDS:
             if identifier(it) not in taken:
                 return it
-        why = f"a table without a key whose columns have the names {', '.join(ROW_IDS)} can't be kept"
+        why = (
+            f"a table without a key whose columns have the names {', '.join(ROW_IDS)} can't be kept"
+        )
         raise Unkept(self.relation, why)
 
     def searched(self, cells: Sequence[Cell]) -> list[Bound]:
@@ -152,7 +177,9 @@ class Kept(Valued):
     def is_of_key(self, error: sqlite3.IntegrityError) -> bool:
         """Whether the values of a key are there already."""
         names = name_columns(it.name for it in self.target.relation.shape.columns)
-        return str(error) == "UNIQUE constraint failed: " + ", ".join(f"{self.name}.{names[at]}" for at in self.target.key)
+        return str(error) == "UNIQUE constraint failed: " + ", ".join(
+            f"{self.name}.{names[at]}" for at in self.target.key
+        )
 
     def make(self, db: sqlite3.Connection) -> None:
         """Makes the table, empty."""
@@ -168,4 +195,6 @@ class Kept(Valued):
             self.has_index = True
 
     def index(self, db: sqlite3.Connection, name: str, columns: str) -> None:
-        db.execute(f"CREATE INDEX IF NOT EXISTS {identifier(name)} ON {identifier(self.name)} ({columns})")
+        db.execute(
+            f"CREATE INDEX IF NOT EXISTS {identifier(name)} ON {identifier(self.name)} ({columns})"
+        )

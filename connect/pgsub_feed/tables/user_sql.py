@@ -1,17 +1,24 @@
-"""A user's own SQL for a file of tables: indexes and views, made again after a table was made or altered."""
+"""A user's own SQL for a file of tables: indexes and views, made again after a table was made or
+altered."""
 
 from __future__ import annotations
 
 import sqlite3
 from collections.abc import Iterator
 
-from .. import log
 from pgsub_connect.errors import FileError
 from pgsub_connect.store.at_rest import FULL
 
+from .. import log
+
 # What passes: a table that isn't there yet, and what is there already.
 PASSED = ("no such ", "already exists")
-DENIED = {sqlite3.SQLITE_TRANSACTION, sqlite3.SQLITE_SAVEPOINT, sqlite3.SQLITE_ATTACH, sqlite3.SQLITE_DETACH}
+DENIED = {
+    sqlite3.SQLITE_TRANSACTION,
+    sqlite3.SQLITE_SAVEPOINT,
+    sqlite3.SQLITE_ATTACH,
+    sqlite3.SQLITE_DETACH,
+}
 
 
 def statements(text: str) -> Iterator[str]:

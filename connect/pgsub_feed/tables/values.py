@@ -1,4 +1,5 @@
-"""Values of the store as values of SQLite: the column types that they get, and what reads a cell."""
+"""Values of the store as values of SQLite: the column types that they get, and what reads a cell.
+"""
 
 from __future__ import annotations
 
@@ -74,7 +75,8 @@ def unpacked(form: str) -> Read:
     return number
 
 
-# By type: the column's type in a table, what reads a text and what reads a binary value. Any other type is TEXT.
+# By type: the column's type in a table, what reads a text and what reads a binary value. Any other
+# type is TEXT.
 KINDS: dict[int, tuple[str, Read, Read]] = {
     BOOL: ("INTEGER", read_bool, unpacked(">?")),
     BYTEA: ("BLOB", read_bytea, read_text),
@@ -91,7 +93,8 @@ def no_binary(_: bytes) -> Value:
 
 
 def kind_of(column: Column, is_text: bool) -> tuple[str, Read, Read]:
-    """A column's type in a table, and what reads its cells. `is_text`: all of them as they are printed."""
+    """A column's type in a table, and what reads its cells. `is_text`: all of them as they are
+    printed."""
     if is_text or column.type_oid not in KINDS:
         return "TEXT", read_text, read_text if column.type_oid in TEXTS else no_binary
     return KINDS[column.type_oid]
@@ -110,7 +113,8 @@ class Unlike(Exception):
 
 
 def read_row(body: bytes, kinds: Sequence[tuple[str, Read, Read]]) -> list[Value]:
-    """The values of a row: an Int16 count, and of each cell a letter, and of one that isn't null an Int32 length and the bytes."""
+    """The values of a row: an Int16 count, and of each cell a letter, and of one that isn't null an
+    Int32 length and the bytes."""
     if int.from_bytes(body[:2], "big") != len(kinds):
         raise Malformed
     at, values = 2, list[Value]()
@@ -135,7 +139,8 @@ def read_row(body: bytes, kinds: Sequence[tuple[str, Read, Read]]) -> list[Value
 
 
 def read_columns(body: bytes) -> tuple[Column, ...]:
-    """The columns of a definition: an Int16 count, and of each a flag, its name with a zero byte, and two Int32 for the type."""
+    """The columns of a definition: an Int16 count, and of each a flag, its name with a zero byte,
+    and two Int32 for the type."""
     at, columns = 2, []
     for _ in range(int.from_bytes(body[:2], "big")):
         end = body.find(b"\0", at + 1)

@@ -1,7 +1,9 @@
-"""The tables of a file that follows a feed, read in one transaction, and taken back to an LSN by the images of its feed.
+"""The tables of a file that follows a feed, read in one transaction, and taken back to an LSN by
+the images of its feed.
 
-They are a side of a comparison, as the module `sides` has a store's file. Of each table its rows are summed up by chunks, or the digest is
-taken that the file keeps; the images of the commits above the LSN are taken off.
+They are a side of a comparison, as the module `sides` has a store's file. Of each table its rows
+are summed up by chunks, or the digest is taken that the file keeps; the images of the commits above
+the LSN are taken off.
 """
 
 from __future__ import annotations
@@ -12,25 +14,26 @@ import os
 import sqlite3
 from collections.abc import Collection, Iterable, Iterator
 
-from pgsub_connect.server.catalog import Column
-from pgsub_connect.verify.digests import Plan, Summing, Sums, text_of
-from pgsub_connect.verify.digests import Fields as Texts
+from pgsub_connect.drift.remembered import Relation
 from pgsub_connect.errors import FileError, Passing
-from .names import POSITION, TABLES, name_columns, names_of
+from pgsub_connect.server.catalog import Column
 from pgsub_connect.server.connection import Check
 from pgsub_connect.server.publications import Table
-from pgsub_connect.drift.remembered import Relation
+from pgsub_connect.verify.digests import Fields as Texts
+from pgsub_connect.verify.digests import Plan, Summing, Sums, text_of
 from pgsub_connect.verify.sides import ROWS, Row
-from ..texts import identifier, parse_lsn
-from .set_aside import Aside, read_asides
-from .first_rows import is_tables, opened
-from ..reader.lines import read_relation
-from .digests import Digest, read_digests
-from .printed import Fields
-from .table import Valued
+
 from ..reader.commits import Head
-from .file import FEED, RELATIONS, unlisted
+from ..reader.lines import read_relation
 from ..reader.trail import Image, Trail
+from ..texts import identifier, parse_lsn
+from .digests import Digest, read_digests
+from .file import FEED, RELATIONS, unlisted
+from .first_rows import is_tables, opened
+from .names import POSITION, TABLES, name_columns, names_of
+from .printed import Fields
+from .set_aside import Aside, read_asides
+from .table import Valued
 
 
 def check_tables(path: str) -> None:
@@ -42,7 +45,8 @@ def check_tables(path: str) -> None:
 
 
 class View:
-    """A file's tables at its LSN, `at`, in a transaction that lasts until `close`. With a trail, at the trail's point."""
+    """A file's tables at its LSN, `at`, in a transaction that lasts until `close`. With a trail, at
+    the trail's point."""
 
     def __init__(self, path: str, check: Check) -> None:
         self.path, self.check = path, check
@@ -59,7 +63,9 @@ class View:
     def read(self) -> None:
         db = self.db
         self.at = parse_lsn(db.execute(f"SELECT lsn FROM {POSITION}").fetchone()[0])
-        self.folder, *source, chosen = db.execute(f"SELECT folder, system, database, slot, chosen FROM {FEED}").fetchone()
+        self.folder, *source, chosen = db.execute(
+            f"SELECT folder, system, database, slot, chosen FROM {FEED}"
+        ).fetchone()
         # what it is a feed of, None where nothing was taken of it yet
         self.source = Head(0, *source) if source[0] is not None else None
         self.chosen = set(json.loads(chosen))
@@ -71,8 +77,13 @@ class View:
         self.asides: dict[int, Aside] = read_asides(db)
         self.lacks: list[Aside] = []
         self.tables: dict[int, Valued] = {}
-        named = {oid: (name, schema, table) for name, schema, table, oid in db.execute(f"SELECT * FROM {TABLES}")}
-        for oid, name, definition in db.execute(f"SELECT oid, name, definition FROM {RELATIONS}").fetchall():
+        named = {
+            oid: (name, schema, table)
+            for name, schema, table, oid in db.execute(f"SELECT * FROM {TABLES}")
+        }
+        for oid, name, definition in db.execute(
+            f"SELECT oid, name, definition FROM {RELATIONS}"
+        ).fetchall():
             if name is None:
                 self.left_out |= {oid} - self.asides.keys()
             elif definition is None:
@@ -105,15 +116,20 @@ class View:
 
     def left(self, tables: Iterable[Table]) -> list[Relation]:
         known = {it.oid for it in tables}
-        return [it.relation for oid, it in self.tables.items() if oid not in known and self.counts[oid]]
+        return [
+            it.relation for oid, it in self.tables.items() if oid not in known and self.counts[oid]
+        ]
 
     def fields(self, plan: Plan) -> Fields | None:
-        """What makes the fields of a table's rows, None where it isn't here. Where its types weren't told they are the other side's."""
+        """What makes the fields of a table's rows, None where it isn't here. Where its types
+        weren't told they are the other side's."""
         valued = self.tables.get(plan.table.oid)
         if valued is None:
             return None
         theirs = [Column(it.name, it.type_oid, it.modifier, it.key) for it in plan.table.columns]
-        return Fields(valued, theirs if plan.table.oid in self.untold else valued.relation.shape.columns)
+        return Fields(
+            valued, theirs if plan.table.oid in self.untold else valued.relation.shape.columns
+        )
 
     def texts(self, plan: Plan) -> Iterator[Texts]:
         """The fields of a table's rows at the LSN of the file."""
@@ -129,13 +145,18 @@ class View:
         for oid, summing in found.items():
             for fields in self.texts(summing.plan):
                 summing.add_fields(fields, 1)
-            if oid in self.tables and oid in self.digests and self.digests[oid] != summing.sums.totals():
+            if (
+                oid in self.tables
+                and oid in self.digests
+                and self.digests[oid] != summing.sums.totals()
+            ):
                 self.wrong.append(self.tables[oid].relation)
         self.take_back(found)
         return {oid: it.sums for oid, it in found.items()}
 
     def digested(self, plans: Iterable[Plan]) -> dict[int, Sums]:
-        """Those of tables with one chunk, by the digests that the file keeps. Of one that has none, by its rows."""
+        """Those of tables with one chunk, by the digests that the file keeps. Of one that has none,
+        by its rows."""
         found, read = dict[int, Summing](), list[Plan]()
         for plan in plans:
             digest = self.digests.get(plan.table.oid)
@@ -161,7 +182,9 @@ class View:
             self.check()
             relation, oid = image.relation, image.relation.oid
             if oid not in valued or valued[oid].valued.relation is not relation:
-                if [it.name for it in relation.shape.columns] != [it.name for it in by_oid[oid].table.columns]:
+                if [it.name for it in relation.shape.columns] != [
+                    it.name for it in by_oid[oid].table.columns
+                ]:
                     raise Passing(f"{relation.text()} was altered meanwhile: compare again")
                 valued[oid] = Fields(Valued("", relation), relation.shape.columns)
             yield image, valued[oid].of_cells(image.cells)
@@ -184,7 +207,9 @@ class View:
             room.execute("CREATE TABLE found (key BLOB, text BLOB, copies INTEGER)")
             room.execute("BEGIN")
             room.executemany("INSERT INTO found VALUES (?, ?, ?)", found())
-            yield from room.execute("SELECT key, text, sum(copies) FROM found GROUP BY key, text HAVING sum(copies) <> 0 ORDER BY key, text")
+            yield from room.execute(
+                "SELECT key, text, sum(copies) FROM found GROUP BY key, text HAVING sum(copies) <> 0 ORDER BY key, text"
+            )
 
     def close(self) -> None:
         self.db.close()

@@ -9,39 +9,76 @@ from __future__ import annotations
 
 from collections.abc import Callable, Iterable, Iterator
 
-from .. import log
+from pgsub_connect.add.replacement import XID
+from pgsub_connect.drift.remembered import Relation
 from pgsub_connect.errors import Unfit
 from pgsub_connect.server.connection import Check
-from pgsub_connect.drift.remembered import Relation
-from pgsub_connect.add.replacement import XID
 from pgsub_connect.server.session import SETTINGS
-from ..texts import identifier, literal, lsn_text
-from . import restore_sql
-from ..reader.selection import Chosen
-from .net import Changed, Net, Row
+
+from .. import log
 from ..reader.commits import Cell, Change, Commit, Missed, TableLine
 from ..reader.polling import Poll
 from ..reader.segments import Reader
+from ..reader.selection import Chosen
 from ..tables.file import full_name
+from ..texts import identifier, literal, lsn_text
+from . import restore_sql
+from .net import Changed, Net, Row
 
 # On these it depends how a value is printed.
 PRINTED = (
-    "search_path", "datestyle", "intervalstyle", "extra_float_digits", "bytea_output", "timezone",
-    "lc_monetary", "quote_all_identifiers", "xmlbinary",
+    "search_path",
+    "datestyle",
+    "intervalstyle",
+    "extra_float_digits",
+    "bytea_output",
+    "timezone",
+    "lc_monetary",
+    "quote_all_identifiers",
+    "xmlbinary",
 )
 # On the others how a constant is read; and rows that a policy hides are an error.
 SETTLED = {
     **{name: SETTINGS[name] for name in PRINTED},
-    "xmloption": "content", "array_nulls": "on", "row_security": "off",
+    "xmloption": "content",
+    "array_nulls": "on",
+    "row_security": "off",
 }
 # Types whose values are looked up in an index by `=`: bool, bytea, "char", name, int8, int2, int4,
 # text, oid, float4, float8, macaddr, inet, bpchar, varchar, date, time, timestamp, timestamptz,
 # interval, timetz, bit, varbit, numeric, uuid, pg_lsn, jsonb. The operator of another type may be
 # in any schema, or be that of a type which reads the constant in another way.
-COMPARED = frozenset((
-    16, 17, 18, 19, 20, 21, 23, 25, 26, 700, 701, 829, 869, 1042, 1043, 1082, 1083, 1114, 1184,
-    1186, 1266, 1560, 1562, 1700, 2950, 3220, 3802,
-))
+COMPARED = frozenset(
+    (
+        16,
+        17,
+        18,
+        19,
+        20,
+        21,
+        23,
+        25,
+        26,
+        700,
+        701,
+        829,
+        869,
+        1042,
+        1043,
+        1082,
+        1083,
+        1114,
+        1184,
+        1186,
+        1266,
+        1560,
+        1562,
+        1700,
+        2950,
+        3220,
+        3802,
+    )
+)
 # What an editor or a terminal may make another character of.
 CONTROLS = {it: f"\\x{it:02x}" for it in (*range(1, 32), 127)}
 CONTROLS |= {it: f"\\u{it:04x}" for it in range(0x80, 0xA0)}
@@ -59,8 +96,14 @@ CREATE TEMPORARY TABLE pgsub_settings ON COMMIT DROP AS
 SETTLE = f"DO $pgsub$ BEGIN {restore_sql.TO_OURS} END $pgsub$;\n"
 END = f"DO $pgsub$ BEGIN {restore_sql.TO_THEIRS} END $pgsub$;\nCOMMIT;\n"
 STEPS = (
-    restore_sql.CHECK, restore_sql.DESCRIBE, restore_sql.READ, restore_sql.FIND, restore_sql.REPLACE,
-    restore_sql.REFERENCES, restore_sql.CHANGE, restore_sql.LOOK,
+    restore_sql.CHECK,
+    restore_sql.DESCRIBE,
+    restore_sql.READ,
+    restore_sql.FIND,
+    restore_sql.REPLACE,
+    restore_sql.REFERENCES,
+    restore_sql.CHANGE,
+    restore_sql.LOOK,
 )
 
 

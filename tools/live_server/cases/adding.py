@@ -128,8 +128,9 @@ def clashes(place: Place) -> None:
 KILLED_AT = """
 import os, sys
 sys.path.insert(0, {house!r})
-from pgsub_connect import adding, cli
-where, name = adding.{where}, {name!r}
+from pgsub_connect import cli
+from pgsub_connect.add import adder
+where, name = adder.{where}, {name!r}
 real, left = getattr(where, name), [{times}]
 def last(*words, **more):
     if left[0]:

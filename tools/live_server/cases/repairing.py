@@ -271,8 +271,9 @@ def found_goes(place: Place) -> None:
 KILLED_AT = """
 import os, sys
 sys.path.insert(0, {house!r})
-from pgsub_connect import cli, {module}
-where, name = {module}.{where}, {name!r}
+from importlib import import_module
+from pgsub_connect import cli
+where, name = import_module("pgsub_connect.{module}").{where}, {name!r}
 real = getattr(where, name)
 def last(*words, **more):
     {before}
@@ -292,13 +293,13 @@ def killed_at(place: Place, words: list[str], module: str, where: str, name: str
 
 # What is cut of the follower and of who compares: a call, and whether before or after it was made.
 FOLLOWER_CUTS = (
-    ("repairing", "Repairing", "look", False), ("repairing", "Repairing", "send", False), ("repairing", "Repairing", "push", True),
-    ("repairing", "Repairing", "send", True), ("repairing", "Repairing", "finish", False), ("remembered", "Remembered", "are_right", True),
-    ("repairing", "Repairing", "finish", True),
+    ("follow.repair", "Repairing", "look", False), ("follow.repair", "Repairing", "send", False), ("follow.repair", "Repairing", "push", True),
+    ("follow.repair", "Repairing", "send", True), ("follow.repair", "Repairing", "finish", False), ("drift.remembered", "Remembered", "are_right", True),
+    ("follow.repair", "Repairing", "finish", True),
 )
 CUTS = (
-    ("meeting", "Request", "tell", False), ("meeting", "Request", "copied", True), ("mending", "Changes", "begin", True),
-    ("meeting", "Request", "pass_on", False),
+    ("verify.meeting_point", "Request", "tell", False), ("verify.meeting_point", "Request", "copied", True), ("verify.repair_rows", "Changes", "begin", True),
+    ("verify.meeting_point", "Request", "pass_on", False),
 )
 
 
