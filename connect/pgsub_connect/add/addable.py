@@ -1,4 +1,4 @@
-"""What `adding` asks of the stream, and which tables it can't add."""
+"""What `add.adder` asks of the stream, and which tables it can't add."""
 
 from __future__ import annotations
 

@@ -1,4 +1,4 @@
-"""Adds tables to a running copy, one after the other, as the module `replacing` says: what a
+"""Adds tables to a running copy, one after the other, as the module `add.replacement` says: what a
 follower does between its payloads.
 
 | Phase | What holds | Goes on |

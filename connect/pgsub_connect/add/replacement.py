@@ -2,7 +2,7 @@
 transaction that has the rows.
 
 Let P be the consistent point of a temporary slot that is made while nothing is passed on, and above
-all that was. As the module `holding` says, a commit whose final LSN is below P is seen by the
+all that was. As the module `follow.hold` says, a commit whose final LSN is below P is seen by the
 slot's snapshot, and any other isn't; P is the end of a record that is no commit (of running
 transactions), and above the final LSN of each commit that was passed on before. So the stream to
 the filter becomes this:

@@ -1,5 +1,5 @@
 """`pgsub-connect add`: has the follower of a store copy tables anew beside what it follows, as the
-module `adding` says.
+module `add.adder` says.
 
 What is wanted is noted in `STORE.tables`: by the follower, which is asked for it by the request
 file, or here, where none runs. The follower goes on with it whatever becomes of who asked.

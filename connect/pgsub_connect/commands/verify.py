@@ -1,13 +1,13 @@
 """`pgsub-connect verify`: compares the copy of a running follower with its server, both as they
 were at one LSN.
 
-Of each table the sums of the module `digests` are compared, chunk by chunk. Of chunks that differ,
-as many as rows are to be shown, the rows are read on both sides in the order of their keys, and
-those that differ are printed, a JSON object on each line. A value of more than some hundred
+Of each table the sums of the module `verify.digests` are compared, chunk by chunk. Of chunks that
+differ, as many as rows are to be shown, the rows are read on both sides in the order of their keys,
+and those that differ are printed, a JSON object on each line. A value of more than some hundred
 characters is cut, and its length and hash are told.
 
 With `--repair` the tables that differ are then compared once more, and what differs is mended, as
-the module `mending` says.
+the module `verify.repair_rows` says.
 """
 
 from __future__ import annotations

@@ -17,7 +17,7 @@ store's name, both are where it leads. What a fault leaves, by the checkpoint's 
 
 It begins anew, and the slot is dropped, where no table is stored whole, or one that isn't is too
 large to be added by itself. A table that was altered, truncated or locked beside the slot is added
-by itself, too, as the module `adding` says.
+by itself, too, as the module `add.adder` says.
 """
 
 from __future__ import annotations

@@ -1,4 +1,5 @@
-"""The kinds of the parts of the file `STORE.tables`; the module `remembered` tells what they mean.
+"""The kinds of the parts of the file `STORE.tables`; the module `drift.remembered` tells what they
+mean.
 
 What another program has written there is rejected before anything is taken from it. Parts that
 only later versions have are left to these; those that earlier ones hadn't may be missing.

@@ -1,7 +1,7 @@
 """Follows a server: sessions one after the other, with the filter kept alive between them.
 
-What is looked at before a session is in the module `fitting`, and which statuses are passed on in
-`confirming`.
+What is looked at before a session is in the module `follow.fitness`, and which statuses are passed
+on in `confirming`.
 """
 
 from __future__ import annotations

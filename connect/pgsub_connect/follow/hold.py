@@ -23,8 +23,8 @@ what they hold isn't in the store.
 
 The stream is held before the slot is made, so P is above all that was passed on: its record is
 written later than each commit that the server has sent. Where commits at the server wait for the
-follower, it goes on up to a gate, as the module `gating` says, which P is above. No frame is made
-up or left out, and statuses go on meanwhile.
+follower, it goes on up to a gate, as the module `follow.gate` says, which P is above. No frame is
+made up or left out, and statuses go on meanwhile.
 
 The request is a dialog in the file `STORE.request`, which is locked (flock) by whoever asks: with
 the lock goes the hold.
@@ -38,7 +38,7 @@ the lock goes the hold.
 | `held` | the follower | nothing is passed on from now on; its position |
 | `point` | verify | P: the stream goes on up to there, then the copy is taken, and the request goes |
 
-Where rows are to be repaired, as the module `repairing` says, the request has `repair` from its
+Where rows are to be repaired, as the module `follow.repair` says, the request has `repair` from its
 beginning on, and the stream stays held:
 
 | Field | Written by | Means |

@@ -1,10 +1,10 @@
 """Passes on the changes that make rows of the copy those of the server, as one transaction within
 the stream.
 
-They come from a comparison at an LSN P, which is held as the module `holding` says: all that was
-committed up to P is stored and in the copy that was compared, and nothing else. The transaction is
-Begin, for each table Relation and its changes, Commit. For it holds what the module `replacing`
-says of the rows of a table that is added:
+They come from a comparison at an LSN P, which is held as the module `follow.hold` says: all that
+was committed up to P is stored and in the copy that was compared, and nothing else. The transaction
+is Begin, for each table Relation and its changes, Commit. For it holds what the module
+`add.replacement` says of the rows of a table that is added:
 
 - Its xid is 2, its final LSN P - 1 and its end P, which no server's commit has.
 - It stands between transactions, before the first Begin with a final LSN of P or above and the

@@ -120,9 +120,9 @@ class Catalog:
     types: dict[int, dict[str, str]]
     # the first transaction that may have run when it was read, 0 where that isn't known
     running: int = dataclasses.field(default=0, compare=False)
-    # what the rows themselves have told, as the module `doubting` says: tables that have the values
-    # that they had, though their columns and their file were altered, and partitions that had no
-    # rows when they were attached
+    # what the rows themselves have told, as the module `drift.doubts` says: tables that have the
+    # values that they had, though their columns and their file were altered, and partitions that
+    # had no rows when they were attached
     kept: frozenset[int] = dataclasses.field(default=frozenset(), compare=False)
     fresh: frozenset[int] = dataclasses.field(default=frozenset(), compare=False)
 

@@ -1,10 +1,11 @@
 """What is known of a store from one run to the next, in a file beside it, and what a start
 concludes from it.
 
-The file is `STORE.connector`: two lines that are written in turns, as the module `checkpoint_lines`
-says. It is locked as long as a connector or a filter that it started is alive, so that a filter of
-a killed connector can end its commit before the next one opens the store. It is its owner's alone
-whatever mode was asked for, since whoever can open a file can lock it.
+The file is `STORE.connector`: two lines that are written in turns, as the module
+`store.checkpoint_lines` says. It is locked as long as a connector or a filter that it started is
+alive, so that a filter of a killed connector can end its commit before the next one opens the
+store. It is its owner's alone whatever mode was asked for, since whoever can open a file can lock
+it.
 
 What is known of the store:
 
@@ -18,7 +19,7 @@ What is known of the store:
 | `position` | the store's position was at least this |
 | `found` | what may have made the copy wrong, and the LSN at which it was found first; until somebody accepts it |
 | `skipped` | the final LSN of the commit that was skipped last |
-| `adding` | where there are any: the OIDs of tables whose changes are left out until their rows are stored, as the module `replacing` says, each with the LSN at which these will be, 0 where that isn't known |
+| `adding` | where there are any: the OIDs of tables whose changes are left out until their rows are stored, as the module `add.replacement` says, each with the LSN at which these will be, 0 where that isn't known |
 | `encrypted` | connections were encrypted, so that none follows that isn't, unless somebody accepts it |
 
 What is counted of changes that found no row. Where an earlier version of this program has counted

@@ -38,10 +38,10 @@ class Snapshots:
 
     A request is the file `STORE.request`, a JSON object whose `into` names a file in the store's
     own folder. It goes when the copy is there, or gets the field `error`. One with `hold` is for a
-    copy at one LSN, as the module `holding` says, and where it has `repair` the stream stays held,
-    in a session of whole transactions, so that rows may be repaired; one with `add` asks for no
-    copy: it has the OIDs of tables to add, and as `remove` those of which the rows are to go, and
-    goes once that is noted.
+    copy at one LSN, as the module `follow.hold` says, and where it has `repair` the stream stays
+    held, in a session of whole transactions, so that rows may be repaired; one with `add` asks for
+    no copy: it has the OIDs of tables to add, and as `remove` those of which the rows are to go,
+    and goes once that is noted.
     """
 
     def __init__(self, store: str, path: str | None, every: float, mode: int = 0o600) -> None:

@@ -1,5 +1,5 @@
 """Brings a server and the copy of a running follower to one LSN, for `pgsub-connect verify`; the
-module `holding` says how.
+module `follow.hold` says how.
 
 A follower that adds a table reads it in the same way. The server gets a temporary slot for that,
 which goes as soon as its snapshot is taken.

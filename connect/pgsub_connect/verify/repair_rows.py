@@ -3,7 +3,7 @@
 
 The tables that differ are compared once more, while the follower holds the stream at the LSN of
 that comparison. What differs is written into a file, which the follower passes on as one
-transaction that ends there, as the module `repairing` says:
+transaction that ends there, as the module `follow.repair` says:
 
 | Table | Rows that only the server has | that only the copy has | another row of a key |
 |---|---|---|---|
@@ -11,8 +11,8 @@ transaction that ends there, as the module `repairing` says:
 | REPLICA IDENTITY FULL | an Insert for each copy | a Delete by the old row for each copy | |
 | any other | an Insert for each copy | no change tells which one is meant | |
 
-A table is copied anew as a whole, as the module `adding` says, where no change tells which row is
-meant, not to the copy or, without a key, not to who reads its feed, who may have other rows than
+A table is copied anew as a whole, as the module `add.adder` says, where no change tells which row
+is meant, not to the copy or, without a key, not to who reads its feed, who may have other rows than
 the copy; where the copy has it under another definition; where a column list leaves out a part of
 its key, so that several rows have what is left; and where more than a share of its rows differs.
 """

@@ -1,8 +1,8 @@
 """The two sides of a comparison, both as of one LSN: the tables of a server, and those of a copy of
 the store.
 
-Their rows are summed up by chunks, as the module `digests` says, and read in the order of their
-keys' bytes.
+Their rows are summed up by chunks, as the module `verify.digests` says, and read in the order of
+their keys' bytes.
 """
 
 from __future__ import annotations

@@ -3,7 +3,7 @@ another such file.
 
 The server is seen as of the LSN P of a temporary slot; the file is read in one transaction, at
 whatever LSN it has then, once it has all commits that end up to P. Those that end above P, which
-the slot's snapshot doesn't see (the module `holding` says why), are taken back by the feed's
+the slot's snapshot doesn't see (the module `follow.hold` says why), are taken back by the feed's
 images. So nothing is held, neither the stream nor what follows the feed, and nothing is changed but
 for the slot.
 
@@ -13,9 +13,9 @@ feed.
 A table that was truncated, altered or repaired meanwhile is compared once more, and told where it
 can't be then either. One that the file has set aside differs.
 
-With `--digests` the sums are those that the files keep, as the module `digesting` says, and rows
-are read where they differ, or where there are none. Without, all rows are read, and the sums that a
-file keeps are checked by that.
+With `--digests` the sums are those that the files keep, as the module `pgsub_feed.tables.digests`
+says, and rows are read where they differ, or where there are none. Without, all rows are read, and
+the sums that a file keeps are checked by that.
 """
 
 from __future__ import annotations

@@ -6,8 +6,8 @@
 | `pgsub_tables` | by `name`, that of a table here: `schema`, `table` and `oid` of the publisher's |
 | `pgsub_relations` | by `oid` the definition that was told last, as in the feed, and the table here, null of one that wasn't chosen, or is set aside |
 | `pgsub_feed` | the folder of the feed, what it is a feed of, and the tables that were chosen |
-| `pgsub_aside` | by `oid` the tables that are set aside, as the module `asides` says |
-| `pgsub_digests` | where that was asked for, by `oid` a digest of the table's rows, as the module `digesting` says |
+| `pgsub_aside` | by `oid` the tables that are set aside, as the module `tables.set_aside` says |
+| `pgsub_digests` | where that was asked for, by `oid` a digest of the table's rows, as the module `tables.digests` says |
 | any other | the rows of one of the publisher's tables |
 
 Where another table got the name of one, the older one's rows are in `pgsub_old OID`: it may come

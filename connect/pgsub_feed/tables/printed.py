@@ -2,8 +2,8 @@
 compared.
 
 Each value of SQLite is one of the server's texts, so nothing is left out: a number of floating
-point is the shortest digits that give it again, as the module `floats` says; a bool is t or f;
-bytes are in hexadecimal digits.
+point is the shortest digits that give it again, as the module `tables.floats` says; a bool is t or
+f; bytes are in hexadecimal digits.
 """
 
 from __future__ import annotations

@@ -1,9 +1,9 @@
 """The tables of a file that follows a feed, read in one transaction, and taken back to an LSN by
 the images of its feed.
 
-They are a side of a comparison, as the module `sides` has a store's file. Of each table its rows
-are summed up by chunks, or the digest is taken that the file keeps; the images of the commits above
-the LSN are taken off.
+They are a side of a comparison, as the module `pgsub_connect.verify.sides` has a store's file. Of
+each table its rows are summed up by chunks, or the digest is taken that the file keeps; the images
+of the commits above the LSN are taken off.
 """
 
 from __future__ import annotations
