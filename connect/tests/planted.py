@@ -23,6 +23,8 @@ from typing import NamedTuple
 
 CONNECT = Path(__file__).resolve().parent.parent
 LIMIT = 60.0
+# pytest's statuses
+PASSED, FAILED = 0, 1
 # (tests of feeds make them by a module of the scripts)
 ENVIRONMENT = {**os.environ, "PYTHONPATH": str(CONNECT.parent / "tools")}
 
@@ -985,10 +987,10 @@ def found(bug: Bug) -> str:
         if text.count(bug.before) != 1:
             return f"the line that it changes is there {text.count(bug.before)} times"
         path.write_text(text.replace(bug.before, bug.after), encoding="utf-8")
-        tests = [f"tests.{name}" for name in bug.tests]
+        tests = [f"tests/{name}.py" for name in bug.tests]
         try:
             done = subprocess.run(
-                [sys.executable, "-m", "unittest", "-f", *tests],
+                [sys.executable, "-m", "pytest", "-x", "-q", "-p", "no:cacheprovider", *tests],
                 cwd=folder,
                 capture_output=True,
                 timeout=LIMIT,
@@ -997,9 +999,10 @@ def found(bug: Bug) -> str:
             )
         except subprocess.TimeoutExpired:
             return ""
-        if b"ImportError" in done.stderr or b"SyntaxError" in done.stderr:
-            return done.stderr.decode(errors="replace")
-        return "" if done.returncode else "the tests pass"
+        # (other statuses are of tests that couldn't be read or run)
+        if done.returncode not in (PASSED, FAILED):
+            return (done.stdout + done.stderr).decode(errors="replace")
+        return "" if done.returncode == FAILED else "the tests pass"
 
 
 def main(words: list[str]) -> int:

@@ -3,13 +3,15 @@ goes on where bytes were cut."""
 
 from __future__ import annotations
 
+import contextlib
 import os
-import random
 import re
 from pathlib import Path
 from unittest import mock
 
 from feed_text import UNSENT, About, Column, Line, closing_line, segment_head
+from hypothesis import given, settings
+from hypothesis import strategies as st
 
 from pgsub_connect.errors import FileError, Unfit
 from pgsub_connect.server.connection import never
@@ -20,6 +22,7 @@ from pgsub_feed.reader.lines import oid, parsed
 from pgsub_feed.reader.polling import Poll
 from pgsub_feed.reader.segments import Reader, read_confirmed, segments
 
+from .drawn import ANY
 from .feeds import ID, NAME, STOCK, FeedCase, delete, insert, table, truncate, update
 
 
@@ -487,14 +490,12 @@ class Damage(Case):
         with self.assertRaisesRegex(Damaged, "reading 4 Order"):
             self.ends()
 
-    def test_any_byte(self) -> None:
+    @settings(ANY, max_examples=300)
+    @given(st.data(), st.integers(0, 7))
+    def test_any_byte(self, data: st.DataObject, bit: int) -> None:
         """Whatever byte is another, what is read is the same, or it is told."""
-        rng = random.Random(7)
-        for _ in range(300):
-            text = bytearray(self.text)
-            text[rng.randrange(len(text))] ^= 1 << rng.randrange(8)
-            self.file().write_bytes(text)
-            try:
-                self.parts()
-            except (Damaged, Unfit):
-                pass
+        text = bytearray(self.text)
+        text[data.draw(st.integers(0, len(text) - 1))] ^= 1 << bit
+        self.file().write_bytes(text)
+        with contextlib.suppress(Damaged, Unfit):
+            self.parts()

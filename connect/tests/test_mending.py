@@ -13,6 +13,9 @@ from types import SimpleNamespace
 from typing import cast
 from unittest import mock
 
+from hypothesis import given, settings
+from hypothesis import strategies as st
+
 from pgsub_connect.copy.messages import relation
 from pgsub_connect.server.connection import never
 from pgsub_connect.server.publications import Column, Table
@@ -22,6 +25,7 @@ from pgsub_connect.verify.meeting_point import Source
 from pgsub_connect.verify.repair_rows import Changes, Mender, NoChange, changes_of
 from pgsub_connect.verify.sides import Copy, Sides
 
+from .drawn import ANY
 from .fake_server import connection_to
 from .row_filter import Store, Subscriber
 from .test_verifying import EQUAL_ROWS, KEYED, ROWS, WHOLE, Case, Rows
@@ -37,6 +41,16 @@ COLUMNS = [
 TWO = Table(4, "public", "two", "r", "i", None, None, COLUMNS)
 TOO_MANY: Rows = [[f"too many {it}", None] for it in range(300)]
 Some = dict[tuple[str | None, ...], int]
+WORDS = st.sampled_from(["", None, "a", "b\t\\", "c\n", "\u00e4", "n", "1:", "\\N"])
+# a table with a key, and one without
+TABLES: st.SearchStrategy[dict[int, Rows]] = st.fixed_dictionaries(
+    {
+        1: st.dictionaries(st.integers(0, 39), WORDS, max_size=30).map(
+            lambda rows: [[str(key), word] for key, word in rows.items()]
+        ),
+        2: st.lists(st.lists(WORDS, min_size=2, max_size=2), max_size=30),
+    }
+)
 
 
 def group(rows: Some) -> collections.Counter[bytes]:
@@ -270,28 +284,13 @@ class Written(Case):
                 self.assertEqual(self.mend().left, [])
                 self.check()
 
-    def test_anything(self) -> None:
-        rng = random.Random(11)
-        words = ["", None, "a", "b\t\\", "c\n", "\u00e4", "n", "1:", "\\N"]
-        for _ in range(60):
-            self.server.tables = {
-                1: [
-                    [str(it), rng.choice(words)] for it in rng.sample(range(40), rng.randrange(30))
-                ],
-                2: [[rng.choice(words), rng.choice(words)] for _ in range(rng.randrange(30))],
-            }
-            self.keep(
-                {
-                    1: [
-                        [str(it), rng.choice(words)]
-                        for it in rng.sample(range(40), rng.randrange(30))
-                    ],
-                    2: [[rng.choice(words), rng.choice(words)] for _ in range(rng.randrange(30))],
-                }
-            )
-            mender = self.mend()
-            self.assertEqual(mender.left, [])
-            self.check()
+    @settings(ANY, max_examples=60)
+    @given(TABLES, TABLES)
+    def test_anything(self, theirs: dict[int, Rows], mine: dict[int, Rows]) -> None:
+        self.server.tables = theirs
+        self.keep(mine)
+        self.assertEqual(self.mend().left, [])
+        self.check()
 
 
 if __name__ == "__main__":

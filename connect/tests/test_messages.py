@@ -3,10 +3,12 @@ value at a time."""
 
 from __future__ import annotations
 
-import random
 import re
 import struct
 import unittest
+
+from hypothesis import given, settings
+from hypothesis import strategies as st
 
 from pgsub_connect.copy.messages import (
     InsertHeads,
@@ -20,6 +22,8 @@ from pgsub_connect.copy.messages import (
 )
 from pgsub_connect.errors import WrongAnswer
 from pgsub_connect.server.publications import Column, Table
+
+from .drawn import ANY
 
 ESCAPES = {b"b": b"\b", b"f": b"\f", b"n": b"\n", b"r": b"\r", b"t": b"\t", b"v": b"\v"}
 
@@ -173,38 +177,34 @@ class Bytes(unittest.TestCase):
         )
 
 
-class Fuzz(unittest.TestCase):
-    """Blocks of random rows give the same as one value at a time."""
+TAME = st.text("abcxyz 0123N", max_size=40).map(str.encode)
+WILD = st.none() | st.lists(
+    st.sampled_from(b"ab\\N\\\tn\n\r\x08\x0c\x0btx\xc3\xa4"), max_size=40
+).map(bytes)
 
-    def value(self, random_: random.Random, wild: bool) -> bytes | None:
-        choice = random_.random()
-        if wild and choice < 0.2:
-            return None
-        letters = (
-            b"ab\\N\\\tn\n\r\x08\x0c\x0btx\xc3\xa4" if wild and choice < 0.6 else b"abcxyz 0123N"
-        )
-        return bytes(
-            random_.choice(letters) for _ in range(random_.choice((0, 0, 1, 2, 3, 5, 9, 40)))
-        )
 
-    def test_rows(self) -> None:
-        random_ = random.Random(32)
-        for number in range(800):
-            width, wild = random_.randrange(1, 6), number % 3 > 0
-            rows = [
-                [self.value(random_, wild) for _ in range(width)]
-                for _ in range(random_.randrange(1, 7))
-            ]
-            lines = [b"\t".join(map(copy_text, row)) + b"\n" for row in rows]
-            table = table_of(width)
-            sent = inserts(lines, InsertHeads(table, number))
-            self.assertEqual(sent, slow_inserts(lines, table, number), lines)
-            for row, line in zip(rows, lines, strict=True):
-                self.assertEqual(
-                    cells_length(line, width),
-                    sum(1 if it is None else 5 + len(it) for it in row),
-                    line,
-                )
+@st.composite
+def blocks(draw: st.DrawFn) -> list[list[bytes | None]]:
+    """Rows of one width, most with values that are written with backslashes."""
+    width = draw(st.integers(1, 5))
+    value: st.SearchStrategy[bytes | None] = draw(st.sampled_from((TAME, TAME | WILD, WILD)))
+    return draw(st.lists(st.lists(value, min_size=width, max_size=width), min_size=1, max_size=6))
+
+
+class Blocks(unittest.TestCase):
+    """Blocks of rows give the same as one value at a time."""
+
+    @settings(ANY)
+    @given(blocks(), st.integers(0, 799))
+    def test_rows(self, rows: list[list[bytes | None]], number: int) -> None:
+        width = len(rows[0])
+        lines = [b"\t".join(map(copy_text, row)) + b"\n" for row in rows]
+        table = table_of(width)
+        sent = inserts(lines, InsertHeads(table, number))
+        self.assertEqual(sent, slow_inserts(lines, table, number), lines)
+        for row, line in zip(rows, lines, strict=True):
+            length = sum(1 if it is None else 5 + len(it) for it in row)
+            self.assertEqual(cells_length(line, width), length, line)
 
     def test_long_values(self) -> None:
         lines = [

@@ -9,6 +9,7 @@ import sys
 import time
 import unittest
 import unittest.mock
+from pathlib import Path
 
 from pgsub_connect.errors import ServerError
 from pgsub_connect.follow import stall
@@ -20,6 +21,13 @@ from .vectors import begin, commit, insert
 
 # More than the pipe to a filter and the buffers of a socket have room for.
 LARGE = [insert(1) + bytes(1 << 15)] * 200
+
+
+def stop(pid: int) -> None:
+    """Stops a process, and waits until it stands."""
+    os.kill(pid, signal.SIGSTOP)
+    while Path(f"/proc/{pid}/stat").read_bytes().rpartition(b")")[2].split()[0] != b"T":
+        time.sleep(0.001)
 
 
 class Stopped(Case):
@@ -78,7 +86,8 @@ class Stopped(Case):
         began, slot = list[float](), follower.progress.slot
 
         def holds() -> bool:
-            if follower.progress.is_unread and not began:
+            # (it is asked for again and again)
+            if follower.progress.is_unread:
                 began.append(time.monotonic())
                 slot.wal_status, slot.told = "unreserved", time.monotonic()
             return self.then_goes_on(follower, bool(self.ended()))
@@ -153,8 +162,7 @@ class Activity(unittest.TestCase):
             while activity(child.pid) == before and time.monotonic() < until:
                 time.sleep(0.01)
             self.assertNotEqual(activity(child.pid), before)
-            os.kill(child.pid, signal.SIGSTOP)
-            time.sleep(0.1)
+            stop(child.pid)
             before = activity(child.pid)
             time.sleep(0.2)
             self.assertEqual(activity(child.pid), before)
@@ -172,9 +180,8 @@ class Lasts(Case):
         follower = self.follower()
         follower.start_filter()
         it = Standing(follower.filter, follower.progress)
+        stop(follower.filter.pid())
         it.found, it.is_left = it.look(), True
-        os.kill(follower.filter.pid(), signal.SIGSTOP)
-        it.found = it.look()
         self.assertTrue(it.lasts())
         follower.filter.kill()
         self.assertFalse(it.lasts())

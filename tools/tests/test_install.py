@@ -35,7 +35,9 @@ class Case(unittest.TestCase):
         subprocess.run([str(TOP / "install"), *words], check=True, capture_output=True, cwd=cls.room)
 
     def run_it(self, *words: str) -> subprocess.CompletedProcess[str]:
-        return subprocess.run([self.root / "bin/pgsub-connect", *words], capture_output=True, text=True, cwd=self.room)
+        # (it keeps nothing compiled beside what is installed)
+        environment = {**os.environ, "PYTHONDONTWRITEBYTECODE": "1"}
+        return subprocess.run([self.root / "bin/pgsub-connect", *words], capture_output=True, text=True, cwd=self.room, env=environment)
 
     def files(self) -> set[str]:
         return {str(it.relative_to(self.root)) for it in self.root.rglob("*") if not it.is_dir()}
