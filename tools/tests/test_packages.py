@@ -1,5 +1,6 @@
 """What a package says of itself."""
 
+import re
 import subprocess
 import tempfile
 import unittest
@@ -29,6 +30,10 @@ class Case(unittest.TestCase):
         pairs = ((build.version, build.later().version), ("0.1.0+20261125000000.gfff", "0.1.0+20261126000000.g000"))
         for first, second in pairs:
             subprocess.run(["dpkg", "--compare-versions", first, "lt", second], check=True)
+
+    def test_the_version_of_the_program_is_that_of_the_connector(self) -> None:
+        for path, form in (("connect/pgsub_connect/__init__.py", r'^VERSION = "(.*)"$'), ("crates/pgcommand/src/commands.rt", r'VERSION: &str = "(.*)";')):
+            self.assertEqual(re.findall(form, (TOP / path).read_text(encoding="utf-8"), re.M), ["0.1.0"], path)
 
     def test_packages_made_in_the_checkout_are_no_change_of_it(self) -> None:
         for name, status in (("pgsub_0.1.0+1.gabc_amd64.deb", 0), ("pgsub-0.1.0+1.gabc-x86_64.tar.gz", 0), ("SHA256SUMS", 0), ("pgsub", 1)):
