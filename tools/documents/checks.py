@@ -20,7 +20,7 @@ SHARES = {
     "docs/OPERATING.md": 3200,
     "docs/DECISIONS.md": 1400,
     "docs/PERFORMANCE.md": 1000,
-    "docs/CONTRIBUTING.md": 1200,
+    "docs/CONTRIBUTING.md": 1400,
     "docs/FEED.md": 1200,
     "docs/FORMATS.md": 1200,
 }

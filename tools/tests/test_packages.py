@@ -32,8 +32,10 @@ class Case(unittest.TestCase):
             subprocess.run(["dpkg", "--compare-versions", first, "lt", second], check=True)
 
     def test_the_version_of_the_program_is_that_of_the_connector(self) -> None:
-        for path, form in (("connect/pgsub_connect/__init__.py", r'^VERSION = "(.*)"$'), ("crates/pgcommand/src/commands.rt", r'VERSION: &str = "(.*)";')):
-            self.assertEqual(re.findall(form, (TOP / path).read_text(encoding="utf-8"), re.M), ["0.1.0"], path)
+        connector, program = (TOP / "connect/pgsub_connect/__init__.py").read_text(), (TOP / "crates/pgcommand/src/commands.rt").read_text()
+        version = re.findall(r'^VERSION = "(.+)"$', connector, re.M)
+        self.assertEqual(len(version), 1)
+        self.assertEqual(re.findall(r'VERSION: &str = "(.+)";', program), version)
 
     def test_packages_made_in_the_checkout_are_no_change_of_it(self) -> None:
         for name, status in (("pgsub_0.1.0+1.gabc_amd64.deb", 0), ("pgsub-0.1.0+1.gabc-x86_64.tar.gz", 0), ("SHA256SUMS", 0), ("pgsub", 1)):
