@@ -2,6 +2,7 @@
 
 import fcntl
 import os
+import re
 import shutil
 import subprocess
 import tempfile
@@ -56,6 +57,7 @@ class Case(unittest.TestCase):
             Path(room.name, name).write_text(text)
             Path(room.name, name).chmod(0o755)
         self.program = self.top / "crates/pgsub/out/pgsub"
+        shutil.copy(TOP / "crates/pgsub/src/build.rt", self.top / "crates/pgsub/src")
         self.write("first")
 
     def write(self, text: str, age: float = -100.0) -> None:
@@ -113,6 +115,30 @@ class Case(unittest.TestCase):
         self.assertIn("pgsub: pgsub is proved, 1 of 1 crates, less than a minute left\n", err)
         self.assertEqual(self.run_it("a"), (0, "second a\n", ""))
         self.assertEqual(self.builds(), 2)
+
+    def git(self, *words: str) -> str:
+        words = ("git", "-C", str(self.top), "-c", "user.name=a", "-c", "user.email=a@b.c", *words)
+        return subprocess.run(words, check=True, capture_output=True, text=True).stdout.strip()
+
+    def built_of(self) -> list[str]:
+        """Builds the program. Returns the commit and the kit that its sources have then."""
+        self.run_it("--build")
+        return re.findall(r'^pub\(crate\) const (?:COMMIT|KIT): &str = "(.*)";$', (self.room() / "crates/pgsub/src/build.rt").read_text(), re.M)
+
+    def test_what_it_is_built_of(self) -> None:
+        """The commit is the last one that changed the sources of the program, and is told where they were changed since."""
+        self.assertEqual(self.built_of(), ["unknown", KIT])
+        (self.top / ".gitignore").write_text("out/\n")
+        self.git("init", "-q")
+        self.git("add", ".")
+        self.git("commit", "-qm", "first")
+        first = self.git("rev-parse", "HEAD")
+        self.assertEqual(self.built_of(), [first, KIT])
+        (self.top / "KITS").write_text(f"{KIT}\nmore\n")
+        self.git("commit", "-qam", "second")
+        self.assertEqual(self.built_of(), [first, KIT])
+        self.write("changed")
+        self.assertEqual(self.built_of(), [f"{first}-changed", KIT])
 
     def test_what_fails_leaves_the_program(self) -> None:
         self.run_it()
