@@ -10,6 +10,7 @@ from documents import checks
 
 TOP = Path(__file__).resolve().parents[2]
 PROGRAM = """#!/bin/sh
+[ "$1" = --version ] && { echo "pgsub 0.1.0"; echo "commit $(printf %040d 5), the kit"; exit; }
 [ "$1" = --help ] && { printf 'Copies\\n\\nCommands:\\n  dump  Print it\\n\\nOptions:\\n  -h, --help  Print help\\n'; exit; }
 printf 'Print it\\n\\nOptions:\\n      --store <FILE>  The store\\n  -h, --help  Print help\\n'
 """
@@ -50,7 +51,8 @@ class Case(unittest.TestCase):
             {
                 "bin/pgsub", "bin/pgsub-connect", "bin/pgsub-feed", "lib/pgsub/pgsub", "lib/pgsub/pgsub-connect", "lib/pgsub/BUILD",
                 "lib/pgsub/pgsub-feed", "share/man/man1/pgsub-feed.1.gz",
-                "lib/pgsub/pgsub_connect/BUILD", "lib/systemd/system/pgsub@.service", "share/man/man1/pgsub.1.gz",
+                "lib/pgsub/pgsub_connect/BUILD", "lib/systemd/system/pgsub@.service", "lib/systemd/system/pgsub-account@.service",
+                "share/doc/pgsub/alerts.yml", "share/man/man1/pgsub.1.gz",
                 "share/man/man1/pgsub-connect.1.gz", "share/doc/pgsub/README.md", "share/doc/pgsub/CHANGELOG.md",
                 "share/doc/pgsub/SECURITY.md", "share/doc/pgsub/KITS", "share/doc/pgsub/first.pgx", "share/doc/pgsub/LICENSE",
                 "share/doc/pgsub/LICENSE-MIT", "share/doc/pgsub/LICENSE-APACHE",
@@ -59,10 +61,18 @@ class Case(unittest.TestCase):
         self.assertIn("ExecStart=/opt/here/bin/pgsub-connect follow", (self.root / "lib/systemd/system/pgsub@.service").read_text())
         build = dict(it.split(" ", 1) for it in (self.root / "lib/pgsub/BUILD").read_text().splitlines())
         self.assertEqual(set(build), {"version", "commit", "kit", "program"})
-        kits = [it for it in (TOP / "KITS").read_text().splitlines() if not it.startswith("#")]
         self.assertEqual(build["version"], "1.2+3")
-        self.assertIn(build["kit"], [*kits, ";".join(kits)])
+        self.assertEqual(build["kit"], "the kit")
         self.assertIn("1.2+3", self.run_it("--version").stdout)
+
+    def test_a_program_that_says_no_kit(self) -> None:
+        program = self.room / "silent"
+        program.write_text(PROGRAM.replace("commit", "of"))
+        program.chmod(0o755)
+        words = ["/opt/here", "--destdir", "silent-root", "--program", str(program), "--version", "1.2+3"]
+        subprocess.run([str(TOP / "install"), *words], check=True, capture_output=True, cwd=self.room)
+        kits = [it for it in (TOP / "KITS").read_text().splitlines() if not it.startswith("#")]
+        self.assertIn(f"\nkit {';'.join(kits)}\n", (self.room / "silent-root/opt/here/lib/pgsub/BUILD").read_text())
 
     def test_links_of_the_documents(self) -> None:
         tree = checks.Tree(self.root / "share/doc/pgsub")
