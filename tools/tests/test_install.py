@@ -35,6 +35,15 @@ class Case(unittest.TestCase):
         words = ["/opt/here", "--destdir", str(cls.room / "root"), "--program", str(cls.room / "program"), "--version", "1.2+3", *map(str, more)]
         subprocess.run([str(TOP / "install"), *words], check=True, capture_output=True, cwd=cls.room)
 
+    @classmethod
+    def make_pages(cls) -> Path:
+        """A folder with what tools/manuals makes, but for what is in it."""
+        pages = cls.room / "pages"
+        for name in ("pgsub.1", "pgsub-dump.1", "pgsub-connect-follow.1", "pgsub-feed.1", "bash/pgsub", "zsh/_pgsub"):
+            (pages / name).parent.mkdir(parents=True, exist_ok=True)
+            (pages / name).write_text("page")
+        return pages
+
     def run_it(self, *words: str) -> subprocess.CompletedProcess[str]:
         return subprocess.run([self.root / "bin/pgsub-connect", *words], capture_output=True, text=True, cwd=self.room)
 
@@ -43,6 +52,9 @@ class Case(unittest.TestCase):
 
     def test_all_of_it(self) -> None:
         found = self.files()
+        pages = {it for it in found if it.startswith("share/man/man1/")}
+        self.assertLessEqual({f"share/man/man1/{it}.1.gz" for it in ("pgsub", "pgsub-dump", "pgsub-connect-follow", "pgsub-feed")}, pages)
+        found -= pages
         copied = {f"lib/pgsub/{it.relative_to(TOP / 'connect')}" for it in (TOP / "connect/pgsub_connect").rglob("*.py")}
         copied |= {f"share/doc/pgsub/{it.relative_to(TOP)}" for folder in ("docs", "examples") for it in (TOP / folder).rglob("*") if it.is_file()}
         self.assertTrue(copied <= found)
@@ -50,12 +62,13 @@ class Case(unittest.TestCase):
             found - copied,
             {
                 "bin/pgsub", "bin/pgsub-connect", "bin/pgsub-feed", "lib/pgsub/pgsub", "lib/pgsub/pgsub-connect", "lib/pgsub/BUILD",
-                "lib/pgsub/pgsub-feed", "share/man/man1/pgsub-feed.1.gz",
+                "lib/pgsub/pgsub-feed",
                 "lib/pgsub/pgsub_connect/BUILD", "lib/systemd/system/pgsub@.service", "lib/systemd/system/pgsub-account@.service",
-                "share/doc/pgsub/alerts.yml", "share/man/man1/pgsub.1.gz",
-                "share/man/man1/pgsub-connect.1.gz", "share/doc/pgsub/README.md", "share/doc/pgsub/CHANGELOG.md",
+                "share/doc/pgsub/alerts.yml", "share/doc/pgsub/README.md", "share/doc/pgsub/CHANGELOG.md",
                 "share/doc/pgsub/SECURITY.md", "share/doc/pgsub/KITS", "share/doc/pgsub/first.pgx", "share/doc/pgsub/LICENSE",
                 "share/doc/pgsub/LICENSE-MIT", "share/doc/pgsub/LICENSE-APACHE",
+                *(f"share/bash-completion/completions/{it}" for it in ("pgsub", "pgsub-connect", "pgsub-feed")),
+                *(f"share/zsh/vendor-completions/_{it}" for it in ("pgsub", "pgsub-connect", "pgsub-feed")),
             },
         )
         self.assertIn("ExecStart=/opt/here/bin/pgsub-connect follow", (self.root / "lib/systemd/system/pgsub@.service").read_text())
@@ -69,7 +82,7 @@ class Case(unittest.TestCase):
         program = self.room / "silent"
         program.write_text(PROGRAM.replace("commit", "of"))
         program.chmod(0o755)
-        words = ["/opt/here", "--destdir", "silent-root", "--program", str(program), "--version", "1.2+3"]
+        words = ["/opt/here", "--destdir", "silent-root", "--program", str(program), "--version", "1.2+3", "--pages", str(self.make_pages())]
         subprocess.run([str(TOP / "install"), *words], check=True, capture_output=True, cwd=self.room)
         kits = [it for it in (TOP / "KITS").read_text().splitlines() if not it.startswith("#")]
         self.assertIn(f"\nkit {';'.join(kits)}\n", (self.room / "silent-root/opt/here/lib/pgsub/BUILD").read_text())
@@ -83,10 +96,9 @@ class Case(unittest.TestCase):
         """Modules that are gone go, a program that runs goes on, and the connector runs no other build's."""
         (self.root / "lib/pgsub/pgsub_connect/old.py").write_text("")
         before = os.stat(self.root / "lib/pgsub/pgsub").st_ino
-        for name in ("pgsub.1", "pgsub-connect.1", "pgsub-feed.1"):
-            (self.room / name).write_text("page")
-        self.install("--pages", self.room)
-        self.assertNotIn("lib/pgsub/pgsub_connect/old.py", self.files())
+        (self.root / "share/man/man1/pgsub-old.1.gz").write_text("")
+        self.install("--pages", self.make_pages())
+        self.assertFalse({"lib/pgsub/pgsub_connect/old.py", "share/man/man1/pgsub-old.1.gz"} & self.files())
         self.assertNotEqual(os.stat(self.root / "lib/pgsub/pgsub").st_ino, before)
         (self.root / "lib/pgsub/pgsub").write_text("#!/bin/sh\necho pgsub: wire 1 UnknownFrame 7 >&2; exit 1\n")
         words = ("follow", "--store", str(self.room / "copy.db"), "--dsn", "host=/nowhere", "--no-copy")
