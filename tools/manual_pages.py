@@ -3,6 +3,7 @@
 import os
 import re
 import subprocess
+from collections.abc import Iterable
 from dataclasses import dataclass
 from pathlib import Path
 
@@ -10,6 +11,8 @@ OPTION = re.compile(r"(?<![\w-])--[a-z][a-z0-9-]*")
 # an item of a list: what it is, and what it does, which may begin in the next line
 ITEM = re.compile(r"^ {2,6}(-{1,2}\S.*?|[a-z<[{A-Z]\S*(?: \S+)*?)(?: {2,}(.*))?$")
 MORE = re.compile(r"^ {8,}(\S.*)$")
+# a command that a help lists
+COMMAND = re.compile(r"^ {2,4}([a-z][a-z-]*)(?: {2,}(\S.*)|$)")
 HEADING = re.compile(r"^([A-Za-z][\w ]*):$")
 ABOUT = {
     "pgsub": "applies logical replication of PostgreSQL to a store, proved",
@@ -52,7 +55,7 @@ def subcommands(text: str) -> list[str]:
     for line in text.splitlines():
         if re.match(r"^(Commands:|\s*COMMAND)$", line):
             inside = True
-        elif inside and (item := re.match(r"^ {2,4}([a-z][a-z-]*)(?: {2,}\S|$)", line)):
+        elif inside and (item := COMMAND.match(line)):
             found.append(item[1])
         elif inside and line.strip() and not line.startswith("    "):
             inside = False
@@ -88,20 +91,35 @@ def roff_of(text: str) -> list[str]:
     return lines
 
 
-def page_of(name: str, helps: list[Help], date: str, version: str) -> str:
-    """A manual page, which names the others. Raises Unreadable where an option of the helps isn't in it."""
-    lines = [f'.TH {name.upper()} 1 "{date}" "{version}"', ".SH NAME", rf"{escaped(name)} \- {ABOUT[name]}"]
-    for it in helps:
-        lines += [f".SH {' '.join([name, *it.words]).upper() if it.words else 'DESCRIPTION'}", *roff_of(it.text)]
-    lines += [".SH SEE ALSO", ", ".join(rf"\fB{escaped(it)}\fR(1)" for it in ABOUT if it != name)]
+def abouts_of(text: str, commands: Iterable[str]) -> dict[str, str]:
+    """What a help says of each command, in its first line."""
+    found = {item[1]: item[2] or "" for item in map(COMMAND.match, text.splitlines()) if item}
+    return {it: found.get(it, "") for it in commands}
+
+
+def page_of(title: str, help: Help, about: str, others: Iterable[str], date: str, version: str) -> str:
+    """A manual page, which names others. Raises Unreadable where an option of the help isn't in it."""
+    lines = [f'.TH {title.upper()} 1 "{date}" "{version}"', ".SH NAME", rf"{escaped(title)} \- {escaped(about)}"]
+    lines += [".SH DESCRIPTION", *roff_of(help.text), ".SH SEE ALSO", ", ".join(rf"\fB{escaped(it)}\fR(1)" for it in others)]
     text = "\n".join(lines) + "\n"
     plain = text.replace(r"\-", "-").replace(r"\fB", "")
-    for it in helps:
-        if missing := set(OPTION.findall(it.text)) - set(OPTION.findall(plain)):
-            raise Unreadable(f"{name} {' '.join(it.words)}: not in the page: {', '.join(sorted(missing))}")
+    if missing := set(OPTION.findall(help.text)) - set(OPTION.findall(plain)):
+        raise Unreadable(f"{title}: not in the page: {', '.join(sorted(missing))}")
     return text
 
 
-def make(command: Path, name: str, date: str, version: str) -> str:
+def helps_of(command: Path) -> dict[str, Help]:
+    """What a command prints for --help: its own by the word "", and that of each of its commands."""
     first = ask(command, [])
-    return page_of(name, [first, *(ask(command, [it]) for it in subcommands(first.text))], date, version)
+    return {"": first, **{it: ask(command, [it]) for it in subcommands(first.text)}}
+
+
+def make(helps: dict[str, Help], name: str, date: str, version: str) -> dict[str, str]:
+    """The pages of a command, and of each of its commands, by their names."""
+    abouts = {"": ABOUT[name], **abouts_of(helps[""].text, [it for it in helps if it])}
+    titles = {word: f"{name}-{word}" if word else name for word in helps}
+    made = {}
+    for word, it in helps.items():
+        others = [*(title for other, title in titles.items() if other != word), *(other for other in ABOUT if other != name)]
+        made[titles[word]] = page_of(titles[word], it, abouts[word], others, date, version)
+    return made

@@ -7,11 +7,12 @@ is `N passed, M failed`.
 import json
 import os
 import pwd
+import shlex
 import signal
 import subprocess
 import sys
 import time
-from collections.abc import Callable
+from collections.abc import Callable, Iterable
 from pathlib import Path
 
 from documents import walkthroughs
@@ -21,6 +22,7 @@ USER = "newcomer"
 SERVER = Path("/tmp/server")
 ENVIRONMENT = {**os.environ, "PGHOST": str(SERVER), "DEBIAN_FRONTEND": "noninteractive"}
 SECONDS = 120.0
+UNITS = [Path("/usr/lib/systemd/system", it) for it in ("pgsub@.service", "pgsub-account@.service")]
 
 
 class Wrong(Exception):
@@ -206,16 +208,52 @@ def unpack_tar() -> None:
 def check_installed() -> None:
     for page in ("pgsub", "pgsub-connect", "pgsub-feed"):
         run("man", "-w", page)
-    run("systemd-analyze", "verify", "--man=no", "/usr/lib/systemd/system/pgsub@.service")
-    if run("getent", "passwd", "pgsub").split(":")[6] != "/usr/sbin/nologin":
-        raise Wrong("the account of the followers can log in")
+    run("systemd-analyze", "verify", "--man=no", *map(str, UNITS))
+    for it in ("copyright", "changelog.gz", "alerts.yml"):
+        if not Path("/usr/share/doc/pgsub", it).stat().st_size:
+            raise Wrong(f"{it} is empty")
+
+
+def reported() -> None:
+    """The program, the connector and the package tell of one build."""
+    said = run("pgsub", "--version").splitlines()[-1].removeprefix("commit ").partition(", ")[2]
+    for text in (run("pgsub-connect", "--version"), run("dpkg-query", "-W", "-f", "${Description}", "pgsub")):
+        if said not in text:
+            raise Wrong(f"the program was built by {said}, and not told is that by: {text}")
+
+
+def left_of(paths: Iterable[str]) -> None:
+    if left := [it for it in paths if os.path.lexists(it)]:
+        raise Wrong(f"left are {', '.join(left)}")
+
+
+def accounts() -> list[str]:
+    return [it.pw_name for it in pwd.getpwall() if it.pw_name.startswith("pgsub-")]
+
+
+def make_accounts() -> None:
+    """Makes two accounts as the unit does, of which one has a store."""
+    (command,) = [it for it in UNITS[1].read_text().splitlines() if it.startswith("ExecStart=")]
+    for name in ("shop", "gone"):
+        run(*shlex.split(command.partition("=")[2].replace("%i", name)))
+    Path("/var/lib/pgsub/shop").mkdir(parents=True)
+    Path("/var/lib/pgsub/shop/copy.db").write_text("")
+    Path("/var/lib/pgsub/gone").mkdir()
+    Path("/etc/pgsub/shop.conf").write_text("PGPASSWORD=secret\n")
 
 
 def removed() -> None:
+    make_accounts()
     run("apt-get", "-y", "-qq", "remove", "pgsub")
-    left = [it for it in ("/usr/lib/pgsub", "/usr/bin/pgsub", "/usr/bin/pgsub-connect", "/usr/bin/pgsub-feed") if os.path.lexists(it)]
-    if left:
-        raise Wrong(f"left are {', '.join(left)}")
+    left_of(("/usr/lib/pgsub", "/usr/bin/pgsub", "/usr/bin/pgsub-connect", "/usr/bin/pgsub-feed"))
+
+
+def purged() -> None:
+    """What the package made goes with it; a store and its account stay until somebody removes the store."""
+    run("apt-get", "-y", "-qq", "purge", "pgsub")
+    left_of(("/etc/pgsub", "/run/pgsub", "/var/lib/pgsub/gone", "/usr/share/doc/pgsub"))
+    if accounts() != ["pgsub-shop"] or not os.path.exists("/var/lib/pgsub/shop/copy.db"):
+        raise Wrong(f"there are the accounts {accounts()}")
 
 
 def main() -> int:
@@ -223,7 +261,8 @@ def main() -> int:
     counts.tried("without toolchain, checkout and psycopg", bare)
     run("useradd", "--create-home", USER)
     walk(counts, "package", "root", HERE / "first")
-    counts.tried("manual pages, unit file and account", check_installed)
+    counts.tried("manual pages, documents and units", check_installed)
+    counts.tried("the program says what it was built of", reported)
     counts.tried("a server", start_server)
     folder = Path(f"/home/{USER}/walk")
     run("mkdir", str(folder), user=USER)
@@ -231,6 +270,7 @@ def main() -> int:
     upgrade(counts, folder)
     counts.tried("the tar file", unpack_tar)
     counts.tried("removed", removed)
+    counts.tried("purged", purged)
     print(f"{counts.passed} passed, {counts.failed} failed")
     return int(counts.failed > 0 or not counts.passed)
 

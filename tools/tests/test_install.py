@@ -10,6 +10,7 @@ from documents import checks
 
 TOP = Path(__file__).resolve().parents[2]
 PROGRAM = """#!/bin/sh
+[ "$1" = --version ] && { echo "pgsub 0.1.0"; echo "commit $(printf %040d 5), the kit"; exit; }
 [ "$1" = --help ] && { printf 'Copies\\n\\nCommands:\\n  dump  Print it\\n\\nOptions:\\n  -h, --help  Print help\\n'; exit; }
 printf 'Print it\\n\\nOptions:\\n      --store <FILE>  The store\\n  -h, --help  Print help\\n'
 """
@@ -34,6 +35,15 @@ class Case(unittest.TestCase):
         words = ["/opt/here", "--destdir", str(cls.room / "root"), "--program", str(cls.room / "program"), "--version", "1.2+3", *map(str, more)]
         subprocess.run([str(TOP / "install"), *words], check=True, capture_output=True, cwd=cls.room)
 
+    @classmethod
+    def make_pages(cls) -> Path:
+        """A folder with what tools/manuals makes, but for what is in it."""
+        pages = cls.room / "pages"
+        for name in ("pgsub.1", "pgsub-dump.1", "pgsub-connect-follow.1", "pgsub-feed.1", "bash/pgsub", "zsh/_pgsub"):
+            (pages / name).parent.mkdir(parents=True, exist_ok=True)
+            (pages / name).write_text("page")
+        return pages
+
     def run_it(self, *words: str) -> subprocess.CompletedProcess[str]:
         # (it keeps nothing compiled beside what is installed)
         environment = {**os.environ, "PYTHONDONTWRITEBYTECODE": "1"}
@@ -44,6 +54,9 @@ class Case(unittest.TestCase):
 
     def test_all_of_it(self) -> None:
         found = self.files()
+        pages = {it for it in found if it.startswith("share/man/man1/")}
+        self.assertLessEqual({f"share/man/man1/{it}.1.gz" for it in ("pgsub", "pgsub-dump", "pgsub-connect-follow", "pgsub-feed")}, pages)
+        found -= pages
         packages = [TOP / "connect" / name for name in ("pgsub_connect", "pgsub_feed")]
         copied = {f"lib/pgsub/{it.relative_to(TOP / 'connect')}" for package in packages for it in package.rglob("*.py")}
         copied |= {f"share/doc/pgsub/{it.relative_to(TOP)}" for folder in ("docs", "examples") for it in (TOP / folder).rglob("*") if it.is_file()}
@@ -52,20 +65,30 @@ class Case(unittest.TestCase):
             found - copied,
             {
                 "bin/pgsub", "bin/pgsub-connect", "bin/pgsub-feed", "lib/pgsub/pgsub", "lib/pgsub/pgsub-connect", "lib/pgsub/BUILD",
-                "lib/pgsub/pgsub-feed", "share/man/man1/pgsub-feed.1.gz",
-                "lib/pgsub/pgsub_connect/BUILD", "lib/systemd/system/pgsub@.service", "share/man/man1/pgsub.1.gz",
-                "share/man/man1/pgsub-connect.1.gz", "share/doc/pgsub/README.md", "share/doc/pgsub/CHANGELOG.md",
+                "lib/pgsub/pgsub-feed",
+                "lib/pgsub/pgsub_connect/BUILD", "lib/systemd/system/pgsub@.service", "lib/systemd/system/pgsub-account@.service",
+                "share/doc/pgsub/alerts.yml", "share/doc/pgsub/README.md", "share/doc/pgsub/CHANGELOG.md",
                 "share/doc/pgsub/SECURITY.md", "share/doc/pgsub/KITS", "share/doc/pgsub/first.pgx", "share/doc/pgsub/LICENSE",
                 "share/doc/pgsub/LICENSE-MIT", "share/doc/pgsub/LICENSE-APACHE",
+                *(f"share/bash-completion/completions/{it}" for it in ("pgsub", "pgsub-connect", "pgsub-feed")),
+                *(f"share/zsh/vendor-completions/_{it}" for it in ("pgsub", "pgsub-connect", "pgsub-feed")),
             },
         )
         self.assertIn("ExecStart=/opt/here/bin/pgsub-connect follow", (self.root / "lib/systemd/system/pgsub@.service").read_text())
         build = dict(it.split(" ", 1) for it in (self.root / "lib/pgsub/BUILD").read_text().splitlines())
         self.assertEqual(set(build), {"version", "commit", "kit", "program"})
-        kits = [it for it in (TOP / "KITS").read_text().splitlines() if not it.startswith("#")]
         self.assertEqual(build["version"], "1.2+3")
-        self.assertIn(build["kit"], [*kits, ";".join(kits)])
+        self.assertEqual(build["kit"], "the kit")
         self.assertIn("1.2+3", self.run_it("--version").stdout)
+
+    def test_a_program_that_says_no_kit(self) -> None:
+        program = self.room / "silent"
+        program.write_text(PROGRAM.replace("commit", "of"))
+        program.chmod(0o755)
+        words = ["/opt/here", "--destdir", "silent-root", "--program", str(program), "--version", "1.2+3", "--pages", str(self.make_pages())]
+        subprocess.run([str(TOP / "install"), *words], check=True, capture_output=True, cwd=self.room)
+        kits = [it for it in (TOP / "KITS").read_text().splitlines() if not it.startswith("#")]
+        self.assertIn(f"\nkit {';'.join(kits)}\n", (self.room / "silent-root/opt/here/lib/pgsub/BUILD").read_text())
 
     def test_links_of_the_documents(self) -> None:
         tree = checks.Tree(self.root / "share/doc/pgsub")
@@ -76,10 +99,9 @@ class Case(unittest.TestCase):
         """Modules that are gone go, a program that runs goes on, and the connector runs no other build's."""
         (self.root / "lib/pgsub/pgsub_connect/old.py").write_text("")
         before = os.stat(self.root / "lib/pgsub/pgsub").st_ino
-        for name in ("pgsub.1", "pgsub-connect.1", "pgsub-feed.1"):
-            (self.room / name).write_text("page")
-        self.install("--pages", self.room)
-        self.assertNotIn("lib/pgsub/pgsub_connect/old.py", self.files())
+        (self.root / "share/man/man1/pgsub-old.1.gz").write_text("")
+        self.install("--pages", self.make_pages())
+        self.assertFalse({"lib/pgsub/pgsub_connect/old.py", "share/man/man1/pgsub-old.1.gz"} & self.files())
         self.assertNotEqual(os.stat(self.root / "lib/pgsub/pgsub").st_ino, before)
         (self.root / "lib/pgsub/pgsub").write_text("#!/bin/sh\necho pgsub: wire 1 UnknownFrame 7 >&2; exit 1\n")
         words = ("follow", "--store", str(self.room / "copy.db"), "--dsn", "host=/nowhere", "--no-copy")

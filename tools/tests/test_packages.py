@@ -1,14 +1,20 @@
 """What a package says of itself."""
 
+import gzip
 import re
+import shutil
 import subprocess
 import tempfile
 import unittest
 from pathlib import Path
+from unittest import mock
 
+import packages
 from built import TOP
-from packages import SCRIPTS, Build, Failed, least_libc, lines_of, run
+from packages import SCRIPTS, SOURCES, Build, Failed, kit_of, least_libc, lines_of, run, write_documents
 from packages.trial import check_same
+
+KIT = [it for it in (TOP / "KITS").read_text().splitlines() if not it.startswith("#")][0]
 
 
 class Case(unittest.TestCase):
@@ -25,7 +31,9 @@ class Case(unittest.TestCase):
 
     def test_versions_rise(self) -> None:
         self.program.write_bytes(b"")
-        build = Build.of_checkout(self.program)
+        with mock.patch.object(packages, "kit_of", return_value=KIT):
+            build = Build.of_checkout(self.program)
+        self.assertEqual(build.kit, KIT)
         self.assertRegex(build.version, r"^0\.1\.0\+\d{14}\.g[0-9a-f]+$")
         pairs = ((build.version, build.later().version), ("0.1.0+20261125000000.gfff", "0.1.0+20261126000000.g000"))
         for first, second in pairs:
@@ -36,6 +44,39 @@ class Case(unittest.TestCase):
         version = re.findall(r'^VERSION = "(.+)"$', connector, re.M)
         self.assertEqual(len(version), 1)
         self.assertEqual(re.findall(r'VERSION: &str = "(.+)";', program), version)
+
+    def kit_said(self, said: str) -> str:
+        """The kit of a program that says this."""
+        shutil.copy("/bin/true", self.program)
+        told = {str(self.program): said, "git": run("git", "-C", TOP, "log", "-1", "--format=%H", "--", *SOURCES)}
+        with mock.patch.object(packages, "run", lambda *words: told[str(words[0])]):
+            return kit_of(self.program)
+
+    def test_a_program_says_what_it_was_built_of(self) -> None:
+        commit = run("git", "-C", TOP, "log", "-1", "--format=%H", "--", *SOURCES)
+        self.assertEqual(self.kit_said(f"pgsub 0.1.0\ncommit {commit}, {KIT}"), KIT)
+        for said, why in (
+            ("pgsub 0.1.0", "is of the commit unknown"), (f"commit unknown, {KIT}", "is of the commit unknown"),
+            (f"commit {'0' * 40}, {KIT}", "of the commit 0{40}, and the sources of"), (f"commit {commit}, another kit", "KITS doesn't name"),
+        ):
+            with self.subTest(said), self.assertRaisesRegex(Failed, why):
+                self.kit_said(said)
+
+    def test_a_script_is_no_program(self) -> None:
+        self.program.write_text("#!/bin/sh\n")
+        self.program.chmod(0o755)
+        with self.assertRaisesRegex(Failed, "is no program"):
+            kit_of(self.program)
+
+    def test_what_debian_asks_for(self) -> None:
+        self.program.write_bytes(b"\0GLIBC_2.34\0")
+        build = Build(self.program, "1.2", 0, KIT)
+        self.assertEqual(build.needs, {"python3": "3.10", "python3-psycopg": "3.1", "libc6": "2.34"})
+        write_documents(build, self.room)
+        changes = gzip.decompress((self.room / "changelog.gz").read_bytes()).decode()
+        self.assertTrue(changes.startswith("pgsub (1.2) unstable;"))
+        self.assertIn("Thu, 01 Jan 1970 00:00:00 +0000", changes)
+        self.assertIn("Linked into /usr/lib/pgsub/pgsub", (self.room / "copyright").read_text())
 
     def test_packages_made_in_the_checkout_are_no_change_of_it(self) -> None:
         for name, status in (("pgsub_0.1.0+1.gabc_amd64.deb", 0), ("pgsub-0.1.0+1.gabc-x86_64.tar.gz", 0), ("SHA256SUMS", 0), ("pgsub", 1)):
@@ -63,12 +104,6 @@ class Case(unittest.TestCase):
     def test_a_command_that_fails(self) -> None:
         with self.assertRaisesRegex(Failed, "false: status 1"):
             run("false")
-
-    def test_the_unit_file(self) -> None:
-        text = (TOP / "connect/pgsub@.service").read_text()
-        wanted = ("UMask=0077", "NoNewPrivileges=yes", "ProtectSystem=strict", "RestartForceExitStatus=7", "Restart=on-abnormal")
-        for line in wanted:
-            self.assertIn(f"\n{line}\n", text)
 
 
 if __name__ == "__main__":

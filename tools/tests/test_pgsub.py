@@ -2,6 +2,7 @@
 
 import fcntl
 import os
+import re
 import shutil
 import subprocess
 import tempfile
@@ -15,11 +16,29 @@ KIT = "a-kit logic 1"
 RT = """#!/bin/sh
 [ "$1" = version ] && { echo "${KIT-a-kit logic 1}"; exit; }
 echo "$PWD" >> "$CALLS"
+[ "$1" = try ] && exec "$(dirname "$0")/try" "$@"
+echo "crate pgsub: modules loaded=0"
 grep -q broken src/main.rt && { echo "it is broken" >&2; exit 1; }
 mkdir -p out
 { echo '#!/bin/sh'; echo "echo $(cat src/main.rt)" '"$@"'; } > out/pgsub
 chmod +x out/pgsub
 """
+# Its `try` prints the words, then the files that it is given by their names, and ends as the first word after `--` says.
+TRY = """#!/bin/sh
+shift
+while [ "$1" != -- ]; do
+    echo "${2%%=*} has $(cat "${2#*=}")"
+    shift 2
+done
+echo "$@"
+echo "told by the program" >&2
+[ "$2" = fault ] && { echo "run=fault proved=no" >&2; exit 4; }
+echo "checked: ended status=3" >&2
+echo "races: not looked for" >&2
+echo "run=ended status=3 runners=1 races=unchecked proved=no" >&2
+exit 3
+"""
+UNPROVED = "pgsub: this program is not proved: it is compiled with checks, and runs once; that takes three minutes\n"
 
 
 class Case(unittest.TestCase):
@@ -29,12 +48,16 @@ class Case(unittest.TestCase):
         self.top, self.calls, self.cache = (Path(room.name, it) for it in ("checkout", "calls", "cache"))
         (self.top / "crates/pgsub/src").mkdir(parents=True)
         shutil.copy(TOP / "pgsub", self.top)
+        (self.top / "tools").mkdir()
+        shutil.copy(TOP / "tools/building.py", self.top / "tools")
         for name, text in (("KITS", f"# kits\nanother\n{KIT}\n"), ("HANDLES", "none\n"), ("crates.txt", "pgsub:\n")):
             (self.top / name).write_text(text)
         self.rt = Path(room.name, "rt")
-        self.rt.write_text(RT)
-        self.rt.chmod(0o755)
+        for name, text in (("rt", RT), ("try", TRY)):
+            Path(room.name, name).write_text(text)
+            Path(room.name, name).chmod(0o755)
         self.program = self.top / "crates/pgsub/out/pgsub"
+        shutil.copy(TOP / "crates/pgsub/src/build.rt", self.top / "crates/pgsub/src")
         self.write("first")
 
     def write(self, text: str, age: float = -100.0) -> None:
@@ -43,8 +66,8 @@ class Case(unittest.TestCase):
         os.utime(path, (time.time() + age,) * 2)
 
     def run_it(self, *words: str, **more: str) -> tuple[int, str, str]:
-        environment = {**os.environ, "RT": str(self.rt), "CALLS": str(self.calls), "XDG_CACHE_HOME": str(self.cache), **more}
-        ran = subprocess.run([self.top / "pgsub", *words], capture_output=True, text=True, env=environment)
+        environment = {**os.environ, "PYTHONDONTWRITEBYTECODE": "1", "RT": str(self.rt), "CALLS": str(self.calls), "XDG_CACHE_HOME": str(self.cache), **more}
+        ran = subprocess.run([self.top / "pgsub", *words], capture_output=True, text=True, env=environment, cwd=self.top)
         return ran.returncode, ran.stdout, ran.stderr
 
     def room(self) -> Path:
@@ -64,7 +87,7 @@ class Case(unittest.TestCase):
         self.assertEqual(self.run_it("--is-current"), (0, "", ""))
         self.assertEqual(self.builds(), 1)
         self.assertEqual(self.calls.read_text(), f"{self.room()}/crates/pgsub\n")
-        self.assertEqual(sorted(os.listdir(self.top)), ["HANDLES", "KITS", "crates", "crates.txt", "pgsub"])
+        self.assertEqual(sorted(os.listdir(self.top)), ["HANDLES", "KITS", "crates", "crates.txt", "pgsub", "tools"])
 
     def test_help_builds_nothing(self) -> None:
         for word in ("--help", "-h"):
@@ -87,9 +110,35 @@ class Case(unittest.TestCase):
     def test_build(self) -> None:
         self.run_it()
         self.write("second", -1.0)
-        self.assertEqual(self.run_it("--build")[:2], (0, ""))
+        status, out, err = self.run_it("--build")
+        self.assertEqual((status, out), (0, ""))
+        self.assertIn("pgsub: pgsub is proved, 1 of 1 crates, less than a minute left\n", err)
         self.assertEqual(self.run_it("a"), (0, "second a\n", ""))
         self.assertEqual(self.builds(), 2)
+
+    def git(self, *words: str) -> str:
+        words = ("git", "-C", str(self.top), "-c", "user.name=a", "-c", "user.email=a@b.c", *words)
+        return subprocess.run(words, check=True, capture_output=True, text=True).stdout.strip()
+
+    def built_of(self) -> list[str]:
+        """Builds the program. Returns the commit and the kit that its sources have then."""
+        self.run_it("--build")
+        return re.findall(r'^pub\(crate\) const (?:COMMIT|KIT): &str = "(.*)";$', (self.room() / "crates/pgsub/src/build.rt").read_text(), re.M)
+
+    def test_what_it_is_built_of(self) -> None:
+        """The commit is the last one that changed the sources of the program, and is told where they were changed since."""
+        self.assertEqual(self.built_of(), ["unknown", KIT])
+        (self.top / ".gitignore").write_text("out/\n")
+        self.git("init", "-q")
+        self.git("add", ".")
+        self.git("commit", "-qm", "first")
+        first = self.git("rev-parse", "HEAD")
+        self.assertEqual(self.built_of(), [first, KIT])
+        (self.top / "KITS").write_text(f"{KIT}\nmore\n")
+        self.git("commit", "-qam", "second")
+        self.assertEqual(self.built_of(), [first, KIT])
+        self.write("changed")
+        self.assertEqual(self.built_of(), [f"{first}-changed", KIT])
 
     def test_what_fails_leaves_the_program(self) -> None:
         self.run_it()
@@ -119,6 +168,23 @@ class Case(unittest.TestCase):
         status, _, err = self.run_it("a", RT="/nowhere/rt")
         self.assertEqual(status, 127)
         self.assertIn("has to be on the path", err)
+
+    def test_try(self) -> None:
+        """It says that nothing is proved, gives the program the files that the words name, and builds nothing."""
+        (self.top / "here").write_text("a")
+        (self.top.parent / "there").write_text("b")
+        status, out, err = self.run_it("--try", "apply", "here", f"{self.top.parent}/there", "nowhere")
+        self.assertEqual((status, err), (3, UNPROVED + "told by the program\n"))
+        self.assertEqual(out, "here has a\ngiven/2/there has b\n-- apply here given/2/there nowhere\n")
+        self.assertEqual(self.calls.read_text(), f"{self.top}/crates/pgsub\n")
+        self.assertFalse(self.program.exists())
+
+    def test_a_try_that_gives_no_answer(self) -> None:
+        status, _, err = self.run_it("--try", "fault")
+        self.assertEqual((status, err), (4, UNPROVED + "told by the program\nrun=fault proved=no\n"))
+
+    def test_a_try_with_another_kit(self) -> None:
+        self.assertEqual(self.run_it("--try", "apply", KIT="a-kit logic 2")[0], 126)
 
     def test_two_at_a_time(self) -> None:
         self.run_it()

@@ -11,7 +11,7 @@ from ..errors import Unusable
 from ..options import Options
 from ..place import Place, Shared
 from . import (
-    adding, altering, copying, feeding, keys, kinds, missing, names, operating, past, privacy,
+    adding, altering, confining, copying, feeding, keys, kinds, missing, names, operating, past, privacy,
     proving, publications, reaching, repairing, shapes, sideroads, silence, sinking, slots,
     standbys, starts, stops, tabling, timelines, trusting, twice, undoing, undoing_related,
     unlogged, values, verifying, versions, waiting,
@@ -44,7 +44,7 @@ THEMES: dict[str, Sequence[Case]] = {
     "versions": versions.CASES,
     "sideroads": sideroads.CASES,
     "privacy": privacy.CASES,
-    "operating": operating.CASES,
+    "operating": (*operating.CASES, *confining.CASES),
     "waiting": waiting.CASES,
     "altering": altering.CASES,
 }
