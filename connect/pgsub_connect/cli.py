@@ -38,7 +38,6 @@ from .errors import (
     UsageError,
 )
 from .follow.feed import Feeding
-from .follow.filter import Filter, FilterEnded
 from .follow.follower import Follower
 from .follow.server_watch import Asker
 from .server import transport
@@ -51,6 +50,7 @@ from .store import export
 from .store.checkpoint import Checkpoint
 from .store.placing import check_meant
 from .store.snapshot import Snapshots, part_of
+from .stream.filter import Filter, FilterEnded
 from .verify import tables_file as tables_verifying
 
 REJECTED, USAGE, FILE, SERVER, UNFIT, BUG, PASSING, NO_SLOT, MISSED = 1, 2, 3, 4, 5, 6, 7, 8, 9

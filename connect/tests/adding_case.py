@@ -18,13 +18,14 @@ from pgsub_connect.commands.drop import read_known
 from pgsub_connect.commands.options import Options
 from pgsub_connect.drift import watch
 from pgsub_connect.drift.remembered import Remembered
-from pgsub_connect.follow import follower, statuses
-from pgsub_connect.follow.filter import Filter
+from pgsub_connect.follow import follower
 from pgsub_connect.follow.follower import Follower
 from pgsub_connect.server import connection
 from pgsub_connect.status.progress import Progress
 from pgsub_connect.store.checkpoint import Checkpoint
 from pgsub_connect.store.snapshot import Snapshots
+from pgsub_connect.stream import statuses
+from pgsub_connect.stream.filter import Filter
 from pgsub_feed.texts import lsn_text
 
 from .fake_server import FakeServer, Quiet, Row

@@ -22,11 +22,11 @@ from pgsub_connect.errors import FileError, Unfit
 from pgsub_connect.follow import feed as feed_module
 from pgsub_connect.follow import tables_process
 from pgsub_connect.follow.feed import Feeding, Keeper, Reached
-from pgsub_connect.follow.filter import FilterEnded
 from pgsub_connect.follow.follower import Follower
 from pgsub_connect.follow.tables_process import Beside, words_of
 from pgsub_connect.status.metrics import metrics_text
 from pgsub_connect.status.progress import Progress
+from pgsub_connect.stream.filter import FilterEnded
 from pgsub_feed.reader.positions import Noted, make_folder
 from pgsub_feed.reader.segments import CONFIRMED, Reader, read_confirmed, segments
 

@@ -11,8 +11,8 @@ from pathlib import Path
 from unittest import mock
 
 from pgsub_connect.errors import FilterFault, Stopped
-from pgsub_connect.follow import filter as filter_module
-from pgsub_connect.follow.filter import (
+from pgsub_connect.stream import filter as filter_module
+from pgsub_connect.stream.filter import (
     COPY_DONE,
     HEADERS,
     MISSED,

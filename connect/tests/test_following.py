@@ -19,9 +19,6 @@ from pgsub_connect.drift.findings import About
 from pgsub_connect.drift.remembered import Remembered
 from pgsub_connect.errors import FilterFault, Passing, ServerError, Unconnected, Unfit
 from pgsub_connect.follow import follower as follower_module
-from pgsub_connect.follow import statuses
-from pgsub_connect.follow.awake import Awake
-from pgsub_connect.follow.filter import Filter, FilterEnded, flushed
 from pgsub_connect.follow.follower import Follower
 from pgsub_connect.server import connection as connection_module
 from pgsub_connect.server import session, transport
@@ -32,6 +29,9 @@ from pgsub_connect.store import snapshot
 from pgsub_connect.store.at_rest import read_request
 from pgsub_connect.store.checkpoint import Checkpoint
 from pgsub_connect.store.snapshot import Snapshots
+from pgsub_connect.stream import statuses
+from pgsub_connect.stream.awake import Awake
+from pgsub_connect.stream.filter import Filter, FilterEnded, flushed
 from pgsub_feed.texts import lsn_text, parse_lsn
 
 from .fake_server import FakeServer, Quiet, Row

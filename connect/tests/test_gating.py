@@ -15,14 +15,15 @@ from pgsub_connect.add import addable, adder
 from pgsub_connect.commands import verify
 from pgsub_connect.commands.options import Options
 from pgsub_connect.errors import Delayed, Passing, ServerError, Stopped, Unrepaired
-from pgsub_connect.follow import follower, gate
-from pgsub_connect.follow.filter import flushed
-from pgsub_connect.follow.gate import Gating, Making, is_shared, too_large_to_copy
-from pgsub_connect.follow.hold import Hold
+from pgsub_connect.follow import follower
 from pgsub_connect.server.connection import never
 from pgsub_connect.status.progress import Progress
 from pgsub_connect.store.at_rest import read_request
 from pgsub_connect.store.snapshot import Snapshots
+from pgsub_connect.stream import gate
+from pgsub_connect.stream.filter import flushed
+from pgsub_connect.stream.gate import Gating, Making, is_shared, too_large_to_copy
+from pgsub_connect.stream.hold import Hold
 from pgsub_connect.verify.meeting_point import Request
 from pgsub_feed.texts import lsn_text
 
@@ -240,16 +241,16 @@ class Requests(StoreCase):
                 self.assertFalse(self.snapshots.hold.is_held)
 
     def test_a_store_that_takes_long_to_copy(self) -> None:
-        self.patch("pgsub_connect.follow.gate.COPIED", 1)
-        self.patch("pgsub_connect.follow.gate.is_shared", lambda _: False)
+        self.patch("pgsub_connect.stream.gate.COPIED", 1)
+        self.patch("pgsub_connect.stream.gate.is_shared", lambda _: False)
         with self.asked(maker=4711):
             self.snapshots.is_due(0x130)
             self.assertIn("take the follower out of synchronous_standby_names", self.error())
             self.assertFalse(self.snapshots.hold.is_held)
 
     def test_a_file_system_that_shares_blocks(self) -> None:
-        self.patch("pgsub_connect.follow.gate.COPIED", 1)
-        self.patch("pgsub_connect.follow.gate.is_shared", lambda _: True)
+        self.patch("pgsub_connect.stream.gate.COPIED", 1)
+        self.patch("pgsub_connect.stream.gate.is_shared", lambda _: True)
         self.assertEqual(too_large_to_copy(self.path), "")
         self.assertIsInstance(is_shared(self.path), bool)
         self.assertFalse(is_shared("/proc/self/stat"))

@@ -15,13 +15,13 @@ from unittest import mock
 
 from pgsub_connect.errors import ServerError, Stopped
 from pgsub_connect.follow.follower import Follower
-from pgsub_connect.follow.hold import Hold, count_below
-from pgsub_connect.follow.statuses import Confirming
 from pgsub_connect.server.connection import never
 from pgsub_connect.status.progress import Progress
 from pgsub_connect.store import snapshot
 from pgsub_connect.store.at_rest import read_request
 from pgsub_connect.store.snapshot import Snapshots
+from pgsub_connect.stream.hold import Hold, count_below
+from pgsub_connect.stream.statuses import Confirming
 
 from .stores import StoreCase
 from .vectors import (

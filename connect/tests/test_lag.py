@@ -7,9 +7,9 @@ import unittest
 from unittest import mock
 
 from pgsub_connect.drift.remembered import Remembered
-from pgsub_connect.follow.stream_log import EPOCH, Noting
 from pgsub_connect.status.lag import Lag
 from pgsub_connect.status.progress import STATES, Progress
+from pgsub_connect.stream.stream_log import EPOCH, Noting
 
 from . import vectors
 

@@ -7,9 +7,9 @@ import tempfile
 import unittest
 
 from pgsub_connect.drift.remembered import Remembered
-from pgsub_connect.follow.stream_log import Noting, changes_text, relation_of
 from pgsub_connect.server.catalog import Partition
 from pgsub_connect.status.progress import Progress
+from pgsub_connect.stream.stream_log import Noting, changes_text, relation_of
 
 from . import vectors
 from .vectors import (

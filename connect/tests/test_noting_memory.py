@@ -12,8 +12,8 @@ import unittest
 from collections.abc import Iterable, Iterator
 
 from pgsub_connect.drift.remembered import Remembered
-from pgsub_connect.follow.stream_log import Noting, relation_of
 from pgsub_connect.status.progress import Progress
+from pgsub_connect.stream.stream_log import Noting, relation_of
 
 from . import vectors
 from .vectors import a_catalog, a_table, begin, commit, data, insert, relation

@@ -15,11 +15,11 @@ from pgsub_connect.commands.options import Options
 from pgsub_connect.commands.record import Aside, Recording
 from pgsub_connect.drift.remembered import Remembered
 from pgsub_connect.errors import ServerError
-from pgsub_connect.follow.filter import PIECE, REJECTED, ROOM, Filter, FilterEnded
 from pgsub_connect.follow.follower import Follower
 from pgsub_connect.status.progress import Progress
 from pgsub_connect.store.checkpoint import Checkpoint
 from pgsub_connect.store.snapshot import Snapshots
+from pgsub_connect.stream.filter import PIECE, REJECTED, ROOM, Filter, FilterEnded
 
 from .vectors import a_catalog, a_table, begin, commit, insert, keepalive, logged, relation
 

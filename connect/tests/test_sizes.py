@@ -6,9 +6,9 @@ import unittest
 
 from pgsub_connect.cli import REJECTED, status_of
 from pgsub_connect.commands.options import Options
-from pgsub_connect.follow.filter import FRAME_TOO_LARGE, MEMORY, SPOOL_FULL, FilterEnded
-from pgsub_connect.follow.memory_limit import LONGEST_FRAME
-from pgsub_connect.follow.too_large import LEAST, KilledTwice, Kills, text_of
+from pgsub_connect.stream.filter import FRAME_TOO_LARGE, MEMORY, SPOOL_FULL, FilterEnded
+from pgsub_connect.stream.memory_limit import LONGEST_FRAME
+from pgsub_connect.stream.too_large import LEAST, KilledTwice, Kills, text_of
 
 from .test_passing import Case, Source
 from .vectors import begin, commit, insert, logged

@@ -6,9 +6,9 @@ import tempfile
 import unittest
 
 from pgsub_connect.drift.remembered import Remembered
-from pgsub_connect.follow.skip import Skipping
 from pgsub_connect.status.progress import Progress
 from pgsub_connect.store.checkpoint import Checkpoint
+from pgsub_connect.stream.skip import Skipping
 
 from . import vectors
 from .vectors import (

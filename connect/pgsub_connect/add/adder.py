@@ -34,9 +34,9 @@ from ..drift.differences import PUBLICATION
 from ..drift.findings import About
 from ..drift.remembered import Remembered
 from ..errors import NoSlot, Passing, Renewed, ServerError, Stopped, Unconnected, Unfit
-from ..follow.gate import MOST as LONGEST_WAIT
-from ..follow.gate import WAITED, Making
 from ..server.publications import Table, sizes_of
+from ..stream.gate import MOST as LONGEST_WAIT
+from ..stream.gate import WAITED, Making
 from ..verify.meeting_point import Source
 from .addable import Stream, TooLarge, relation_of, table_of, too_large, too_long
 from .replacement import Leaving, Rows, payload_of
@@ -44,11 +44,11 @@ from .replacement import Leaving, Rows, payload_of
 if TYPE_CHECKING:
     from ..commands.options import Options
     from ..drift.watch import Watch
-    from ..follow.hold import Hold
-    from ..follow.statuses import Confirming
-    from ..follow.stream_log import Noting
     from ..status.progress import Progress
     from ..store.checkpoint import Checkpoint
+    from ..stream.hold import Hold
+    from ..stream.statuses import Confirming
+    from ..stream.stream_log import Noting
 
 IDLE, HELD, MAKING, GOING, SENT = "idle", "held", "making", "going", "sent"
 # How long the stream is held at most until the slot is made, and after how many seconds it is tried

@@ -39,8 +39,6 @@ from ..commands.check import require, require_reading
 from ..drift.differences import PUBLICATION, root_of
 from ..drift.findings import About
 from ..errors import FileError, Passing, ServerError, Stopped, Unfit, understood
-from ..follow import too_large
-from ..follow.filter import Filter, FilterEnded
 from ..server import transport
 from ..server.catalog import Catalog, read_catalog
 from ..server.connection import QUICK, Check, Connection, never
@@ -59,6 +57,8 @@ from ..server.waits import Waiting, lock_text
 from ..store import checkpoint as known_of
 from ..store.at_rest import hold
 from ..store.snapshot import COPYING, meant, sync_folder
+from ..stream import too_large
+from ..stream.filter import Filter, FilterEnded
 from .messages import begin, commit, frame
 from .table_reader import LOCK_TIMEOUT, Left, Part, Readers, take_snapshot
 

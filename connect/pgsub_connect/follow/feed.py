@@ -38,7 +38,7 @@ from ..server.session import identify, settle
 from ..store.at_rest import has_log
 from ..store.checkpoint import Checkpoint
 from ..store.snapshot import position_in
-from .filter import Filter, FilterEnded
+from ..stream.filter import Filter, FilterEnded
 from .retention import Limits, feed_bytes, read_readers, retire
 from .tables_process import Beside
 from .tables_process import check as check_tables

@@ -53,18 +53,18 @@ from ..server.session import (
 from ..status.progress import Progress
 from ..store.checkpoint import Checkpoint
 from ..store.snapshot import SOON, Snapshots
-from . import too_large
-from .awake import NEEDED, Awake, processors
+from ..stream import too_large
+from ..stream.awake import NEEDED, Awake, processors
+from ..stream.filter import MISSED, PIECE, Filter, FilterEnded
+from ..stream.gate import LOOK as GATE
+from ..stream.gate import WAITED, Gating
+from ..stream.skip import Skipping
+from ..stream.statuses import Confirming
+from ..stream.stream_log import Noting
 from .feed import Feeding
-from .filter import MISSED, PIECE, Filter, FilterEnded
 from .fitness import Fitting
-from .gate import LOOK as GATE
-from .gate import WAITED, Gating
 from .repair import Repairing
-from .skip import Skipping
 from .stall import Standing
-from .statuses import Confirming
-from .stream_log import Noting
 
 if TYPE_CHECKING:
     from ..commands.options import Options

@@ -1,7 +1,7 @@
 """Passes on the changes that make rows of the copy those of the server, as one transaction within
 the stream.
 
-They come from a comparison at an LSN P, which is held as the module `follow.hold` says: all that
+They come from a comparison at an LSN P, which is held as the module `stream.hold` says: all that
 was committed up to P is stored and in the copy that was compared, and nothing else. The transaction
 is Begin, for each table Relation and its changes, Commit. For it holds what the module
 `add.replacement` says of the rows of a table that is added:
@@ -41,8 +41,8 @@ from ..add.replacement import XID, payload_of
 from ..copy.messages import begin, commit, frame
 from ..errors import ServerError
 from ..status.progress import Progress
-from .hold import CHANGES
-from .stream_log import EPOCH, relation_of
+from ..stream.hold import CHANGES
+from ..stream.stream_log import EPOCH, relation_of
 
 if TYPE_CHECKING:
     from ..commands.options import Options
@@ -50,8 +50,8 @@ if TYPE_CHECKING:
     from ..drift.watch import Watch
     from ..store.checkpoint import Checkpoint
     from ..store.snapshot import Snapshots
-    from .statuses import Confirming
-    from .stream_log import Noting
+    from ..stream.statuses import Confirming
+    from ..stream.stream_log import Noting
 
 # How many bytes of the file are passed on at a time.
 BLOCK = 1 << 17

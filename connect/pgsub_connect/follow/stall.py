@@ -17,7 +17,7 @@ from pgsub_feed.texts import counted
 
 from ..errors import ServerError
 from ..status.progress import Progress
-from .filter import Filter
+from ..stream.filter import Filter
 
 # How often it is looked at what the system says of the filter, and after how many seconds the
 # server is asked for the slot's state.

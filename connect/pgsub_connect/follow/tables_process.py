@@ -25,7 +25,7 @@ from pgsub_feed.tables.set_aside import shown_asides
 
 from ..errors import FileError, Unfit
 from ..status.progress import Progress
-from .filter import KEPT
+from ..stream.filter import KEPT
 from .retention import read_lsn
 
 if TYPE_CHECKING:

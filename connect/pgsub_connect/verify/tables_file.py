@@ -3,7 +3,7 @@ another such file.
 
 The server is seen as of the LSN P of a temporary slot; the file is read in one transaction, at
 whatever LSN it has then, once it has all commits that end up to P. Those that end above P, which
-the slot's snapshot doesn't see (the module `follow.hold` says why), are taken back by the feed's
+the slot's snapshot doesn't see (the module `stream.hold` says why), are taken back by the feed's
 images. So nothing is held, neither the stream nor what follows the feed, and nothing is changed but
 for the slot.
 

@@ -3,7 +3,7 @@
 The server makes a slot once transactions have ended that ran when it was asked for it. A commit
 that waits for a synchronous follower is of one of them: its record is in the log, and its
 transaction ends once the follower has confirmed that. So where the stream were held meanwhile, as
-the module `follow.hold` says, each would wait for the other. It goes on here as far as that is
+the module `stream.hold` says, each would wait for the other. It goes on here as far as that is
 below the slot's consistent point P for certain, whatever that will be:
 
 - Decoding becomes consistent at a record of the transactions that run, which the server writes once

@@ -14,10 +14,10 @@ import time
 from collections.abc import Sequence
 
 from ..drift.missed_rows import Misses
+from ..follow.feed import Reached
 from ..server.connection import Connection
 from ..status.progress import Progress
 from ..store.checkpoint import Checkpoint
-from .feed import Reached
 from .filter import Filter, asking, flushed, lowered
 from .stream_log import Noting, final_lsn
 
