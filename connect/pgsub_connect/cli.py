@@ -44,6 +44,7 @@ from .server import transport
 from .server.connection import Check
 from .server.followed_publications import require_published
 from .status.files import Reporter
+from .status.notify import notifier_of
 from .status.progress import Progress
 from .store import checkpoint as known_of
 from .store import export
@@ -116,7 +117,7 @@ def follow(options: Options) -> int:
         raise no_store(options)
     checkpoint = Checkpoint(options.store, start.check)
     transport.OWN.begin(checkpoint.known.encrypted, options.accept)
-    progress = Progress()
+    progress = Progress(notifier_of(os.environ))
     remembered = Remembered(options.store, options.mode)
     feeding = Feeding(options, checkpoint, progress, remembered)
     feeding.check()
@@ -156,11 +157,12 @@ def follow(options: Options) -> int:
             require_published(options, follower.check_stop)
         feeding.begin(child, follower.confirming.stored, follower.check_stop)
         follower.run()
-        progress.state = "stopped"
+        progress.enter("stopped")
     except Stopped:
-        progress.state = "stopped"
+        progress.enter("stopped")
     except Exception as error:
-        progress.state, progress.last_error = "failed", str(error)
+        progress.note_error(str(error))
+        progress.enter("failed")
         raise
     finally:
         child.kill()

@@ -455,8 +455,8 @@ BUGS = (
     Bug(
         "parts of two tables get into one transaction",
         "pgsub_connect/copy/copier.py",
-        "        self.end_part()\n        self.progress.copied_rows",
-        "        self.progress.copied_rows",
+        "        self.end_part()\n        self.progress.copy.note_part",
+        "        self.progress.copy.note_part",
         ("test_copying",),
     ),
     Bug(
@@ -560,14 +560,14 @@ BUGS = (
     Bug(
         "commits wait for a keepalive's turn",
         "pgsub_connect/stream/statuses.py",
-        "if self.progress.is_waited_for else QUIET",
+        "if self.progress.server.is_waited_for else QUIET",
         "if False else QUIET",
         ("test_following",),
     ),
     Bug(
         "it is waited awake though no commit waits",
         "pgsub_connect/follow/follower.py",
-        "        if not self.progress.is_waited_for:\n            return None\n",
+        "        if not self.progress.server.is_waited_for:\n            return None\n",
         "",
         ("test_following",),
     ),

@@ -223,7 +223,7 @@ class Locks(Copying):
         self.assertEqual(
             (
                 self.said.count("public.stock is locked by others: it is read later"),
-                self.progress.copied_rows,
+                self.progress.copy.rows,
             ),
             (1, 2),
         )
@@ -251,7 +251,7 @@ class Sent(Copying):
             ).hex(" "),
         )
         self.assertEqual(
-            (self.progress.copied_rows, self.progress.copy_total_rows, self.progress.copying),
+            (self.progress.copy.rows, self.progress.copy.total_rows, self.progress.copy.table),
             (2, 3, None),
         )
         self.assertEqual(self.checkpoint.known.phase, known_of.COPIED)
@@ -394,7 +394,7 @@ class Order(Copying):
             self.patch(copier_module, "published_tables", lambda *_, left=left: left.pop(0))
             self.copier().run()
             self.assertEqual(list(self.later()), [after[-1].oid])
-            self.assertEqual(self.progress.copied_rows, 2 if len(after) > 1 else 0)
+            self.assertEqual(self.progress.copy.rows, 2 if len(after) > 1 else 0)
 
     def test_altered_tables(self) -> None:
         one, two = a_table(1, "one"), a_table(2, "two", kind="p")
@@ -668,7 +668,7 @@ class Ends(Copying):
         with self.assertRaises(Passing):
             copier.run()
         self.assertEqual(len(self.server.told("pg_export_snapshot")), 10)
-        self.assertEqual(self.progress.copied_rows, 0)
+        self.assertEqual(self.progress.copy.rows, 0)
 
     def test_a_slot_that_is_lost_while_rows_come(self) -> None:
         """Nothing can follow on the copy, so it ends at once, and the next start copies anew."""
@@ -895,7 +895,7 @@ class Kept(Copying):
         remembered = Remembered(self.store)
         self.assertEqual(remembered.catalog and list(remembered.catalog.tables), [16385])
         self.assertEqual(
-            (list(remembered.sent), self.progress.copied_tables, len(self.server.told("COPY ("))),
+            (list(remembered.sent), self.progress.copy.tables, len(self.server.told("COPY ("))),
             ([16385], 1, 1),
         )
         self.assertIn(
@@ -928,7 +928,7 @@ class Kept(Copying):
         self.server.answer('DROP_REPLICATION_SLOT "pgsub"', dropped)
         self.copier(jobs=1).run()
         self.assertEqual(
-            (self.progress.copied_rows, self.progress.copied_tables, self.later()), (4, 2, {})
+            (self.progress.copy.rows, self.progress.copy.tables, self.later()), (4, 2, {})
         )
         self.assertEqual(len(self.server.told("pg_copy_logical_replication_slot")), 1)
 
@@ -995,7 +995,7 @@ class Kept(Copying):
             {16385: 200, 16390: 200},
         )
         self.assertEqual(
-            (subscriber.store.position, self.progress.copied_tables, self.server.opened),
+            (subscriber.store.position, self.progress.copy.tables, self.server.opened),
             (POINT, 2, self.server.closed),
         )
 

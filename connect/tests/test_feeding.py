@@ -26,6 +26,7 @@ from pgsub_connect.follow.follower import Follower
 from pgsub_connect.follow.tables_process import Beside, words_of
 from pgsub_connect.status.metrics import metrics_text
 from pgsub_connect.status.progress import Progress
+from pgsub_connect.status.status_file import status_fields
 from pgsub_connect.stream.filter import FilterEnded
 from pgsub_feed.reader.positions import Noted, make_folder
 from pgsub_feed.reader.segments import CONFIRMED, Reader, read_confirmed, segments
@@ -105,7 +106,7 @@ class Followed(Case):
         self.assertEqual(self.ends(), [0x108])
         assert follower.feeding
         follower.feeding.finish()
-        self.assertEqual((self.progress.readers, self.progress.feed_bytes), ({}, 1024 + 256))
+        self.assertEqual((self.progress.feed.readers, self.progress.feed.bytes), ({}, 1024 + 256))
         self.assertEqual(Remembered(self.store).feed, self.feed)
         self.assertEqual(oct(stat.S_IMODE(os.stat(self.feed).st_mode)), "0o700")
 
@@ -395,7 +396,7 @@ class Kept(FeedCase):
             self.feed.end()
         self.feed.commit(0x600, [])
         self.progress = Progress()
-        self.progress.position = 0x600
+        self.progress.stream.position = 0x600
 
     def keeper(self, confirmed: int = 0x600, **options: object) -> Keeper:
         chosen = Options(feed=str(self.path), **options)  # type: ignore[arg-type]
@@ -407,19 +408,19 @@ class Kept(FeedCase):
     def test_readers_and_size(self) -> None:
         self.read("index", 0x250)
         self.keeper().tend(100.0)
-        shown = self.progress.shown(0.0, 0.0)
+        shown = status_fields(self.progress, 0.0, 0.0)
         self.assertEqual(shown["readers"], {"index": {"lsn": "0/250", "lag_bytes": 0x3B0}})
         self.assertEqual(
             [base for base, _ in segments(str(self.path))], [0x200, 0x300, 0x400, 0x500]
         )
         self.keeper().tend(100.0)
         self.assertEqual(
-            self.progress.feed_bytes,
+            self.progress.feed.bytes,
             sum(it.stat().st_size for it in self.path.iterdir() if len(it.name) == 16),
         )
         text = metrics_text(self.progress, 0.0, {"slot": "s"})
         self.assertIn('pgsub_reader_lag_bytes{slot="s",reader="index"} 944\n', text)
-        self.assertIn(f'pgsub_feed_bytes{{slot="s"}} {self.progress.feed_bytes}\n', text)
+        self.assertIn(f'pgsub_feed_bytes{{slot="s"}} {self.progress.feed.bytes}\n', text)
         self.assertIn('pgsub_tables_failed{slot="s"} 0\n', text)
 
     def test_a_reader_that_loses_segments_is_named(self) -> None:
@@ -476,7 +477,7 @@ class Kept(FeedCase):
         self.assertEqual(
             [base for base, _ in segments(str(self.path))], [0x200, 0x300, 0x400, 0x500]
         )
-        self.assertEqual(self.progress.readers, {"index": 0x250})
+        self.assertEqual(self.progress.feed.readers, {"index": 0x250})
         told = [
             f"warning: the feed can't be looked after: {self.path}/confirmed: No space left on device"
         ]
@@ -493,7 +494,7 @@ class Kept(FeedCase):
             [base for base, _ in segments(str(self.path))], [0x200, 0x300, 0x400, 0x500]
         )
         self.assertEqual(
-            (self.progress.readers, [it for it in self.said if it.startswith("warning")]),
+            (self.progress.feed.readers, [it for it in self.said if it.startswith("warning")]),
             ({"index": 0x250}, []),
         )
 
@@ -567,7 +568,7 @@ class Tables(FeedCase):
         kept.finish()
         self.assertEqual(kept.child.returncode, 0)
         self.assertFalse(os.path.exists(self.into + "-wal"))
-        self.assertEqual(self.progress.tables_error, "")
+        self.assertEqual(self.progress.feed.tables_error, "")
         self.assertTrue(
             any(
                 it.startswith("info: tables: ") and it.endswith(f"from {lsn_text(0x100)}")
@@ -582,21 +583,23 @@ class Tables(FeedCase):
         kept = self.kept()
         self.assertTrue(wait_until(lambda: kept.has(0x100)), self.said)
         self.feed.commit(0x200, [insert("2", "5", of=numbers)])
-        self.assertTrue(wait_until(lambda: bool(self.progress.tables_aside)), self.said)
+        self.assertTrue(wait_until(lambda: bool(self.progress.feed.tables_aside)), self.said)
         self.assertTrue(wait_until(lambda: kept.has(0x200)), self.said)
         self.assertRegex(
-            self.progress.tables_aside["public.stock"],
+            self.progress.feed.tables_aside["public.stock"],
             "^since 0/200: the column name has a value that isn't one of its type",
         )
-        self.assertEqual(self.progress.shown(0.0, 0.0)["tables_aside"], self.progress.tables_aside)
-        self.progress.feed_bytes = 0
+        self.assertEqual(
+            status_fields(self.progress, 0.0, 0.0)["tables_aside"], self.progress.feed.tables_aside
+        )
+        self.progress.feed.bytes = 0
         self.assertIn(
             'pgsub_tables_aside{slot="s"} 1\n', metrics_text(self.progress, 0.0, {"slot": "s"})
         )
-        self.assertEqual(self.progress.tables_error, "")
+        self.assertEqual(self.progress.feed.tables_error, "")
         self.feed.commit(0x300, [truncate(numbers), insert("2", "5", of=numbers)])
-        self.assertTrue(wait_until(lambda: not self.progress.tables_aside), self.said)
-        self.assertNotIn("tables_aside", self.progress.shown(0.0, 0.0))
+        self.assertTrue(wait_until(lambda: not self.progress.feed.tables_aside), self.said)
+        self.assertNotIn("tables_aside", status_fields(self.progress, 0.0, 0.0))
 
     def test_before_they_are_made_they_have_nothing(self) -> None:
         """What a new reader needs is kept under its name: that isn't what it has."""
@@ -626,8 +629,10 @@ class Tables(FeedCase):
         self.feed.path.write_bytes(b"x" * 2000)
         kept = self.kept()
         kept.join(20)
-        self.assertIn("reading 1 NotAFeed", self.progress.tables_error)
-        self.assertEqual(self.progress.shown(0.0, 0.0)["tables_error"], self.progress.tables_error)
+        self.assertIn("reading 1 NotAFeed", self.progress.feed.tables_error)
+        self.assertEqual(
+            status_fields(self.progress, 0.0, 0.0)["tables_error"], self.progress.feed.tables_error
+        )
         self.assertTrue(
             any(
                 it.startswith(f"error: {self.into} follows no more, status 3: ") for it in self.said
@@ -640,7 +645,7 @@ class Tables(FeedCase):
         tried = self.folder / "tried"
         self.kept(f"open({str(tried)!r}, 'a').write('x'); raise SystemExit(7)")
         self.assertTrue(wait_until(lambda: tried.exists() and len(tried.read_text()) >= 3))
-        self.assertEqual(self.progress.tables_error, "")
+        self.assertEqual(self.progress.feed.tables_error, "")
 
     def test_a_fork_that_fails_is_tried_again(self) -> None:
         self.feed.commit(0x100, [insert("1", "x")])

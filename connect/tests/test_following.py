@@ -144,7 +144,11 @@ class Sessions(Case):
         self.server.to_send = [begin(0x100, 7), insert(1), commit(0x100, 0x108)]
         self.run_until(self.follower(), lambda: self.confirmed() == 0x108)
         self.assertEqual(
-            (self.progress.passed_commits, self.progress.confirmed, self.progress.position),
+            (
+                self.progress.stream.commits,
+                self.progress.stream.confirmed,
+                self.progress.stream.position,
+            ),
             (1, 0x108, 0x108),
         )
         with open(self.store, encoding="ascii") as file:
@@ -179,7 +183,7 @@ class Sessions(Case):
         self.run_until(follower, lambda: self.confirmed() == 0x1000)
         follower.confirming.noted_in = 2.0
         self.assertEqual(follower.confirming.quiet(), 2.0 * statuses.PART)
-        self.progress.is_waited_for = False
+        self.progress.server.is_waited_for = False
         self.assertEqual(follower.confirming.quiet(), 30.0)
 
     def test_it_waits_awake_where_commits_wait_for_it(self) -> None:
@@ -219,7 +223,7 @@ class Sessions(Case):
     def test_it_sleeps_where_the_filter_needs_the_processor(self) -> None:
         with mock.patch.object(follower_module, "processors", return_value=1.5):
             follower = self.follower()
-        self.progress.is_waited_for = True
+        self.progress.server.is_waited_for = True
         self.assertIsNone(follower.awake())
         follower.noting.ends.append(0x100)
         self.assertIsNone(follower.awake())
@@ -359,7 +363,7 @@ class Sessions(Case):
         self.patch(connection_module, "CONNECT_LIMIT", 0.05)
         self.patch(session, "QUICK", 0.05)
         follower = self.follower(silence=30.0)
-        follower.confirming.last_sent, now, self.progress.server_started = (
+        follower.confirming.last_sent, now, self.progress.server.started = (
             time.monotonic(),
             time.monotonic(),
             1000,
@@ -386,7 +390,7 @@ class Sessions(Case):
                 self.server.refusal,
                 self.server.silent,
                 follower.heard,
-                self.progress.server_started,
+                self.progress.server.started,
             ) = (b"", silent, now - 40.0, started)
             with self.assertRaisesRegex(ServerError, "said nothing"):
                 follower.attend()
@@ -676,7 +680,7 @@ class Fits(Case):
 
     def promoted(self) -> bool:
         if self.server.sessions == 1 and self.progress.state == "following":
-            self.progress.was_promoted = True
+            self.progress.server.was_promoted = True
         return True
 
     def test_the_slot_is_looked_at_again_once_it_is_ours(self) -> None:

@@ -93,7 +93,7 @@ class Looks(Quiet):
         self.addCleanup(patch.stop)
         self.hold, self.progress, self.gone = Hold(), Progress(), list[str]()
         self.gating = Gating(Options(), self.progress, self.hold, never, self.gone.append)
-        self.progress.is_waited_for = True
+        self.progress.server.is_waited_for = True
         self.addCleanup(self.gating.end_session)
 
     def answer(self, _: str) -> list[Row]:
@@ -153,7 +153,7 @@ class Looks(Quiet):
         self.assertEqual(self.gone, [])
 
     def test_where_none_waits_it_is_held(self) -> None:
-        self.progress.is_waited_for = False
+        self.progress.server.is_waited_for = False
         self.hold.begin("copy", 10.0)
         for _ in range(5):
             self.now[0] += 1.0
@@ -226,11 +226,13 @@ class Requests(StoreCase):
     def test_what_whoever_asks_has_read(self) -> None:
         """It may be newer than what the follower knows."""
         progress = Progress()
-        progress.name = "pgsub"
-        self.snapshots.delays_commits = progress.note_standbys
+        progress.server.name = "pgsub"
+        self.snapshots.delays_commits = progress.server.note_standbys
         with self.asked(maker=4711, standbys="ANY 1 (other, pgsub)"):
             self.snapshots.is_due(0x130)
-            self.assertEqual((self.snapshots.hold.maker, progress.is_waited_for), (4711, True))
+            self.assertEqual(
+                (self.snapshots.hold.maker, progress.server.is_waited_for), (4711, True)
+            )
 
     def test_who_asks_is_of_an_older_version(self) -> None:
         cases: tuple[dict[str, object], ...] = ({}, {"maker": "x"}, {"maker": 0})

@@ -21,6 +21,7 @@ from pgsub_connect.errors import Passing, ServerError, Unfit
 from pgsub_connect.follow.follower import Follower
 from pgsub_connect.server.connection import Connection
 from pgsub_connect.status.progress import Progress
+from pgsub_connect.status.status_file import status_fields
 from pgsub_connect.store.checkpoint import Checkpoint, Counted, Known
 from pgsub_connect.stream.awake import Awake
 from pgsub_connect.stream.filter import FilterEnded, Missing, flushed
@@ -358,11 +359,13 @@ class Killed(FollowCase):
         self.says(f"dies {0x108}")
         follower = self.follower()
         self.server.to_send = [*missing_commit(0x100), *missing_commit(0x110)]
-        self.run_until(follower, lambda: self.progress.sessions >= 2 and self.stored() == 0x108)
+        self.run_until(
+            follower, lambda: self.progress.server.sessions >= 2 and self.stored() == 0x108
+        )
         self.assertIn(f"warning: found: missing at 0/0: {GAP}", self.said)
         self.assertEqual(self.checkpoint.read_counted(), Counted(0, 0x108, gap=(0, 0x108)))
-        self.assertEqual(self.progress.found, {"missing": GAP})
-        shown = self.progress.shown(0.0, 0.0)
+        self.assertEqual(self.progress.findings.found, {"missing": GAP})
+        shown = status_fields(self.progress, 0.0, 0.0)
         self.assertEqual(
             (shown["not_counted"], shown["counted_upto"], shown["missing"]),
             (["0/0", "0/108"], "0/108", 0),
@@ -524,7 +527,7 @@ class Told(FollowCase):
                 )
             ],
         )
-        self.assertEqual((misses.count, self.progress.missing_in), (9, "public.t (1)"))
+        self.assertEqual((misses.count, self.progress.findings.missing_in), (9, "public.t (1)"))
 
     def test_those_of_several_filters(self) -> None:
         misses = self.misses()
@@ -539,13 +542,13 @@ class Told(FollowCase):
     def test_while_following(self) -> None:
         """The line, the status file and its findings."""
         self.server.to_send = missing_commit(0x100, 3)
-        shown: list[dict[str, object]] = []
+        found: list[dict[str, object]] = []
 
         def holds() -> bool:
-            now = self.progress.shown(0.0, 0.0)
+            now = status_fields(self.progress, 0.0, 0.0)
             if self.confirmed() == 0x108 and now.get("counted_upto") == "0/108":
-                shown.append(now)
-            return bool(shown)
+                found.append(now)
+            return bool(found)
 
         self.run_until(self.follower(), holds)
         text = f"3 changes found no row, {FIRST_OF_T}"
@@ -558,8 +561,8 @@ class Told(FollowCase):
             "counted_upto": "0/108",
             "found": {"missing": text},
         }
-        self.assertEqual({name: shown[0].get(name) for name in fields}, fields)
-        self.assertNotIn("not_counted", shown[0])
+        self.assertEqual({name: found[0].get(name) for name in fields}, fields)
+        self.assertNotIn("not_counted", found[0])
         self.assertEqual(
             [it for it in self.said if "rows not found" in it or "status 16" in it], []
         )
@@ -573,7 +576,7 @@ class Told(FollowCase):
             follower, lambda: follower.noting.commits == 1 and not follower.filter.waiting
         )
         self.assertEqual((self.counted(), len(self.lines())), (Counted(0, 0x108, 1, 0x108, 1), 1))
-        self.assertIn("missing", self.progress.found)
+        self.assertIn("missing", self.progress.findings.found)
 
     def test_at_each_start(self) -> None:
         self.server.to_send = missing_commit(0x100)
@@ -631,7 +634,8 @@ class Strict(FollowCase):
             self.follower(strict=True, accept=["missing"]), lambda: self.server.sessions == 2
         )
         self.assertEqual(
-            (self.counted(), self.lines(), self.progress.found), (Counted(0, 0x108), [], {})
+            (self.counted(), self.lines(), self.progress.findings.found),
+            (Counted(0, 0x108), [], {}),
         )
         self.run_until(self.follower(strict=True), lambda: self.server.sessions == 3)
 

@@ -42,7 +42,7 @@ class Case(unittest.TestCase):
         tree = (Partition(10, 0, "public.root", False), Partition(11, 10, "public.p1", True))
         self.remembered.begin_copy(a_catalog(*tables, partitions=tree), 100)
         self.progress = Progress()
-        self.noting = Noting(self.progress, self.remembered)
+        self.noting = Noting(self.progress.stream, self.remembered)
 
     def note(self, *payloads: bytes) -> None:
         self.noting.note_all(payloads)
@@ -55,9 +55,9 @@ class Case(unittest.TestCase):
 class Counts(Case):
     def test_a_pair(self) -> None:
         self.note(begin(500, 77), relation(1, "t"), insert(1), insert(1), update(1), delete(2))
-        self.assertEqual((self.progress.passed_changes, self.progress.passed_commits), (4, 0))
+        self.assertEqual((self.progress.stream.changes, self.progress.stream.commits), (4, 0))
         self.note(vectors.truncate(1, 2), vectors.message(), vectors.a_type(9), commit(500, 508))
-        self.assertEqual((self.progress.passed_changes, self.progress.passed_commits), (6, 1))
+        self.assertEqual((self.progress.stream.changes, self.progress.stream.commits), (6, 1))
         self.assertEqual(list(self.noting.ends), [508])
 
     def test_blocks(self) -> None:
@@ -73,7 +73,7 @@ class Counts(Case):
         self.assertEqual(list(self.noting.ends), [])
         self.note(vectors.stream_commit(7, 600, 608))
         self.assertEqual(
-            (self.progress.passed_changes, self.progress.passed_commits, list(self.noting.ends)),
+            (self.progress.stream.changes, self.progress.stream.commits, list(self.noting.ends)),
             (5, 1, [608]),
         )
         self.assertIn(
@@ -84,12 +84,12 @@ class Counts(Case):
 
     def test_where_the_server_is(self) -> None:
         self.note(keepalive(0x700))
-        self.assertEqual(self.progress.sent_to, (0x700).to_bytes(8, "big"))
+        self.assertEqual(self.progress.stream.sent_to, (0x700).to_bytes(8, "big"))
         self.assertIsNone(self.noting.asked)
         self.note(keepalive(0x800, asks=True))
         self.assertEqual(self.noting.asked, 0x800)
         self.note(vectors.data(b"E", end=0x900))
-        self.assertEqual(self.progress.sent_to, (0x900).to_bytes(8, "big"))
+        self.assertEqual(self.progress.stream.sent_to, (0x900).to_bytes(8, "big"))
 
     def test_confirmed(self) -> None:
         for lsn in (500, 510, 520):

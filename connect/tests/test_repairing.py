@@ -156,7 +156,7 @@ class Repaired(Repairs):
         begins there."""
         run = self.running()
         self.repair()
-        self.assertTrue(run.until(lambda: run.progress.sessions == 3))
+        self.assertTrue(run.until(lambda: run.progress.server.sessions == 3))
         self.assertEqual(
             (self.streams(1), self.server.started[3][0]), ([True, False, True], self.points[0])
         )
@@ -166,7 +166,7 @@ class Repaired(Repairs):
     def test_a_session_that_streams_nothing(self) -> None:
         run = self.running(proto=1)
         self.repair()
-        self.assertTrue(run.until(lambda: run.progress.sessions == 2))
+        self.assertTrue(run.until(lambda: run.progress.server.sessions == 2))
         self.assertEqual(self.server.started[2][0], self.points[0])
         self.ends(run)
 
@@ -199,7 +199,7 @@ class Repaired(Repairs):
             with open(request.changes(), "rb") as file:
                 written = file.read()
             request.pass_on([T])
-        self.assertTrue(run.until(lambda: run.progress.sessions == 2))
+        self.assertTrue(run.until(lambda: run.progress.server.sessions == 2))
         point, payloads = self.points[0], list(payloads_in(b"".join(passed)))
         first = next(
             at
@@ -234,7 +234,7 @@ class Repaired(Repairs):
         with self.compared():
             self.assertTrue(run.until(lambda: run.progress.state == "repairing rows"))
         self.assertTrue(
-            run.until(lambda: run.progress.sessions == 3 and not run.snapshots.hold.is_held),
+            run.until(lambda: run.progress.server.sessions == 3 and not run.snapshots.hold.is_held),
             (self.said, run.raised),
         )
         self.assertTrue(run.until(lambda: run.progress.state == "following"))
@@ -280,9 +280,9 @@ class Repaired(Repairs):
 
         def lose(name: str) -> None:
             if name == "copied":
-                sessions = run.progress.sessions
+                sessions = run.progress.server.sessions
                 run.filter.child.kill()
-                self.assertTrue(run.until(lambda: run.progress.sessions > sessions))
+                self.assertTrue(run.until(lambda: run.progress.server.sessions > sessions))
 
         self.hook = lose
         with self.assertRaisesRegex(Passing, "repaired nothing"):
@@ -331,7 +331,7 @@ class Repaired(Repairs):
             self.repair()
         self.change()
         self.assertTrue(run.until(lambda: self.is_stored(run)), (self.said, run.raised))
-        self.assertEqual(run.progress.sessions, 1)
+        self.assertEqual(run.progress.server.sessions, 1)
         run.follower.options.max_buffered, run.follower.options.max_frame = 1 << 20, 30
         with self.assertRaisesRegex(Unrepaired, "--max-frame"):
             self.repair()

@@ -31,7 +31,7 @@ class Stopped(Case):
 
         def stop() -> object:
             connection = connect()
-            if follower.progress.sessions == 1:
+            if follower.progress.server.sessions == 1:
                 os.kill(follower.filter.pid(), signal.SIGSTOP)
             return connection
 
@@ -60,7 +60,7 @@ class Stopped(Case):
             if self.ended() and not waited:
                 # (several delays between sessions pass)
                 time.sleep(0.3)
-                waited.append(follower.progress.sessions)
+                waited.append(follower.progress.server.sessions)
                 self.assertIsNone(follower.connection)
                 self.server.to_send[:] = [begin(0x100, 7), *LARGE, commit(0x100, 0x108)]
                 self.go_on(follower)
@@ -68,7 +68,7 @@ class Stopped(Case):
 
         self.run_until(follower, holds)
         self.assertEqual(waited, [1])
-        self.assertEqual(follower.progress.sessions, 2)
+        self.assertEqual(follower.progress.server.sessions, 2)
         text = "has stood still for 1 second: the session is ended"
         self.assertIn(f"the filter (process {follower.filter.pid()}) {text}", self.ended()[0])
 
@@ -78,9 +78,11 @@ class Stopped(Case):
         began, slot = list[float](), follower.progress.slot
 
         def holds() -> bool:
-            if follower.progress.is_unread and not began:
+            if slot.is_unread:
+                # (it is told again and again, as the filter may stand still later than it was
+                # noted first)
                 began.append(time.monotonic())
-                slot.wal_status, slot.told = "unreserved", time.monotonic()
+                slot.note("unreserved", None)
             return self.then_goes_on(follower, bool(self.ended()))
 
         self.patch(stall, "NOTED", 0.05)
@@ -92,7 +94,7 @@ class Stopped(Case):
         self.patch(stall, "ENDANGERED", 0.1)
         follower = self.stopped(silence=1.0)
         slot = follower.progress.slot
-        slot.wal_status, slot.told = "unreserved", time.monotonic()
+        slot.note("unreserved", None)
         began = time.monotonic()
         self.run_until(follower, lambda: self.then_goes_on(follower, bool(self.ended())))
         self.assertGreater(time.monotonic() - began, 1.0)
@@ -104,13 +106,13 @@ class Stopped(Case):
         follower = self.stopped(silence=0.3)
         until = time.monotonic() + 2.0
         self.run_until(follower, lambda: self.then_goes_on(follower, time.monotonic() > until))
-        self.assertEqual((self.ended(), follower.progress.sessions), ([], 1))
+        self.assertEqual((self.ended(), follower.progress.server.sessions), ([], 1))
 
     def test_the_end_is_waited_for_without_a_session(self) -> None:
         follower = self.stopped(silence=0.4)
 
         def holds() -> bool:
-            return follower.progress.is_unread or bool(self.ended())
+            return follower.progress.slot.is_unread or bool(self.ended())
 
         self.patch(stall, "NOTED", 0.05)
         disconnect, gone = follower.disconnect, list[bool]()
@@ -136,7 +138,7 @@ class Held(Case):
         follower.standing.check(60.0, is_held=True)
         now[0] = follower.progress.slot.told = 101.0
         follower.standing.check(60.0, is_held=True)
-        self.assertTrue(follower.progress.is_unread)
+        self.assertTrue(follower.progress.slot.is_unread)
         now[0] = 102.5
         follower.standing.check(60.0, is_held=False)
         follower.standing.check(60.0, is_held=True)

@@ -97,12 +97,12 @@ class Misses:
 
     def show(self) -> None:
         """Tells the progress what is counted."""
-        self.progress.counted = known = self.checkpoint.counted
-        self.progress.missing_in = (
-            self.remembered.text_of(known.relation) if known and known.count else ""
+        known = self.checkpoint.counted
+        table = self.remembered.text_of(known.relation) if known and known.count else ""
+        texts = texts_of(known, self.remembered) if known else []
+        self.progress.findings.note_missing(
+            known, table, {MISSING: "; ".join(texts)} if texts else {}
         )
-        if known and (texts := texts_of(known, self.remembered)):
-            self.progress.found = {**self.progress.found, MISSING: "; ".join(texts)}
 
     def tell(self, is_last: bool = False) -> None:
         """Tells the first one at once, and more of them later, with their number."""

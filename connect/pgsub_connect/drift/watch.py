@@ -98,9 +98,9 @@ class Watch:
     def show(self) -> None:
         """Tells the progress what was found, and ends the following where it is to be strict."""
         began = time.monotonic()
-        self.progress.found = {
-            kind: "; ".join(self.texts_of(kind)) for kind in self.checkpoint.findings()
-        }
+        self.progress.findings.note(
+            {kind: "; ".join(self.texts_of(kind)) for kind in self.checkpoint.findings()}
+        )
         lasting = {
             kind: text
             for kind in self.checkpoint.findings()

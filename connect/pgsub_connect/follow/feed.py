@@ -369,8 +369,7 @@ class Keeper(threading.Thread):
 
     def look(self, reached: Reached) -> None:
         """Shows how far behind each reader is, and how large the feed."""
-        self.progress.readers = read_readers(self.folder)
-        self.progress.feed_bytes = feed_bytes(self.folder)
+        self.progress.feed.note(read_readers(self.folder), feed_bytes(self.folder))
 
     def retire(self, reached: Reached) -> None:
         gone = retire(self.folder, self.limits, reached.position, time.time())

@@ -48,7 +48,6 @@ from ..server.session import (
     sender_timeout,
     settle,
     tell_version_1,
-    waits_for,
 )
 from ..status.progress import Progress
 from ..store.checkpoint import Checkpoint
@@ -116,7 +115,7 @@ class Follower:
         # whether another session is to begin at once in place of the last one
         self.is_renewed = False
         self.heartbeat = options.heartbeat
-        self.noting = Noting(progress, remembered)
+        self.noting = Noting(progress.stream, remembered)
         self.watch = Watch(options, checkpoint, progress, remembered)
         self.misses = Misses(options, checkpoint, progress, remembered)
         self.skipping = Skipping(options.skip, checkpoint, progress, remembered)
@@ -151,7 +150,7 @@ class Follower:
             self.is_streaming,
             confirming.reached,
         )
-        snapshots.delays_commits = progress.note_standbys
+        snapshots.delays_commits = progress.server.note_standbys
         self.gating = Gating(options, progress, snapshots.hold, self.serve_server, self.let_go)
         self.kills, self.repeats = too_large.Kills(), Repeats(options)
         self.standing = Standing(child, progress)
@@ -219,7 +218,7 @@ class Follower:
         if not (self.was_connected or error.sqlstate):
             raise Passing(str(error))
         log.warning(f"{error}")
-        self.progress.last_error = str(error)
+        self.progress.note_error(str(error))
         self.repeats.note(error, self.confirming.position)
         self.is_renewed = isinstance(error, Renewed)
         if error.sqlstate == INTERNAL:
@@ -240,8 +239,7 @@ class Follower:
                 raise ended
             self.kills.note(ended, *largest)
             log.warning(f"{ended}: it is started again")
-        self.progress.last_error = str(ended)
-        self.progress.restarts += 1
+        self.progress.note_restart(str(ended))
 
     def tell_rejected(self, ended: FilterEnded) -> None:
         """Tells which commit the filter has rejected: the first one above its store's position. All
@@ -281,11 +279,12 @@ class Follower:
             return True
         if self.snapshots.hold.keeps:
             self.repairing.look()
-        state, self.progress.state = self.progress.state, "copying the store"
+        state = self.progress.state
+        self.progress.enter("copying the store")
         with contextlib.suppress(Stopped):
             # (whoever has called this sees that, and ends)
             self.snapshots.take(self.confirming.position, self.serve_copy)
-        self.progress.state = state
+        self.progress.enter(state)
         return self.snapshots.hold.stops()
 
     def tick(self) -> None:
@@ -302,7 +301,7 @@ class Follower:
     def start_filter(self) -> None:
         if self.filter.is_running():
             return
-        self.progress.state = "opening the store"
+        self.progress.enter("opening the store")
         position = self.open_store()
         self.confirming.begin_store(position)
         if self.feeding:
@@ -310,7 +309,7 @@ class Follower:
         if self.misses.begin_filter(position, self.filter.has_told_all):
             self.watch.show()
         self.noting.begin_store()
-        self.progress.note_confirmed(position, position)
+        self.progress.stream.note_confirmed(position, position)
 
     def open_store(self) -> int:
         """Starts the filter. A store that somebody else has open, to dump it say, is waited for."""
@@ -340,7 +339,7 @@ class Follower:
             return
         self.delay = min(2 * self.delay, LONGEST_DELAY) if self.delay else FIRST_DELAY
         if not self.stop_asked:
-            self.progress.state = "waiting to connect again"
+            self.progress.enter("waiting to connect again")
         until = time.monotonic() + self.delay
         while not self.stop_asked and (
             (left := until - time.monotonic()) > 0 or self.standing.lasts()
@@ -359,16 +358,15 @@ class Follower:
     def connect(self) -> Connection:
         """Connects, checks that the store and the slot fit together, and starts the session."""
         options = self.options
-        self.progress.state = "connecting"
+        self.progress.enter("connecting")
         connection = Connection(
             options.dsn, replication=True, name=options.slot, check=self.check_stop
         )
         self.connection = connection
         settle(connection)
         server = identify(connection)
-        self.progress.note_server(connection.version(), server.timeline)
-        self.progress.server_started, self.progress.is_standby = server.started, server.is_standby
-        self.progress.was_promoted = False
+        self.progress.note_login(connection.version(), server.timeline)
+        self.progress.server.note_start(server.started, server.is_standby)
         self.choose_protocol(connection.version())
         at, slot_at = self.filter.confirmed(), self.fit(connection, server)
         self.prepare(connection)
@@ -378,7 +376,7 @@ class Follower:
         options.accept = []
         self.was_connected = True
         self.standing.begin_session()
-        self.progress.sessions += 1
+        self.progress.server.begin_session()
         log.info(f"following slot {options.slot} from {lsn_text(max(at, slot_at))}")
         if self.recording:
             self.recording.begin_session(
@@ -411,7 +409,7 @@ class Follower:
     def prepare(self, connection: Connection) -> None:
         """Has what takes part in a session begin it, which tells what it asks for, and reads the
         settings that it depends on."""
-        options, progress = self.options, self.progress
+        options = self.options
         # (on another connection: what a session's process has in its caches, it would decode older
         # changes by)
         if not self.watch.look_again(self.check_stop, self.confirming.position):
@@ -426,9 +424,9 @@ class Follower:
             self.until = log_end(connection)
         timeout = sender_timeout(connection)
         self.heartbeat = min(options.heartbeat, timeout / 3) if timeout else options.heartbeat
-        progress.name = connection.parameter("application_name")
-        progress.is_waited_for = waits_for(
-            connection.text("SHOW synchronous_standby_names"), progress.name
+        self.progress.server.note_name(
+            connection.parameter("application_name"),
+            connection.text("SHOW synchronous_standby_names"),
         )
 
     def start_replication(self, connection: Connection, server: Server) -> None:
@@ -483,7 +481,7 @@ class Follower:
         at the server may wait for that.
         """
         connection = self.connect()
-        self.progress.state = "following"
+        self.progress.enter("following")
         confirming = self.confirming
         began, silent = time.monotonic(), 0.0
         more: bool | None = True
@@ -545,7 +543,7 @@ class Follower:
         """Goes on with tables that are added, and rows that are repaired. Returns whether another
         session is to begin for them."""
         self.progress.beat()
-        if self.progress.was_promoted:
+        if self.progress.server.was_promoted:
             raise ServerError("the standby was promoted: a session with the new primary is begun")
         # (behind a repair nothing is passed on in this session)
         self.repairing.step()
@@ -581,7 +579,7 @@ class Follower:
     def awake(self) -> Awake | None:
         """Waits for what the filter says of a commit, or for the next one, where commits at the
         server wait for that."""
-        if not self.progress.is_waited_for:
+        if not self.progress.server.is_waited_for:
             return None
         return self.for_statuses if self.noting.ends else self.for_commits
 
@@ -651,7 +649,7 @@ class Follower:
                 check=self.serve_server,
             )
             with contextlib.closing(connection):
-                is_there = postmaster_start(connection) == self.progress.server_started
+                is_there = postmaster_start(connection) == self.progress.server.started
         except ServerError as error:
             # (who is turned away was answered)
             is_there = bool(error.sqlstate)
@@ -740,7 +738,7 @@ class Follower:
 
     def end_session_by_ourselves(self) -> None:
         """Ends the filter's input, sends what it still confirms, and ends the session."""
-        self.progress.state = "stopping"
+        self.progress.enter("stopping")
         self.filter.finish()
         try:
             while True:
@@ -770,7 +768,7 @@ class Follower:
 
     def disconnect(self) -> None:
         self.confirming.end_session()
-        self.progress.is_unread = False
+        self.progress.slot.note_unread(False)
         self.adder.end_session()
         self.repairing.end_session()
         self.gating.end_session()

@@ -183,7 +183,7 @@ class Repairing:
         """Goes on, where that is possible now. Called between payloads."""
         if self.hold.keeps != self.is_shown:
             self.is_shown = self.hold.keeps
-            self.progress.state = "repairing rows" if self.is_shown else "following"
+            self.progress.enter("repairing rows" if self.is_shown else "following")
         if self.is_stored():
             self.finish()
         elif self.hold.tables is not None and not self.hold.is_sent:

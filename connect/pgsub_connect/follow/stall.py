@@ -64,7 +64,7 @@ class Standing:
         stood = self.seconds(ends)
         self.held_since = (self.held_since or time.monotonic()) if is_held else None
         held = time.monotonic() - self.held_since if self.held_since else 0.0
-        self.progress.is_unread = max(stood, held) > NOTED
+        self.progress.slot.note_unread(max(stood, held) > NOTED)
         if stood > limit or self.is_in_danger(self.since, stood):
             self.is_left = True
             raise ServerError(self.text(stood))

@@ -44,7 +44,7 @@ def chosen(name: str, about: str, label: str, values: tuple[str, ...], which: se
 
 def metrics(progress: Progress, now: float) -> Iterator[Metric]:
     lag, slot, versions = (
-        progress.lag,
+        progress.stream.lag,
         progress.slot,
         {"connector": VERSION, "program": progress.program},
     )
@@ -52,7 +52,7 @@ def metrics(progress: Progress, now: float) -> Iterator[Metric]:
         "pgsub_info",
         GAUGE,
         "Versions of what follows.",
-        [({**versions, "server": str(progress.version or "")}, 1)],
+        [({**versions, "server": str(progress.server.version or "")}, 1)],
     )
     yield chosen("pgsub_state", "What the follower is at.", "state", STATES, {progress.state})
     yield one(
@@ -65,7 +65,7 @@ def metrics(progress: Progress, now: float) -> Iterator[Metric]:
         "pgsub_last_message_timestamp_seconds",
         GAUGE,
         "When the server's last message came.",
-        progress.last_message,
+        progress.stream.last_message,
     )
     yield one(
         "pgsub_last_commit_timestamp_seconds",
@@ -74,22 +74,28 @@ def metrics(progress: Progress, now: float) -> Iterator[Metric]:
         lag.last_commit,
     )
     yield one(
-        "pgsub_position_lsn", GAUGE, "End of the last commit that the store has.", progress.position
+        "pgsub_position_lsn",
+        GAUGE,
+        "End of the last commit that the store has.",
+        progress.stream.position,
     )
     yield one(
         "pgsub_confirmed_lsn",
         GAUGE,
         "LSN up to which the copy is complete and confirmed.",
-        progress.confirmed,
+        progress.stream.confirmed,
     )
     yield one(
-        "pgsub_server_end_lsn", GAUGE, "Where the server's log ends.", progress.server_end() or None
+        "pgsub_server_end_lsn",
+        GAUGE,
+        "Where the server's log ends.",
+        progress.stream.server_end() or None,
     )
     yield one(
         "pgsub_lag_bytes",
         GAUGE,
         "How much of the server's log the copy lacks.",
-        progress.lag_bytes(),
+        progress.stream.lag_bytes(),
     )
     yield one(
         "pgsub_lag_seconds",
@@ -116,9 +122,9 @@ def metrics(progress: Progress, now: float) -> Iterator[Metric]:
         "What was found that may have made the copy wrong.",
         "kind",
         KINDS,
-        set(progress.found),
+        set(progress.findings.found),
     )
-    if (counted := progress.counted) is not None:
+    if (counted := progress.findings.counted) is not None:
         after, upto = counted.gap or (0, 0)
         yield one(
             "pgsub_missing_total",
@@ -138,10 +144,12 @@ def metrics(progress: Progress, now: float) -> Iterator[Metric]:
             "Log in which such changes weren't counted, until that is accepted.",
             upto - after,
         )
-    if progress.feed_bytes is not None:
-        yield one("pgsub_feed_bytes", GAUGE, "How large the feed is.", progress.feed_bytes)
-        readers = sorted(progress.readers.items())
-        lags: list[Sample] = [({"reader": name}, progress.lag_of(lsn)) for name, lsn in readers]
+    if progress.feed.bytes is not None:
+        yield one("pgsub_feed_bytes", GAUGE, "How large the feed is.", progress.feed.bytes)
+        readers = sorted(progress.feed.readers.items())
+        lags: list[Sample] = [
+            ({"reader": name}, progress.stream.lag_of(lsn)) for name, lsn in readers
+        ]
         yield Metric(
             "pgsub_reader_lag_bytes",
             GAUGE,
@@ -158,21 +166,23 @@ def metrics(progress: Progress, now: float) -> Iterator[Metric]:
             "pgsub_tables_failed",
             GAUGE,
             "Whether the tables that follow the feed have ended by a fault.",
-            int(bool(progress.tables_error)),
+            int(bool(progress.feed.tables_error)),
         )
         yield one(
             "pgsub_tables_aside",
             GAUGE,
             "How many of them are set aside until their rows come anew.",
-            len(progress.tables_aside),
+            len(progress.feed.tables_aside),
         )
     yield one(
-        "pgsub_changes_total", COUNTER, "Changes that were passed on.", progress.passed_changes
+        "pgsub_changes_total", COUNTER, "Changes that were passed on.", progress.stream.changes
     )
     yield one(
-        "pgsub_commits_total", COUNTER, "Commits that were passed on.", progress.passed_commits
+        "pgsub_commits_total", COUNTER, "Commits that were passed on.", progress.stream.commits
     )
-    yield one("pgsub_sessions_total", COUNTER, "Sessions with the server.", progress.sessions)
+    yield one(
+        "pgsub_sessions_total", COUNTER, "Sessions with the server.", progress.server.sessions
+    )
     yield one(
         "pgsub_filter_restarts_total", COUNTER, "How often the filter was lost.", progress.restarts
     )
@@ -180,13 +190,13 @@ def metrics(progress: Progress, now: float) -> Iterator[Metric]:
         "pgsub_copied_rows",
         GAUGE,
         "Rows that this run's initial copy has so far.",
-        progress.copied_rows,
+        progress.copy.rows,
     )
     yield one(
         "pgsub_copy_total_rows",
         GAUGE,
         "Rows to copy, by the server's statistics.",
-        progress.copy_total_rows,
+        progress.copy.total_rows,
     )
 
 

@@ -95,7 +95,7 @@ class Gating:
             self.next = now + LOOK
             self.look()
         # (changes that are on their way end the hold themselves)
-        stops = self.progress.is_waited_for and hold.stops() and not hold.is_sent
+        stops = self.progress.server.is_waited_for and hold.stops() and not hold.is_sent
         self.since = (self.since or now) if stops else None
         if self.is_over():
             self.since = None

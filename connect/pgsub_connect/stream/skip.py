@@ -44,7 +44,7 @@ class Skipping:
         # under way
         self.begun, self.is_inside = b"", False
         self.counts: dict[bytes, int] = {}
-        progress.skipped = checkpoint.known.skipped
+        progress.findings.note_skipped(checkpoint.known.skipped)
 
     def begin_session(self, at: int) -> None:
         """A session starts at an LSN. A commit that ends above it comes in it, so one that has its
@@ -103,7 +103,7 @@ class Skipping:
         """The commit is complete."""
         lsn, changes = lsn_text(self.lsn), changes_text(self.counts, self.remembered)
         self.checkpoint.write(True, skipped=lsn)
-        self.progress.skipped = lsn
+        self.progress.findings.note_skipped(lsn)
         log.warning(f"skipped: transaction {xid_of(self.begun)}, final LSN {lsn}, {changes}")
         self.begun, self.is_pending = b"", False
 

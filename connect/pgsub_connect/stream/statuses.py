@@ -93,7 +93,7 @@ class Confirming:
             self.position,
             self.filter.confirmed(),
             begun,
-            int.from_bytes(self.progress.sent_to, "big"),
+            int.from_bytes(self.progress.stream.sent_to, "big"),
         )
 
     def note_missing(self, statuses: Sequence[bytes]) -> None:
@@ -114,8 +114,8 @@ class Confirming:
         confirmed = flushed(statuses[-1])
         self.forget_confirmed(confirmed)
         self.checkpoint.note(confirmed, self.position)
-        self.progress.counted = self.checkpoint.counted
-        self.progress.note_confirmed(confirmed, self.position)
+        self.progress.findings.note_counted(self.checkpoint.counted)
+        self.progress.stream.note_confirmed(confirmed, self.position)
 
     def forget_confirmed(self, confirmed: int) -> None:
         """Forgets the ends of commits that are stored."""
@@ -148,7 +148,7 @@ class Confirming:
 
     def quiet(self) -> float:
         """After how many seconds a position that a keepalive alone has moved is passed on again."""
-        return min(QUIET, PART * self.noted_in) if self.progress.is_waited_for else QUIET
+        return min(QUIET, PART * self.noted_in) if self.progress.server.is_waited_for else QUIET
 
     def pass_on(self, status: bytes) -> None:
         """Sends a status, and notes it: first where only this tells the next start of it, and else

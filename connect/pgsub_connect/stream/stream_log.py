@@ -14,14 +14,13 @@ from __future__ import annotations
 import collections
 import itertools
 import struct
-import time
 from collections.abc import Callable, Sequence
 
 from pgsub_feed.texts import counted, lsn_text
 
 from ..drift.remembered import Relation, Remembered
 from ..server.catalog import Column, Shape
-from ..status.progress import Progress
+from ..status.counters import StreamCounters
 
 BEGIN, COMMIT, RELATION, TRUNCATE = b"BCRT"
 START, STOP, STREAM_COMMIT, ABORT = b"SEcA"
@@ -120,7 +119,7 @@ class Noting:
     """Notes payloads. `wants_look`: a table came that isn't among those that are remembered, or
     wasn't published when these were."""
 
-    def __init__(self, progress: Progress, remembered: Remembered) -> None:
+    def __init__(self, progress: StreamCounters, remembered: Remembered) -> None:
         self.progress, self.remembered = progress, remembered
         self.changes = self.commits = 0
         self.wants_look = False
@@ -300,20 +299,17 @@ class Noting:
         """Tells the progress what came, and how far the transaction that isn't complete has come.
         Called after each lot of payloads."""
         last = self.last
-        progress = self.progress
         if self.total != self.shown:
             self.shown = self.total
-            progress.sent_to = last[9:17] if last[:1] == b"w" else last[1:9]
-            progress.last_message = time.time()
-        progress.passed_changes = self.changes + sum(self.counts.values())
-        progress.passed_commits = self.commits
+            self.progress.note_sent(last[9:17] if last[:1] == b"w" else last[1:9])
+        self.progress.note_passed(self.changes + sum(self.counts.values()), self.commits)
         self.show_waiting()
 
     def show_waiting(self) -> None:
         """Tells the progress how old the first commit is that was passed on, or is being, and isn't
         confirmed."""
         first = self.passed[0][0] if self.passed else self.begun
-        self.progress.lag.waits_since = commit_time(first) if first else None
+        self.progress.lag.note_waiting(commit_time(first) if first else None)
 
     def confirm(self, confirmed: int, position: int) -> int:
         """Forgets commits that are confirmed. Returns the store's position by them, at least
@@ -324,7 +320,7 @@ class Noting:
         while ends and ends[0] <= confirmed:
             position = max(position, ends.popleft())
             last = passed.popleft()
-        self.progress.lag.last_commit = commit_time(last[0])
+        self.progress.lag.note_commit(commit_time(last[0]))
         self.show_waiting()
         return position
 
