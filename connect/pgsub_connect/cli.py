@@ -152,7 +152,7 @@ def follow(options: Options) -> int:
         if not os.path.exists(options.store):
             begin(options, checkpoint, copier, remembered, follower.check_stop)
             # (a server that is lost from now on is waited for)
-            follower.was_connected = copier.was_connected
+            follower.note_connected(copier.was_connected)
         elif options.table or options.all_tables:
             require_published(options, follower.check_stop)
         feeding.begin(child, follower.confirming.stored, follower.check_stop)

@@ -62,7 +62,7 @@ BUGS = (
     ),
     Bug(
         "a silent server isn't given up",
-        "pgsub_connect/follow/follower.py",
+        "pgsub_connect/follow/schedule.py",
         "if silent > limit:",
         "if silent > 60 * limit:",
         ("test_following",),
@@ -202,7 +202,7 @@ BUGS = (
     ),
     Bug(
         "another history is taken for the one that was accepted",
-        "pgsub_connect/follow/follower.py",
+        "pgsub_connect/follow/session_start.py",
         "options.accept = []",
         "pass",
         ("test_following",),
@@ -237,8 +237,8 @@ BUGS = (
     ),
     Bug(
         "what was kept back outlasts its session",
-        "pgsub_connect/follow/follower.py",
-        "self.snapshots.hold.end_session()",
+        "pgsub_connect/follow/requests.py",
+        "self.hold.end_session()",
         "pass",
         ("test_passing",),
     ),
@@ -321,7 +321,7 @@ BUGS = (
     ),
     Bug(
         "changes of a table are left out of what is streamed",
-        "pgsub_connect/follow/follower.py",
+        "pgsub_connect/follow/stream_form.py",
         "and not self.is_whole",
         "",
         ("test_adding", "test_cutting"),
@@ -482,7 +482,7 @@ BUGS = (
     ),
     Bug(
         "changes that found no row are noted behind their status",
-        "pgsub_connect/follow/follower.py",
+        "pgsub_connect/follow/filter_life.py",
         "        finally:\n            self.confirming.note_missing(statuses)",
         "        finally:\n            pass",
         ("test_missing",),
@@ -504,7 +504,7 @@ BUGS = (
     Bug(
         "a filter is killed by what ends the run",
         "pgsub_connect/follow/follower.py",
-        "            self.leave_filter()\n",
+        "            self.life.leave()\n",
         "",
         ("test_missing",),
     ),
@@ -531,8 +531,8 @@ BUGS = (
     ),
     Bug(
         "what an encrypted connection has read already is forgotten",
-        "pgsub_connect/follow/follower.py",
-        "                    or is_wrapped\n",
+        "pgsub_connect/follow/session.py",
+        "            or connection.is_wrapped()\n",
         "",
         ("test_missing",),
     ),
@@ -552,7 +552,7 @@ BUGS = (
     ),
     Bug(
         "what has come waits for what else there is to do",
-        "pgsub_connect/follow/follower.py",
+        "pgsub_connect/follow/session.py",
         "        self.filter.push_payloads(payloads)\n        self.noting.note_all(payloads)\n",
         "        self.noting.note_all(payloads)\n        self.filter.push_payloads(payloads)\n",
         ("test_missing",),
@@ -566,7 +566,7 @@ BUGS = (
     ),
     Bug(
         "it is waited awake though no commit waits",
-        "pgsub_connect/follow/follower.py",
+        "pgsub_connect/follow/schedule.py",
         "        if not self.progress.server.is_waited_for:\n            return None\n",
         "",
         ("test_following",),
@@ -804,9 +804,9 @@ BUGS = (
     ),
     Bug(
         "a signal isn't heard while the store is copied",
-        "pgsub_connect/follow/follower.py",
+        "pgsub_connect/follow/requests.py",
         "self.snapshots.take(self.confirming.position, self.serve_copy)",
-        "self.snapshots.take(self.confirming.position, self.tick)",
+        "self.snapshots.take(self.confirming.position, self.progress.beat)",
         ("test_holding",),
     ),
     Bug(

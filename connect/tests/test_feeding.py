@@ -21,13 +21,14 @@ from pgsub_connect.drift.remembered import Remembered, replace_file
 from pgsub_connect.errors import FileError, Unfit
 from pgsub_connect.follow import feed as feed_module
 from pgsub_connect.follow import tables_process
-from pgsub_connect.follow.feed import Feeding, Keeper, Reached
+from pgsub_connect.follow.feed import Feeding, Keeper
 from pgsub_connect.follow.follower import Follower
 from pgsub_connect.follow.tables_process import Beside, words_of
 from pgsub_connect.status.metrics import metrics_text
 from pgsub_connect.status.progress import Progress
 from pgsub_connect.status.status_file import status_fields
 from pgsub_connect.stream.filter import FilterEnded
+from pgsub_connect.stream.statuses import Reached
 from pgsub_feed.reader.positions import Noted, make_folder
 from pgsub_feed.reader.segments import CONFIRMED, Reader, read_confirmed, segments
 
@@ -64,12 +65,12 @@ class Followed(Case):
     def fed(self, feed: str | None = None, **options: object) -> Follower:
         """A follower whose feed is checked, and that is about to run."""
         follower = self.follower(feed=self.feed if feed is None else feed, **options)
-        follower.feeding = it = Feeding(
+        follower.life.feeding = it = Feeding(
             follower.options, self.checkpoint, self.progress, follower.watch.remembered
         )
         it.check()
         self.addCleanup(it.finish)
-        it.begin(follower.filter, follower.confirming.stored, follower.check_stop)
+        it.begin(follower.life.filter, follower.confirming.stored, follower.check_stop)
         return follower
 
     def follower(self, **options: object) -> Follower:
@@ -104,8 +105,8 @@ class Followed(Case):
             and read_confirmed(self.feed) == 0x400,
         )
         self.assertEqual(self.ends(), [0x108])
-        assert follower.feeding
-        follower.feeding.finish()
+        assert follower.life.feeding
+        follower.life.feeding.finish()
         self.assertEqual((self.progress.feed.readers, self.progress.feed.bytes), ({}, 1024 + 256))
         self.assertEqual(Remembered(self.store).feed, self.feed)
         self.assertEqual(oct(stat.S_IMODE(os.stat(self.feed).st_mode)), "0o700")
@@ -115,8 +116,8 @@ class Followed(Case):
         self.server.to_send = [begin(0x100, 7), inserted(1), commit(0x100, 0x108)]
         follower = self.fed()
         self.run_until(follower, lambda: self.confirmed() == 0x108)
-        assert follower.feeding
-        follower.feeding.finish()
+        assert follower.life.feeding
+        follower.life.feeding.finish()
         self.assertEqual(read_confirmed(self.feed), 0x108)
 
     def let_go(self, has: mock.Mock) -> bool:
@@ -128,8 +129,8 @@ class Followed(Case):
     def test_the_end_waits_for_the_tables(self) -> None:
         self.server.to_send = [begin(0x100, 7), inserted(1), commit(0x100, 0x108), keepalive(0x400)]
         follower, has = self.fed(until=0x108), mock.Mock(return_value=False)
-        assert follower.feeding
-        follower.feeding.beside = mock.Mock(has=has)
+        assert follower.life.feeding
+        follower.life.feeding.beside = mock.Mock(has=has)
         self.run_until(follower, lambda: self.let_go(has))
         self.assertEqual({it.args for it in has.call_args_list}, {(0x108,)})
 
@@ -146,7 +147,7 @@ class Followed(Case):
         ]
         follower = self.fed(feed_segment_bytes=5000, feed_segment_seconds=60)
         self.assertEqual(
-            follower.filter.words[-12:],
+            follower.life.filter.words[-12:],
             [*words, "--feed-segment-bytes", "5000", "--feed-segment-seconds", "60"],
         )
         # (of a store that was followed, the checkpoint knows it)
@@ -162,8 +163,8 @@ class Followed(Case):
         self.server.to_send = [begin(end - 8, 7), inserted(1), commit(end - 8, end)]
         follower = self.fed()
         self.run_until(follower, lambda: self.confirmed() == end)
-        assert follower.feeding
-        follower.feeding.finish()
+        assert follower.life.feeding
+        follower.life.feeding.finish()
         self.unlock()
 
     def unlock(self) -> None:
@@ -235,7 +236,7 @@ class Followed(Case):
             file.write(str(0x108))
         follower = self.fed()
         # (what a killed filter had stored isn't taken for counted)
-        self.assertFalse(follower.filter.has_told_all or follower.filter.is_running())
+        self.assertFalse(follower.life.filter.has_told_all or follower.life.filter.is_running())
 
     def test_an_older_store_of_which_the_checkpoint_knows_nothing_more(self) -> None:
         """Since that isn't there, or was put back with it: the feed itself tells that it has

@@ -15,7 +15,7 @@ from pgsub_connect.add import addable, adder
 from pgsub_connect.commands import verify
 from pgsub_connect.commands.options import Options
 from pgsub_connect.errors import Delayed, Passing, ServerError, Stopped, Unrepaired
-from pgsub_connect.follow import follower
+from pgsub_connect.follow import schedule
 from pgsub_connect.server.connection import never
 from pgsub_connect.status.progress import Progress
 from pgsub_connect.store.at_rest import read_request
@@ -354,7 +354,7 @@ class Synchronous(AddingCase):
     def test_rows_that_take_too_long(self) -> None:
         """The table is refused, and another session begins at once."""
         self.patch(adder, "LONGEST_WAIT", 0.0)
-        self.patch(follower, "FIRST_DELAY", 60.0)
+        self.patch(schedule, "FIRST_DELAY", 60.0)
         self.want(T)
 
         def hook(name: str) -> None:

@@ -57,13 +57,13 @@ class FollowCase(Case):
     def takes_late(self, follower: Follower) -> None:
         """Has the filter take no commit before it was told that nothing more comes."""
         self.says(f"late {self.folder}/goes_on")
-        finish = follower.filter.finish
+        finish = follower.life.filter.finish
 
         def finishes() -> None:
             finish()
             Path(self.folder, "goes_on").touch()
 
-        self.patch(follower.filter, "finish", finishes)
+        self.patch(follower.life.filter, "finish", finishes)
 
     def stored(self) -> int:
         with open(self.store, encoding="ascii") as file:
@@ -121,7 +121,7 @@ class Order(FollowCase):
 
         def holds() -> bool:
             # (the second part of a line is said once the first one was read)
-            child = follower.filter
+            child = follower.life.filter
             if child.runs and child.line and child.missing.total not in heard:
                 heard.add(child.missing.total)
                 Path(self.folder, "goes_on").touch()
@@ -221,27 +221,29 @@ class Order(FollowCase):
     def test_a_status_isnt_repeated_that_couldnt_be_noted(self) -> None:
         """Not by a heartbeat either."""
         follower, sent = self.follower(), list[int]()
-        follower.confirming.told = follower.filter.status = status(0x100)
+        follower.confirming.told = follower.life.filter.status = status(0x100)
         follower.confirming.position = 0x100
         follower.noting.note_all(ONE)
         self.checkpoint.begin_counting(0x100, False)
 
         def serve(*_: object) -> tuple[list[int], list[int], list[bytes]]:
-            follower.filter.status, follower.filter.missing = status(0x108), Missing(1, 0x108, 1)
+            follower.life.filter.status, follower.life.filter.missing = status(0x108), Missing(
+                1, 0x108, 1
+            )
             return [], [], [status(0x108)]
 
-        self.patch(follower.filter, "serve", serve)
-        self.patch(follower.filter, "runs", True)
+        self.patch(follower.life.filter, "serve", serve)
+        self.patch(follower.life.filter, "runs", True)
         self.patch(
             follower.confirming, "connection", mock.Mock(send=lambda it: sent.append(flushed(it)))
         )
         with mock.patch("os.fdatasync", side_effect=OSError(28, "No space left on device")):
             with self.assertRaisesRegex(Passing, "No space"):
-                follower.attend()
+                follower.requests.upkeep.attend()
             follower.confirming.last_sent = 0.0
-            follower.keep_alive(0.0)
+            follower.session.schedule.keep_alive(0.0)
         self.assertEqual(sent, [0x100])
-        follower.attend()
+        follower.requests.upkeep.attend()
         self.assertEqual(
             (sent[-1], self.checkpoint.counted), (0x108, Counted(0x100, 0x108, 1, 0x108, 1))
         )
@@ -270,7 +272,7 @@ class Calls(FollowCase):
         the server whether it was told of."""
         follower = self.follower()
         waiting, told, is_ready = list[int](), list[bool](), list[bool]()
-        serve, consume = follower.filter.serve, Connection.consume
+        serve, consume = follower.life.filter.serve, Connection.consume
 
         def serves(
             timeout: float,
@@ -278,7 +280,7 @@ class Calls(FollowCase):
             writes: Sequence[int] = (),
             awake: Awake | None = None,
         ) -> tuple[list[int], list[int], list[bytes]]:
-            waiting.append(follower.filter.waiting)
+            waiting.append(follower.life.filter.waiting)
             readable, writable, statuses = serve(timeout, reads, writes, awake)
             is_ready.append(
                 not (readable or writable) or any(it in (*readable, *writable) for it in reads)
@@ -286,18 +288,18 @@ class Calls(FollowCase):
             return readable, writable, statuses
 
         def consumes(connection: Connection) -> None:
-            if connection is follower.connection and follower.progress.state == "following":
+            if connection is follower.session.connection and follower.progress.state == "following":
                 told.append(is_ready[-1])
             consume(connection)
 
         with mock.patch.multiple(Connection, consume=consumes, is_wrapped=lambda _: is_wrapped):
-            real = follower.session
+            real = follower.session.run
 
             def session() -> None:
-                with mock.patch.object(follower.filter, "serve", serves):
+                with mock.patch.object(follower.life.filter, "serve", serves):
                     real()
 
-            self.patch(follower, "session", session)
+            self.patch(follower.session, "run", session)
             self.server.to_send = [
                 *ONE,
                 *[
@@ -330,7 +332,7 @@ class Calls(FollowCase):
 
         for where, names in (
             (Connection, ("consume", "send")),
-            (follower.filter, ("serve", "written_of")),
+            (follower.life.filter, ("serve", "written_of")),
             (follower.noting, ("note_all", "show")),
             (follower.watch, ("tend",)),
             (follower.adder, ("wants_session", "step")),
@@ -418,7 +420,7 @@ class Killed(FollowCase):
         self.patch(follower.watch, "tend", tend)
         with self.assertRaisesRegex(Unfit, "something else"):
             follower.run()
-        self.assertFalse(follower.filter.is_running())
+        self.assertFalse(follower.life.filter.is_running())
         self.assertEqual((self.stored(), self.counted()), (0x118, Counted(0, 0x118, 1, 0x118, 1)))
         self.assertEqual(len(self.lines()), 1)
 
@@ -472,7 +474,7 @@ class Rejected(FollowCase):
 
     def test_one_that_doesnt_open_its_store(self) -> None:
         """It has said nothing of what a killed one before it had stored."""
-        child, words = self.follower().filter, ["/bin/sh", "-c", "exit 1", "sh"]
+        child, words = self.follower().life.filter, ["/bin/sh", "-c", "exit 1", "sh"]
         self.says(f"dies {0x108}")
         for by, told in ((child.words, False), (words, False), (child.words, True), (words, True)):
             child.words = by
@@ -573,7 +575,7 @@ class Told(FollowCase):
         self.takes_late(follower)
         self.server.to_send = missing_commit(0x100)
         self.run_until(
-            follower, lambda: follower.noting.commits == 1 and not follower.filter.waiting
+            follower, lambda: follower.noting.commits == 1 and not follower.life.filter.waiting
         )
         self.assertEqual((self.counted(), len(self.lines())), (Counted(0, 0x108, 1, 0x108, 1), 1))
         self.assertIn("missing", self.progress.findings.found)
@@ -593,9 +595,9 @@ class Told(FollowCase):
         """With this status it has ended well."""
         follower = self.follower()
         ended = FilterEnded(16, "")
-        for end in (follower.finish_filter, follower.end_session_by_ourselves):
+        for end in (follower.life.finish, follower.session.end):
             with mock.patch.multiple(
-                follower.filter,
+                follower.life.filter,
                 create=True,
                 runs=True,
                 takes=False,
@@ -654,13 +656,13 @@ class Strict(FollowCase):
         follower = self.follower(strict=True)
         self.checkpoint.begin_counting(0, False)
         follower.misses.note(Missing(1, 0x108, 1), 0x108)
-        self.patch(follower, "serve", lambda *_: ([], [], []))
-        self.patch(follower.filter, "runs", True)
+        self.patch(follower.life, "serve", lambda *_: ([], [], []))
+        self.patch(follower.life.filter, "runs", True)
         follower.confirming.last_sent = float("inf")
-        follower.attend()
+        follower.requests.upkeep.attend()
         self.assertEqual(len(self.lines()), 1)
         with self.assertRaises(Unfit):
-            follower.tend_misses()
+            follower.life.tend_misses()
 
 
 class Statuses(FollowCase):

@@ -75,7 +75,7 @@ class Case(unittest.TestCase):
 
     def take(self, source: Source) -> bool | None:
         """Takes as much as there is room for, as a session does."""
-        while (more := self.follower.take_payloads(source)) and self.child.has_room():  # type: ignore[arg-type]
+        while (more := self.follower.session.take_payloads(source)) and self.child.has_room():  # type: ignore[arg-type]
             pass
         return more
 
@@ -124,7 +124,7 @@ class Passes(Case):
         self.assertEqual(len(source.left), left)
 
     def test_one_commit_without_its_changes(self) -> None:
-        self.follower.skipping.begin_session(0x200)
+        self.follower.life.form.skipping.begin_session(0x200)
         pair = [begin(0x210, 7), relation(1, "t"), insert(1), commit(0x210, 0x218)]
         with logged() as said:
             self.take(Source(pair))
@@ -136,10 +136,15 @@ class Passes(Case):
     def test_the_recording_says_which_version_is_asked_for(self) -> None:
         """That of the session, which isn't always the one that was said."""
         follower = self.follower
-        follower.proto, follower.streams = 1, False
-        self.assertIn("proto_version '1', publication_names", follower.command(0))
+        follower.life.form.proto, follower.life.form.streams = 1, False
+        self.assertIn(
+            "proto_version '1', publication_names",
+            follower.life.form.command("pgsub", ["pgsub"], 0),
+        )
         chosen = dataclasses.replace(
-            follower.options, proto=follower.proto, streaming=follower.is_streaming()
+            follower.options,
+            proto=follower.life.form.proto,
+            streaming=follower.life.form.is_streaming(),
         )
         connection = mock.Mock()
         connection.parameter.return_value = "13.9"
@@ -150,10 +155,10 @@ class Passes(Case):
 
     def test_whole_transactions_while_it_is_to_come(self) -> None:
         with logged():
-            self.follower.skipping.begin_session(0x211)
-        self.assertIn("streaming 'on'", self.follower.command(0))
-        self.follower.skipping.begin_session(0x210)
-        self.assertNotIn("streaming", self.follower.command(0))
+            self.follower.life.form.skipping.begin_session(0x211)
+        self.assertIn("streaming 'on'", self.follower.life.form.command("pgsub", ["pgsub"], 0))
+        self.follower.life.form.skipping.begin_session(0x210)
+        self.assertNotIn("streaming", self.follower.life.form.command("pgsub", ["pgsub"], 0))
 
     def test_up_to_an_lsn(self) -> None:
         """What comes behind it waits until the copy is taken, in the recording too."""
@@ -165,11 +170,11 @@ class Passes(Case):
         ]
         hold.begin("copy", 10.0)
         hold.go(0x110)
-        self.assertIs(self.follower.take_payloads(Source([*below, *above])), True)  # type: ignore[arg-type]
+        self.assertIs(self.follower.session.take_payloads(Source([*below, *above])), True)  # type: ignore[arg-type]
         self.assertEqual((self.pushed(), self.recorded()), (framed(*below), framed(*below)))
         self.assertEqual((list(self.follower.noting.ends), hold.stops()), ([0x108], True))
         hold.end()
-        self.assertIs(self.follower.take_payloads(Source([keepalive(0x300)])), True)  # type: ignore[arg-type]
+        self.assertIs(self.follower.session.take_payloads(Source([keepalive(0x300)])), True)  # type: ignore[arg-type]
         self.assertIs(self.take(Source([keepalive(0x300)])), False)
         self.assertEqual(self.pushed(), framed(*below, *above, keepalive(0x300)))
 
@@ -179,7 +184,7 @@ class Passes(Case):
         hold.begin("copy", 10.0)
         hold.go(0x110)
         rest = [keepalive(0x110), insert(1), commit(0x100, 0x108)]
-        self.follower.take_payloads(Source([*rest, keepalive(0x110)]))  # type: ignore[arg-type]
+        self.follower.session.take_payloads(Source([*rest, keepalive(0x110)]))  # type: ignore[arg-type]
         self.assertEqual(self.pushed(), framed(begin(0x100, 7), insert(1), *rest))
         self.assertEqual(hold.kept, [keepalive(0x110)])
 
@@ -187,9 +192,9 @@ class Passes(Case):
         hold = self.follower.snapshots.hold
         hold.begin("copy", 10.0)
         hold.go(0x100)
-        self.assertIsNone(self.follower.take_payloads(Source([begin(0x100, 7)], None)))  # type: ignore[arg-type]
+        self.assertIsNone(self.follower.session.take_payloads(Source([begin(0x100, 7)], None)))  # type: ignore[arg-type]
         self.child.runs = False
-        self.follower.disconnect()
+        self.follower.session.disconnect()
         self.assertEqual((hold.kept, self.pushed()), ([], b""))
 
 
@@ -211,7 +216,7 @@ class Rejects(Case):
             )
         )
         with logged() as lines, self.assertRaises(FilterEnded):
-            self.follower.note_end(FilterEnded(REJECTED, said))
+            self.follower.life.note_end(FilterEnded(REJECTED, said))
         return lines
 
     def test_which_commit(self) -> None:

@@ -135,7 +135,7 @@ class Repairs(Case):
         """Ends once all is stored, and compares."""
         self.change()
         self.assertTrue(
-            run.until(lambda: self.is_stored(run) and not run.follower.is_whole),
+            run.until(lambda: self.is_stored(run) and not run.follower.life.form.is_whole),
             (self.said, run.raised),
         )
         run.end()
@@ -495,9 +495,9 @@ class Held(unittest.TestCase):
             self.assertEqual(asked.hold.is_held, is_sent)
 
     def test_sessions(self) -> None:
-        it, stream, asked = mock.Mock(), mock.Mock(), mock.Mock()
+        it, form, asked = mock.Mock(), mock.Mock(), mock.Mock()
         asked.hold = Hold()
-        repairing = Repairing(it, it, it, it, it, it, it, asked, stream)
+        repairing = Repairing(it, it, it, it, it, it, it, asked, it, form)
         found = []
         for wants, streaming, streams, keeps in (
             (False, True, True, False),
@@ -509,7 +509,7 @@ class Held(unittest.TestCase):
             (False, False, False, False),
         ):
             asked.wants_whole, asked.hold.keeps, asked.hold.is_held = wants, keeps, keeps
-            stream.is_streaming.return_value = streaming
+            form.is_streaming.return_value = streaming
             wanted = repairing.wants_session()
             found.append((wanted, repairing.begin_session(streams), repairing.is_whole))
         self.assertEqual(

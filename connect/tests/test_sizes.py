@@ -98,7 +98,7 @@ class Texts(unittest.TestCase):
 class Follows(Case):
     def end(self, status: int, said: str = "") -> list[str]:
         with logged() as lines:
-            self.follower.note_end(FilterEnded(status, said))
+            self.follower.life.note_end(FilterEnded(status, said))
         return lines
 
     def test_killed(self) -> None:
@@ -108,7 +108,7 @@ class Follows(Case):
             [begin(0x100, 7), insert(1) + bytes(LEAST)],
             [begin(0x100, 7), insert(1) + bytes(LEAST), commit(0x100, 0x108)],
         ):
-            self.follower.kills.xid = 0
+            self.follower.life.kills.xid = 0
             for repeat in range(2):
                 self.follower.noting.begin_store()
                 self.child.pending.clear()
@@ -135,7 +135,7 @@ class Follows(Case):
             ["warning: open transactions were too much at a time: they come whole from now on"],
         )
         with logged() as lines, self.assertRaises(FilterEnded):
-            self.follower.note_end(FilterEnded(SPOOL_FULL, "pgsub: spool 1 SpoolFull"))
+            self.follower.life.note_end(FilterEnded(SPOOL_FULL, "pgsub: spool 1 SpoolFull"))
         self.assertIn(
             f"error: transaction 7 had {10 * len(insert(1))} bytes so far, and 100 may be buffered",
             lines[0],
@@ -146,7 +146,7 @@ class Follows(Case):
         self.take(Source([begin(0x100, 7), long, insert(1)]))
         self.follower.options.max_frame = 1 << 16
         with logged() as lines, self.assertRaises(FilterEnded):
-            self.follower.note_end(FilterEnded(FRAME_TOO_LARGE, "pgsub: wire 3 TooLarge"))
+            self.follower.life.note_end(FilterEnded(FRAME_TOO_LARGE, "pgsub: wire 3 TooLarge"))
         self.assertIn(
             f"a message had {len(long)} bytes, and 65536 are accepted: give --max-frame", lines[0]
         )

@@ -104,6 +104,11 @@ class Misses:
             known, table, {MISSING: "; ".join(texts)} if texts else {}
         )
 
+    def take_new(self) -> bool:
+        """Whether there were some since this was asked last."""
+        is_new, self.is_new = self.is_new, False
+        return is_new
+
     def tell(self, is_last: bool = False) -> None:
         """Tells the first one at once, and more of them later, with their number."""
         if (

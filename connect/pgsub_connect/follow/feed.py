@@ -18,7 +18,6 @@ loop only sets what is confirmed.
 from __future__ import annotations
 
 import contextlib
-import dataclasses
 import os
 import threading
 import time
@@ -39,6 +38,7 @@ from ..store.at_rest import has_log
 from ..store.checkpoint import Checkpoint
 from ..store.snapshot import position_in
 from ..stream.filter import Filter, FilterEnded
+from ..stream.statuses import Reached
 from .retention import Limits, feed_bytes, read_readers, retire
 from .tables_process import Beside
 from .tables_process import check as check_tables
@@ -56,15 +56,6 @@ STEP = 0.5
 AGAIN, SLEEP = 5, 0.2
 # What the filter says of a feed that doesn't fit its store.
 NOT_A_FEED = "pgsub: feed 1 NotAFeed"
-
-
-@dataclasses.dataclass(frozen=True)
-class Reached:
-    """What a store has: the LSN up to which all commits are stored, and the end of the last of
-    them."""
-
-    confirmed: int
-    position: int
 
 
 def has_segments(folder: str) -> bool:
@@ -151,7 +142,7 @@ class Feeding:
             )
         self.check_position(child, check)
         self.remembered.note_feed(self.folder)
-        child.words += self.words(check)
+        child.add_words(self.words(check))
         self.keeper = Keeper(self.options, self.folder, self.progress, reached)
         if self.options.tables:
             self.beside = Beside(self.options, self.progress)

@@ -52,6 +52,7 @@ if TYPE_CHECKING:
     from ..store.snapshot import Snapshots
     from ..stream.statuses import Confirming
     from ..stream.stream_log import Noting
+    from .stream_form import StreamForm
 
 # How many bytes of the file are passed on at a time.
 BLOCK = 1 << 17
@@ -64,9 +65,6 @@ class Stream(Protocol):
     def attend(self) -> None:
         """Keeps server and filter content in a session while something else is waited for. Raises
         where the end was asked for."""
-
-    def is_streaming(self) -> bool:
-        """Whether large transactions come while they run."""
 
     def push(self, frames: bytes) -> None:
         """Gives the filter frames, and waits until it has room."""
@@ -121,6 +119,7 @@ class Repairing:
         confirming: Confirming,
         snapshots: Snapshots,
         stream: Stream,
+        form: StreamForm,
     ) -> None:
         self.options, self.checkpoint, self.progress, self.remembered, self.watch = (
             options,
@@ -129,6 +128,7 @@ class Repairing:
             remembered,
             watch,
         )
+        self.form = form
         self.noting, self.confirming, self.snapshots, self.hold, self.stream = (
             noting,
             confirming,
@@ -147,7 +147,7 @@ class Repairing:
     def wants_session(self) -> bool:
         """Whether a session is to begin in place of the one that runs."""
         if self.snapshots.wants_whole:
-            return self.ends_session or self.stream.is_streaming()
+            return self.ends_session or self.form.is_streaming()
         return self.ends_session or self.is_whole and not self.hold.is_held
 
     def begin_session(self, streams: bool) -> bool:

@@ -184,6 +184,13 @@ class Filter:
         """Its process."""
         return self.child.pid
 
+    def use(self, proto: int) -> None:
+        """The next one reads this version of the protocol."""
+        self.proto = proto
+
+    def add_words(self, words: Sequence[str]) -> None:
+        self.words += words
+
     def launch(self) -> None:
         """Starts the filter. Its first status comes once it has opened its store."""
         version.check_program(self.words[0])

@@ -10,11 +10,11 @@ before that.
 
 from __future__ import annotations
 
+import dataclasses
 import time
 from collections.abc import Sequence
 
 from ..drift.missed_rows import Misses
-from ..follow.feed import Reached
 from ..server.connection import Connection
 from ..status.progress import Progress
 from ..store.checkpoint import Checkpoint
@@ -25,6 +25,15 @@ from .stream_log import Noting, final_lsn
 # sync of the checkpoint. Where commits at the server wait for that, as those of tables that aren't
 # published do: so often that at most a part in so many of the time is spent.
 QUIET, PART = 1.0, 5
+
+
+@dataclasses.dataclass(frozen=True)
+class Reached:
+    """What a store has: the LSN up to which all commits are stored, and the end of the last of
+    them."""
+
+    confirmed: int
+    position: int
 
 
 class Confirming:
@@ -161,8 +170,7 @@ class Confirming:
         lsn, began = flushed(status), time.monotonic()
         if lsn > self.checkpoint.known.confirmed:
             self.last_moved = began
-        if self.noting.asked is not None and lsn >= self.noting.asked:
-            self.noting.asked = None
+        self.noting.note_answer(lsn)
         self.held = None
         if lsn > self.noting.stored(lsn, self.position):
             self.note_statuses([status])

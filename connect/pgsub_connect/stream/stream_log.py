@@ -161,6 +161,18 @@ class Noting:
         self.relations = Described()
         self.end = OUTSIDE
 
+    def note_look(self, wants_look: bool) -> None:
+        self.wants_look = wants_look
+
+    def note_long(self, length: int) -> None:
+        """A message of this length is passed on, which is one of the long ones."""
+        self.longest = max(self.longest, length)
+
+    def note_answer(self, lsn: int) -> None:
+        """A status is passed on that confirms up to this LSN."""
+        if self.asked is not None and lsn >= self.asked:
+            self.asked = None
+
     def note_all(self, payloads: Sequence[bytes]) -> None:
         """Notes payloads that were passed on, in one loop: a call for each would cost more than all
         that is done for it."""
