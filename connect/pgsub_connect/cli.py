@@ -51,7 +51,8 @@ from .store import export
 from .store.checkpoint import Checkpoint
 from .store.placing import check_meant
 from .store.snapshot import Snapshots, part_of
-from .stream.filter import Filter, FilterEnded
+from .stream.filter import Filter
+from .stream.filter_end import FilterEnded
 from .verify import tables_file as tables_verifying
 
 REJECTED, USAGE, FILE, SERVER, UNFIT, BUG, PASSING, NO_SLOT, MISSED = 1, 2, 3, 4, 5, 6, 7, 8, 9

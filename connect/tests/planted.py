@@ -76,14 +76,14 @@ BUGS = (
     ),
     Bug(
         "changes of a block are counted with the xid in their key",
-        "pgsub_connect/stream/stream_log.py",
+        "pgsub_connect/stream/transactions.py",
         "key = key[:1] + key[5:]",
         "key = key[:5]",
         ("test_noting",),
     ),
     Bug(
         "TRUNCATEs of tables that nobody knows are kept one by one",
-        "pgsub_connect/stream/stream_log.py",
+        "pgsub_connect/stream/transactions.py",
         "if is_met(oid) else UNKNOWN)",
         "if oid else UNKNOWN)",
         ("test_noting_memory",),
@@ -97,7 +97,7 @@ BUGS = (
     ),
     Bug(
         "Relation messages of a rollback stay",
-        "pgsub_connect/stream/stream_log.py",
+        "pgsub_connect/stream/transactions.py",
         "        self.relations.abort(subxid)\n",
         "",
         ("test_noting",),
@@ -153,7 +153,7 @@ BUGS = (
     ),
     Bug(
         "a long message is copied for a filter that is slow",
-        "pgsub_connect/stream/filter.py",
+        "pgsub_connect/stream/filter_input.py",
         "if len(rest) >= PIECE:",
         "if not rest:",
         ("test_filtering",),
@@ -188,7 +188,7 @@ BUGS = (
     ),
     Bug(
         "the last byte of the longest payloads is lost",
-        "pgsub_connect/stream/filter.py",
+        "pgsub_connect/stream/frames.py",
         'head = pack_header(b"d", length + 4)',
         'head = pack_header(b"d", min(length, 60000) + 4)',
         ("test_passing",),
@@ -462,13 +462,13 @@ BUGS = (
     Bug(
         "a status is passed on before what was said before it is read",
         "pgsub_connect/stream/filter.py",
-        " or statuses and self.has_said():",
+        " or statuses and self.said.has_said():",
         ":",
         ("test_filtering", "test_missing"),
     ),
     Bug(
         "a line that comes in two parts is lost",
-        "pgsub_connect/stream/filter.py",
+        "pgsub_connect/stream/filter_said.py",
         "(self.line + piece).split",
         "piece.split",
         ("test_filtering", "test_missing"),

@@ -29,7 +29,8 @@ from pgsub_connect.status.progress import Progress
 from pgsub_connect.store import checkpoint as known_of
 from pgsub_connect.store.checkpoint import Checkpoint
 from pgsub_connect.store.snapshot import part_of
-from pgsub_connect.stream.filter import Filter, FilterEnded
+from pgsub_connect.stream.filter import Filter
+from pgsub_connect.stream.filter_end import FilterEnded
 from tests.fake_server import FakeServer, Quiet, Row
 from tests.row_filter import Store, Subscriber
 from tests.vectors import PGSUB, a_catalog, a_table

@@ -27,7 +27,7 @@ from pgsub_connect.follow.tables_process import Beside, words_of
 from pgsub_connect.status.metrics import metrics_text
 from pgsub_connect.status.progress import Progress
 from pgsub_connect.status.status_file import status_fields
-from pgsub_connect.stream.filter import FilterEnded
+from pgsub_connect.stream.filter_end import FilterEnded
 from pgsub_connect.stream.statuses import Reached
 from pgsub_feed.reader.positions import Noted, make_folder
 from pgsub_feed.reader.segments import CONFIRMED, Reader, read_confirmed, segments

@@ -35,7 +35,9 @@ from pgsub_connect.store.checkpoint import Checkpoint
 from pgsub_connect.store.snapshot import Snapshots
 from pgsub_connect.stream import statuses
 from pgsub_connect.stream.awake import Awake
-from pgsub_connect.stream.filter import Filter, FilterEnded, flushed
+from pgsub_connect.stream.filter import Filter
+from pgsub_connect.stream.filter_end import FilterEnded
+from pgsub_connect.stream.frames import flushed
 from pgsub_feed.texts import lsn_text, parse_lsn
 
 from .fake_server import FakeServer, Quiet, Row

@@ -21,7 +21,7 @@ from pgsub_connect.status.progress import Progress
 from pgsub_connect.store.at_rest import read_request
 from pgsub_connect.store.snapshot import Snapshots
 from pgsub_connect.stream import gate
-from pgsub_connect.stream.filter import flushed
+from pgsub_connect.stream.frames import flushed
 from pgsub_connect.stream.gate import Gating, Making, is_shared, too_large_to_copy
 from pgsub_connect.stream.hold import Hold
 from pgsub_connect.verify.meeting_point import Request

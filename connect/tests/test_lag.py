@@ -10,7 +10,8 @@ from pgsub_connect.drift.remembered import Remembered
 from pgsub_connect.status.lag import Lag
 from pgsub_connect.status.progress import STATES, Progress
 from pgsub_connect.status.status_file import status_fields
-from pgsub_connect.stream.stream_log import EPOCH, Noting
+from pgsub_connect.stream.messages import EPOCH
+from pgsub_connect.stream.stream_log import Noting
 
 from . import vectors
 

@@ -24,7 +24,9 @@ from pgsub_connect.status.progress import Progress
 from pgsub_connect.status.status_file import status_fields
 from pgsub_connect.store.checkpoint import Checkpoint, Counted, Known
 from pgsub_connect.stream.awake import Awake
-from pgsub_connect.stream.filter import FilterEnded, Missing, flushed
+from pgsub_connect.stream.filter_end import FilterEnded, Missing
+from pgsub_connect.stream.filter_input import FilterInput
+from pgsub_connect.stream.frames import flushed
 
 from .test_following import FAKE, Case
 from .vectors import a_catalog, a_table, begin, commit, delete, insert, keepalive
@@ -122,7 +124,7 @@ class Order(FollowCase):
         def holds() -> bool:
             # (the second part of a line is said once the first one was read)
             child = follower.life.filter
-            if child.runs and child.line and child.missing.total not in heard:
+            if child.runs and child.said.line and child.missing.total not in heard:
                 heard.add(child.missing.total)
                 Path(self.folder, "goes_on").touch()
             return self.confirmed() >= end
@@ -227,9 +229,8 @@ class Order(FollowCase):
         self.checkpoint.begin_counting(0x100, False)
 
         def serve(*_: object) -> tuple[list[int], list[int], list[bytes]]:
-            follower.life.filter.status, follower.life.filter.missing = status(0x108), Missing(
-                1, 0x108, 1
-            )
+            follower.life.filter.status = status(0x108)
+            follower.life.filter.said.missing = Missing(1, 0x108, 1)
             return [], [], [status(0x108)]
 
         self.patch(follower.life.filter, "serve", serve)
@@ -332,7 +333,8 @@ class Calls(FollowCase):
 
         for where, names in (
             (Connection, ("consume", "send")),
-            (follower.life.filter, ("serve", "written_of")),
+            (follower.life.filter, ("serve",)),
+            (FilterInput, ("written_of",)),
             (follower.noting, ("note_all", "show")),
             (follower.watch, ("tend",)),
             (follower.adder, ("wants_session", "step")),

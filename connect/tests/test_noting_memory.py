@@ -13,7 +13,8 @@ from collections.abc import Iterable, Iterator
 
 from pgsub_connect.drift.remembered import Remembered
 from pgsub_connect.status.counters import StreamCounters
-from pgsub_connect.stream.stream_log import Noting, relation_of
+from pgsub_connect.stream.messages import relation_of
+from pgsub_connect.stream.stream_log import Noting
 
 from . import vectors
 from .vectors import a_catalog, a_table, begin, commit, data, insert, relation

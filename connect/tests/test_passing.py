@@ -19,7 +19,9 @@ from pgsub_connect.follow.follower import Follower
 from pgsub_connect.status.progress import Progress
 from pgsub_connect.store.checkpoint import Checkpoint
 from pgsub_connect.store.snapshot import Snapshots
-from pgsub_connect.stream.filter import PIECE, REJECTED, ROOM, Filter, FilterEnded
+from pgsub_connect.stream.filter import Filter
+from pgsub_connect.stream.filter_end import REJECTED, FilterEnded
+from pgsub_connect.stream.filter_input import PIECE, ROOM
 
 from .vectors import a_catalog, a_table, begin, commit, insert, keepalive, logged, relation
 
@@ -59,7 +61,11 @@ class Case(unittest.TestCase):
         remembered.begin_copy(a_catalog(a_table(1, "t")), 100)
         self.child = Filter([FAKE, "follow", "--store", self.store], ())
         self.addCleanup(self.child.kill)
-        self.child.pending, self.child.waiting, self.child.written = collections.deque(), 0, 0
+        self.child.input.pending, self.child.input.waiting, self.child.input.written = (
+            collections.deque(),
+            0,
+            0,
+        )
         self.recording = Recording(folder.name + "/r.pgx", False, 1 << 30)
         self.addCleanup(self.recording.out.close)
         options = Options(store=self.store, publication=["pgsub"], skip=0x210)
@@ -80,7 +86,7 @@ class Case(unittest.TestCase):
         return more
 
     def pushed(self) -> bytes:
-        return b"".join(self.child.pending)
+        return b"".join(self.child.input.pending)
 
     def recorded(self) -> bytes:
         self.recording.flush()
@@ -98,7 +104,7 @@ class Passes(Case):
             commit(0x100, 0x108),
         ]
         for then, result in ((b"", False), (None, None)):
-            self.child.pending.clear()
+            self.child.input.pending.clear()
             self.assertIs(self.take(Source(payloads, then)), result)
             self.assertEqual(self.pushed(), framed(*payloads))
 
@@ -106,7 +112,7 @@ class Passes(Case):
         with self.assertRaises(ServerError):
             self.take(Source([begin(0x100, 7), insert(1)], ServerError("gone")))
         self.assertEqual(self.pushed(), framed(begin(0x100, 7), insert(1)))
-        self.assertEqual(self.child.waiting, len(self.pushed()))
+        self.assertEqual(self.child.input.waiting, len(self.pushed()))
 
     def test_long_ones_between(self) -> None:
         long = insert(1) + bytes(3 * PIECE)
@@ -118,7 +124,7 @@ class Passes(Case):
         source = Source([insert(1) + bytes(10000)] * 1000)
         self.assertIs(self.take(source), True)
         self.assertFalse(self.child.has_room())
-        self.assertLess(self.child.waiting, ROOM + 2 * 10100)
+        self.assertLess(self.child.input.waiting, ROOM + 2 * 10100)
         left = len(source.left)
         self.assertIs(self.take(source), True)
         self.assertEqual(len(source.left), left)

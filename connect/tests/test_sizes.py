@@ -6,7 +6,7 @@ import unittest
 
 from pgsub_connect.cli import REJECTED, status_of
 from pgsub_connect.commands.options import Options
-from pgsub_connect.stream.filter import FRAME_TOO_LARGE, MEMORY, SPOOL_FULL, FilterEnded
+from pgsub_connect.stream.filter_end import FRAME_TOO_LARGE, MEMORY, SPOOL_FULL, FilterEnded
 from pgsub_connect.stream.memory_limit import LONGEST_FRAME
 from pgsub_connect.stream.too_large import LEAST, KilledTwice, Kills, text_of
 
@@ -111,12 +111,12 @@ class Follows(Case):
             self.follower.life.kills.xid = 0
             for repeat in range(2):
                 self.follower.noting.begin_store()
-                self.child.pending.clear()
-                self.child.waiting = 0
+                self.child.input.pending.clear()
+                self.child.input.waiting = 0
                 source = Source([begin(0x90, 6), insert(1), commit(0x90, 0x98), *payloads])
                 while self.take(source):
-                    self.child.pending.clear()
-                    self.child.waiting = 0
+                    self.child.input.pending.clear()
+                    self.child.input.waiting = 0
                 if repeat:
                     with self.assertRaisesRegex(
                         KilledTwice, f"twice in the transaction 7, of which {LEAST}"[:-3]

@@ -30,7 +30,7 @@ from pgsub_connect.errors import (
 )
 from pgsub_connect.server import followed_publications
 from pgsub_connect.server.followed_publications import require_published
-from pgsub_connect.stream.filter import FilterEnded
+from pgsub_connect.stream.filter_end import FilterEnded
 from pgsub_connect.stream.too_large import KilledTwice
 
 from .fake_server import FakeServer, Quiet, Row

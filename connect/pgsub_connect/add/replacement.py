@@ -90,7 +90,7 @@ from collections.abc import Sequence
 from ..copy.messages import InsertHeads, begin, commit, frame, inserts, relation
 from ..errors import ServerError
 from ..server.publications import Table
-from ..stream.stream_log import BEGIN, CHANGES, COMMIT, RELATION, START, TRUNCATE, final_lsn
+from ..stream.messages import BEGIN, CHANGES, COMMIT, RELATION, START, TRUNCATE, final_lsn
 
 # FrozenTransactionId.
 XID = 2

@@ -24,7 +24,7 @@ from ..server.session import (
     tell_version_1,
     unsettle_for_slot,
 )
-from ..stream.filter import COPY_DONE, header
+from ..stream.frames import COPY_DONE, header
 
 if TYPE_CHECKING:
     from .options import Options

@@ -58,7 +58,8 @@ from ..store import checkpoint as known_of
 from ..store.at_rest import hold
 from ..store.snapshot import COPYING, meant, sync_folder
 from ..stream import too_large
-from ..stream.filter import Filter, FilterEnded
+from ..stream.filter import Filter
+from ..stream.filter_end import FilterEnded
 from .messages import begin, commit, frame
 from .table_reader import LOCK_TIMEOUT, Left, Part, Readers, take_snapshot
 

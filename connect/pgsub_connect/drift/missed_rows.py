@@ -25,7 +25,7 @@ from .remembered import Remembered
 
 if TYPE_CHECKING:
     from ..commands.options import Options
-    from ..stream.filter import Missing
+    from ..stream.filter_end import Missing
 
 # After how many seconds more of them are told at the earliest.
 AGAIN = 10.0

@@ -37,7 +37,8 @@ from ..server.session import identify, settle
 from ..store.at_rest import has_log
 from ..store.checkpoint import Checkpoint
 from ..store.snapshot import position_in
-from ..stream.filter import Filter, FilterEnded
+from ..stream.filter import Filter
+from ..stream.filter_end import FilterEnded
 from ..stream.statuses import Reached
 from .retention import Limits, feed_bytes, read_readers, retire
 from .tables_process import Beside

@@ -18,7 +18,8 @@ from ..errors import FileError, FilterFault, Passing, Stopped
 from ..status.progress import Progress
 from ..stream import too_large
 from ..stream.awake import Awake
-from ..stream.filter import MISSED, Filter, FilterEnded
+from ..stream.filter import Filter
+from ..stream.filter_end import MISSED, FilterEnded
 from ..stream.statuses import Confirming
 from .ending import Ending
 from .feed import Feeding

@@ -17,7 +17,8 @@ from ..server.publications import with_cure
 from ..status.progress import Progress
 from ..store.checkpoint import Checkpoint
 from ..store.snapshot import Snapshots
-from ..stream.filter import Filter, FilterEnded
+from ..stream.filter import Filter
+from ..stream.filter_end import FilterEnded
 from ..stream.skip import Skipping
 from ..stream.statuses import Confirming
 from ..stream.stream_log import Noting
@@ -29,14 +30,13 @@ from .repair import Repairing
 from .requests import Requests
 from .schedule import Delay, Schedule
 from .session import Session
-from .session_start import SessionStart
+from .session_start import Recording, SessionStart
 from .stall import Standing
 from .stream_form import StreamForm
 from .upkeep import Upkeep
 
 if TYPE_CHECKING:
     from ..commands.options import Options
-    from ..commands.record import Aside
 
 # An error that the server doesn't expect of itself. PostgreSQL 15 has one (`could not map filenode
 # .. to relation OID`) where it streams a transaction beside a TRUNCATE, at each try. The same
@@ -53,7 +53,7 @@ class Follower:
         checkpoint: Checkpoint,
         child: Filter,
         progress: Progress,
-        recording: Aside | None,
+        recording: Recording | None,
         snapshots: Snapshots,
         remembered: Remembered,
         feeding: Feeding | None = None,
@@ -61,9 +61,9 @@ class Follower:
         self.options, self.progress, self.snapshots = options, progress, snapshots
         self.ending = ending = Ending(progress, options.until)
         self.noting = noting = Noting(progress.stream, remembered)
-        self.watch = watch = Watch(options, checkpoint, progress, remembered)
-        self.misses = Misses(options, checkpoint, progress, remembered)
-        self.confirming = confirming = Confirming(checkpoint, child, progress, noting, self.misses)
+        known = options, checkpoint, progress, remembered
+        self.watch, self.misses = watch, misses = Watch(*known), Misses(*known)
+        self.confirming = confirming = Confirming(checkpoint, child, progress, noting, misses)
         form = StreamForm(options.proto, Skipping(options.skip, checkpoint, progress, remembered))
         self.life = life = FilterLife(
             options, child, progress, confirming, watch, form, ending, feeding
@@ -71,29 +71,8 @@ class Follower:
         schedule = Schedule(options, progress, confirming, snapshots.hold)
         self.standing = standing = Standing(child, progress)
         upkeep = Upkeep(options, life, schedule, standing, ending)
-        self.adder = Adder(
-            options,
-            checkpoint,
-            progress,
-            remembered,
-            watch,
-            noting,
-            confirming,
-            snapshots.hold,
-            upkeep,
-        )
-        repairing = Repairing(
-            options,
-            checkpoint,
-            progress,
-            remembered,
-            watch,
-            noting,
-            confirming,
-            snapshots,
-            upkeep,
-            form,
-        )
+        self.adder = Adder(*known, watch, noting, confirming, snapshots.hold, upkeep)
+        repairing = Repairing(*known, watch, noting, confirming, snapshots, upkeep, form)
         snapshots.adds, snapshots.is_streaming, snapshots.reached = (
             self.adder.take,
             form.is_streaming,
@@ -101,13 +80,11 @@ class Follower:
         )
         snapshots.delays_commits = progress.server.note_standbys
         self.requests = Requests(options, snapshots, self.adder, repairing, upkeep, ending)
-        fitting = Fitting(options, checkpoint, watch)
-        self.start = SessionStart(
-            options, life, fitting, self.requests, schedule, ending, recording
-        )
+        fitting, requests = Fitting(options, checkpoint, watch), self.requests
+        self.start = SessionStart(options, life, fitting, requests, schedule, ending, recording)
         self.delay, self.repeats = Delay(), Repeats(options)
         self.session = Session(
-            options, self.start, life, self.requests, schedule, standing, self.delay, ending
+            options, self.start, life, requests, schedule, standing, self.delay, ending
         )
 
     @property
@@ -151,8 +128,9 @@ class Follower:
             finally:
                 self.session.disconnect()
             self.wait()
+        self.progress.enter("stopping")
         self.life.finish()
-        self.snapshots.wait()
+        self.snapshots.wait(self.progress.beat)
 
     def note_error(self, error: ServerError) -> None:
         """Notes what the server said. Raises where the same would come of another try, or where it

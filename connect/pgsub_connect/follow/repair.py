@@ -42,7 +42,7 @@ from ..copy.messages import begin, commit, frame
 from ..errors import ServerError
 from ..status.progress import Progress
 from ..stream.hold import CHANGES
-from ..stream.stream_log import EPOCH, relation_of
+from ..stream.messages import EPOCH, relation_of
 
 if TYPE_CHECKING:
     from ..commands.options import Options

@@ -12,7 +12,8 @@ from ..drift.differences import PUBLICATION
 from ..drift.findings import NOTHING, About
 from ..errors import ServerError
 from ..server.connection import Connection
-from ..stream.filter import PIECE, FilterEnded
+from ..stream.filter_end import FilterEnded
+from ..stream.filter_input import PIECE
 from .ending import Ending
 from .filter_life import STEP, FilterLife, check_end
 from .requests import Requests
@@ -73,7 +74,7 @@ class Session:
                 self.note_left_out(connection.left_out)
             self.life.tend_misses()
             self.noting.show()
-            self.noting.note_look(self.look_again())
+            self.noting.relation_log.note_look(self.look_again())
             if more is None:
                 log.warning("the server ended the session")
                 return
@@ -142,7 +143,7 @@ class Session:
     def look_again(self) -> bool:
         """Looks at the publications, where it is time. Returns whether a look is still wanted."""
         serve, position = self.requests.upkeep.serve_server, self.confirming.position
-        return self.life.watch.tend(self.noting.wants_look, serve, position)
+        return self.life.watch.tend(self.noting.relation_log.wants_look, serve, position)
 
     def keep_on(self, began: float) -> None:
         """Does what is due by now. Raises where the session makes no sense any more."""

@@ -3,7 +3,7 @@
 from __future__ import annotations
 
 import dataclasses
-from typing import TYPE_CHECKING
+from typing import TYPE_CHECKING, Protocol
 
 from pgsub_feed import log
 from pgsub_feed.texts import lsn_text
@@ -20,11 +20,20 @@ from .schedule import Schedule
 
 if TYPE_CHECKING:
     from ..commands.options import Options
-    from ..commands.record import Aside
 
 # What a standby says that can't be followed: it has no such feature, or the slot is one that it
 # only keeps for its promotion.
 NOT_AT_STANDBYS = ("0A", "55000")
+
+
+class Recording(Protocol):
+    """What keeps the stream in a file beside the store."""
+
+    def begin_session(self, connection: Connection, options: Options, start: int) -> None:
+        """A session begins that asks for the changes from this LSN on."""
+
+    def write_payload(self, payload: bytes) -> None:
+        """This has come."""
 
 
 class SessionStart:
@@ -38,7 +47,7 @@ class SessionStart:
         requests: Requests,
         schedule: Schedule,
         ending: Ending,
-        recording: Aside | None,
+        recording: Recording | None,
     ) -> None:
         self.options, self.life, self.fitting, self.requests = options, life, fitting, requests
         self.schedule, self.ending, self.recording = schedule, ending, recording
@@ -104,7 +113,7 @@ class SessionStart:
         # (on another connection: what a session's process has in its caches, it would decode older
         # changes by)
         if not self.life.watch.look_again(self.ending.check, self.confirming.position):
-            noting.note_look(True)
+            noting.relation_log.note_look(True)
         form.skipping.begin_session(self.filter.confirmed())
         form.note_whole(self.requests.begin_session(form.streams))
         noting.begin_session()

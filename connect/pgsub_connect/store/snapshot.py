@@ -17,6 +17,7 @@ from pgsub_feed.ownership import real
 from pgsub_feed.texts import lsn_text, parse_lsn
 
 from ..errors import FileError, Stopped
+from ..server.connection import never
 from ..stream.gate import too_large_to_copy
 from ..stream.hold import LONGEST, Hold, read_locked, write_request
 
@@ -306,10 +307,11 @@ class Snapshots:
         if into is not None:
             self.answer(into, why)
 
-    def wait(self) -> None:
+    def wait(self, tick: Callable[[], None] = never) -> None:
         """Waits for a copy that is being made."""
-        if self.finishing:
-            self.finishing.join()
+        while self.finishing and self.finishing.is_alive():
+            self.finishing.join(LOOK)
+            tick()
 
 
 def path_of(said: object) -> str | None:

@@ -30,7 +30,7 @@ import tempfile
 import threading
 import time
 from collections.abc import Callable
-from typing import TYPE_CHECKING
+from typing import TYPE_CHECKING, Protocol
 
 from pgsub_feed.texts import parse_lsn
 
@@ -41,7 +41,6 @@ from .hold import Hold
 
 if TYPE_CHECKING:
     from ..commands.options import Options
-    from ..verify.meeting_point import Source
 
 # How often it is looked whether the slot still waits, and again where the server couldn't be asked,
 # in seconds.
@@ -137,10 +136,17 @@ class Gating:
         self.connection, self.end, self.next = None, 0, 0.0
 
 
+class SlotMaker(Protocol):
+    """A connection that makes a slot."""
+
+    def make_slot(self, seconds: float, check_end: Check | None = None) -> tuple[int, str]:
+        """Returns its consistent point and its snapshot."""
+
+
 class Making(threading.Thread):
     """Makes a slot while the follower goes on."""
 
-    def __init__(self, source: Source, seconds: float) -> None:
+    def __init__(self, source: SlotMaker, seconds: float) -> None:
         super().__init__(daemon=True)
         self.source, self.seconds = source, seconds
         self.given_up = threading.Event()

@@ -60,7 +60,7 @@ from typing import Any
 
 from pgsub_feed.json_texts import Unreadable, object_of, open_plain, parsed, read_whole
 
-from .stream_log import BEGIN, COMMIT, STREAM_COMMIT, final_lsn
+from .messages import BEGIN, COMMIT, STREAM_COMMIT, final_lsn
 
 # The most seconds that a request may ask for.
 LONGEST = 610.0

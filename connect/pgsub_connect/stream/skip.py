@@ -14,18 +14,8 @@ from pgsub_feed.texts import lsn_text
 from ..drift.remembered import Remembered
 from ..status.progress import Progress
 from ..store.checkpoint import Checkpoint
-from .stream_log import (
-    BEGIN,
-    CHANGES,
-    COMMIT,
-    OUTSIDE,
-    TRUNCATE,
-    TRUNCATED,
-    changes_text,
-    count_truncates,
-    final_lsn,
-    xid_of,
-)
+from .messages import BEGIN, CHANGES, COMMIT, OUTSIDE, TRUNCATE, final_lsn, xid_of
+from .transactions import TRUNCATED, changes_text, count_truncates
 
 MESSAGE = 0x4D
 LEFT_OUT = bytes([*CHANGES, TRUNCATE, MESSAGE])

@@ -18,8 +18,10 @@ from ..drift.missed_rows import Misses
 from ..server.connection import Connection
 from ..status.progress import Progress
 from ..store.checkpoint import Checkpoint
-from .filter import Filter, asking, flushed, lowered
-from .stream_log import Noting, final_lsn
+from .filter import Filter
+from .frames import asking, flushed, lowered
+from .messages import final_lsn
+from .stream_log import Noting
 
 # How often a position that a keepalive alone has moved is passed on, in seconds. Each time costs a
 # sync of the checkpoint. Where commits at the server wait for that, as those of tables that aren't

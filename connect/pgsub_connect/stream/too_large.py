@@ -5,7 +5,7 @@ from __future__ import annotations
 
 from typing import TYPE_CHECKING
 
-from .filter import FRAME_TOO_LARGE, SPOOL_FULL, FilterEnded
+from .filter_end import FRAME_TOO_LARGE, SPOOL_FULL, FilterEnded
 from .memory_limit import LONGEST_FRAME
 
 if TYPE_CHECKING:
