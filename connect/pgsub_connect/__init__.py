@@ -10,7 +10,8 @@ program's statuses back.
 | the first rows | `copy` |
 | one table within the stream | `add` |
 | copy and server compared, and repaired | `verify` |
-| the stream | `follow` |
+| the stream: the filter, its statuses, what is noted and held | `stream` |
+| a follower: its sessions, and what goes on beside them | `follow` |
 | the command line | `commands` |
 | the decoder as a library, which nothing else here uses | `embedded` |
 """

@@ -38,19 +38,21 @@ from .errors import (
     UsageError,
 )
 from .follow.feed import Feeding
-from .follow.filter import Filter, FilterEnded
 from .follow.follower import Follower
 from .follow.server_watch import Asker
 from .server import transport
 from .server.connection import Check
 from .server.followed_publications import require_published
 from .status.files import Reporter
+from .status.notify import notifier_of
 from .status.progress import Progress
 from .store import checkpoint as known_of
 from .store import export
 from .store.checkpoint import Checkpoint
 from .store.placing import check_meant
 from .store.snapshot import Snapshots, part_of
+from .stream.filter import Filter
+from .stream.filter_end import FilterEnded
 from .verify import tables_file as tables_verifying
 
 REJECTED, USAGE, FILE, SERVER, UNFIT, BUG, PASSING, NO_SLOT, MISSED = 1, 2, 3, 4, 5, 6, 7, 8, 9
@@ -116,7 +118,7 @@ def follow(options: Options) -> int:
         raise no_store(options)
     checkpoint = Checkpoint(options.store, start.check)
     transport.OWN.begin(checkpoint.known.encrypted, options.accept)
-    progress = Progress()
+    progress = Progress(notifier_of(os.environ))
     remembered = Remembered(options.store, options.mode)
     feeding = Feeding(options, checkpoint, progress, remembered)
     feeding.check()
@@ -151,16 +153,17 @@ def follow(options: Options) -> int:
         if not os.path.exists(options.store):
             begin(options, checkpoint, copier, remembered, follower.check_stop)
             # (a server that is lost from now on is waited for)
-            follower.was_connected = copier.was_connected
+            follower.note_connected(copier.was_connected)
         elif options.table or options.all_tables:
             require_published(options, follower.check_stop)
         feeding.begin(child, follower.confirming.stored, follower.check_stop)
         follower.run()
-        progress.state = "stopped"
+        progress.enter("stopped")
     except Stopped:
-        progress.state = "stopped"
+        progress.enter("stopped")
     except Exception as error:
-        progress.state, progress.last_error = "failed", str(error)
+        progress.note_error(str(error))
+        progress.enter("failed")
         raise
     finally:
         child.kill()

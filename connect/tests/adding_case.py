@@ -18,13 +18,14 @@ from pgsub_connect.commands.drop import read_known
 from pgsub_connect.commands.options import Options
 from pgsub_connect.drift import watch
 from pgsub_connect.drift.remembered import Remembered
-from pgsub_connect.follow import follower, statuses
-from pgsub_connect.follow.filter import Filter
+from pgsub_connect.follow import filter_life, follower, schedule, session, upkeep
 from pgsub_connect.follow.follower import Follower
 from pgsub_connect.server import connection
 from pgsub_connect.status.progress import Progress
 from pgsub_connect.store.checkpoint import Checkpoint
 from pgsub_connect.store.snapshot import Snapshots
+from pgsub_connect.stream import statuses
+from pgsub_connect.stream.filter import Filter
 from pgsub_feed.texts import lsn_text
 
 from .fake_server import FakeServer, Quiet, Row
@@ -181,11 +182,12 @@ class Case(Quiet):
         self.addCleanup(self.server.close)
         for where, name, by in (
             (connection, "TICK", 0.02),
-            (follower, "STEP", 0.02),
+            *((it, "STEP", 0.02) for it in (filter_life, follower, schedule, session, upkeep)),
+            (filter_life, "SLEEP", 0.02),
             (follower, "SLEEP", 0.02),
-            (follower, "ASK", 0.02),
+            (schedule, "ASK", 0.02),
             (statuses, "QUIET", 0.05),
-            (follower, "FIRST_DELAY", 0.01),
+            (schedule, "FIRST_DELAY", 0.01),
             (adder, "FIRST_DELAY", 0.02),
             (adder, "Source", WorldSource),
             (watch.Watch, "compare", lambda *_: True),
@@ -266,7 +268,7 @@ class Case(Quiet):
                 changed = True
                 self.change()
             # (a session that has left out changes is followed by one that leaves out none)
-            return changed and self.is_stored(run) and not run.follower.is_whole
+            return changed and self.is_stored(run) and not run.follower.life.form.is_whole
 
         self.assertTrue(
             run.until(is_done), (self.said, run.raised, run.checkpoint.known, run.remembered.wanted)

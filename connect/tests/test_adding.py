@@ -28,7 +28,7 @@ class Added(Case):
         self.want(T)
         self.change()
         run = self.goes_on()
-        self.assertEqual(run.progress.adding, {})
+        self.assertEqual(run.progress.findings.adding, {})
         self.assertIn("public.t: 27 rows as of", " ".join(self.said))
 
     def test_a_request_while_it_runs(self) -> None:

@@ -11,8 +11,8 @@ import unittest
 from pathlib import Path
 from unittest import mock
 
-from pgsub_connect.follow import awake
-from pgsub_connect.follow.awake import RARELY, Awake, processors
+from pgsub_connect.stream import awake
+from pgsub_connect.stream.awake import RARELY, Awake, processors
 
 from .fake_server import Quiet
 

@@ -11,7 +11,7 @@ from unittest import mock
 from pgsub_connect import version as version_module
 from pgsub_connect.commands.words import version
 from pgsub_connect.errors import Passing
-from pgsub_connect.follow.filter import Filter
+from pgsub_connect.stream.filter import Filter
 
 FAKE = os.path.join(os.path.dirname(os.path.abspath(__file__)), "fake_filter.py")
 TEXT = "version 0.1.0+1\ncommit abc\nkit a-kit logic 1\nprogram 0123456789abcdef\n"

@@ -27,7 +27,8 @@ from pgsub_connect.server.preflight import (
 )
 from pgsub_connect.server.publication_setup import Wanted
 from pgsub_connect.server.transport import Protection
-from tests.fake_server import FakeServer, connection_to
+
+from .fake_server import FakeServer, connection_to
 
 SETTINGS = {
     "wal_level": "logical",

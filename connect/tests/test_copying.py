@@ -20,7 +20,6 @@ from pgsub_connect.copy.copier import CHANGED, Copier, Tries, altered_tables, cr
 from pgsub_connect.copy.messages import InsertHeads, begin, commit, frame, inserts, relation
 from pgsub_connect.drift.remembered import Remembered
 from pgsub_connect.errors import Passing, ServerError, Stopped, Unfit, UsageError
-from pgsub_connect.follow.filter import Filter, FilterEnded
 from pgsub_connect.server import publication_setup
 from pgsub_connect.server import waits as waits_module
 from pgsub_connect.server.catalog import Catalog, Partition
@@ -30,9 +29,12 @@ from pgsub_connect.status.progress import Progress
 from pgsub_connect.store import checkpoint as known_of
 from pgsub_connect.store.checkpoint import Checkpoint
 from pgsub_connect.store.snapshot import part_of
-from tests.fake_server import FakeServer, Quiet, Row
-from tests.row_filter import Store, Subscriber
-from tests.vectors import PGSUB, a_catalog, a_table
+from pgsub_connect.stream.filter import Filter
+from pgsub_connect.stream.filter_end import FilterEnded
+
+from .fake_server import FakeServer, Quiet, Row
+from .row_filter import Store, Subscriber
+from .vectors import PGSUB, a_catalog, a_table
 
 POINT = 0x1000028
 STOCK = Table(
@@ -223,7 +225,7 @@ class Locks(Copying):
         self.assertEqual(
             (
                 self.said.count("public.stock is locked by others: it is read later"),
-                self.progress.copied_rows,
+                self.progress.copy.rows,
             ),
             (1, 2),
         )
@@ -251,7 +253,7 @@ class Sent(Copying):
             ).hex(" "),
         )
         self.assertEqual(
-            (self.progress.copied_rows, self.progress.copy_total_rows, self.progress.copying),
+            (self.progress.copy.rows, self.progress.copy.total_rows, self.progress.copy.table),
             (2, 3, None),
         )
         self.assertEqual(self.checkpoint.known.phase, known_of.COPIED)
@@ -394,7 +396,7 @@ class Order(Copying):
             self.patch(copier_module, "published_tables", lambda *_, left=left: left.pop(0))
             self.copier().run()
             self.assertEqual(list(self.later()), [after[-1].oid])
-            self.assertEqual(self.progress.copied_rows, 2 if len(after) > 1 else 0)
+            self.assertEqual(self.progress.copy.rows, 2 if len(after) > 1 else 0)
 
     def test_altered_tables(self) -> None:
         one, two = a_table(1, "one"), a_table(2, "two", kind="p")
@@ -668,7 +670,7 @@ class Ends(Copying):
         with self.assertRaises(Passing):
             copier.run()
         self.assertEqual(len(self.server.told("pg_export_snapshot")), 10)
-        self.assertEqual(self.progress.copied_rows, 0)
+        self.assertEqual(self.progress.copy.rows, 0)
 
     def test_a_slot_that_is_lost_while_rows_come(self) -> None:
         """Nothing can follow on the copy, so it ends at once, and the next start copies anew."""
@@ -895,7 +897,7 @@ class Kept(Copying):
         remembered = Remembered(self.store)
         self.assertEqual(remembered.catalog and list(remembered.catalog.tables), [16385])
         self.assertEqual(
-            (list(remembered.sent), self.progress.copied_tables, len(self.server.told("COPY ("))),
+            (list(remembered.sent), self.progress.copy.tables, len(self.server.told("COPY ("))),
             ([16385], 1, 1),
         )
         self.assertIn(
@@ -928,7 +930,7 @@ class Kept(Copying):
         self.server.answer('DROP_REPLICATION_SLOT "pgsub"', dropped)
         self.copier(jobs=1).run()
         self.assertEqual(
-            (self.progress.copied_rows, self.progress.copied_tables, self.later()), (4, 2, {})
+            (self.progress.copy.rows, self.progress.copy.tables, self.later()), (4, 2, {})
         )
         self.assertEqual(len(self.server.told("pg_copy_logical_replication_slot")), 1)
 
@@ -995,7 +997,7 @@ class Kept(Copying):
             {16385: 200, 16390: 200},
         )
         self.assertEqual(
-            (subscriber.store.position, self.progress.copied_tables, self.server.opened),
+            (subscriber.store.position, self.progress.copy.tables, self.server.opened),
             (POINT, 2, self.server.closed),
         )
 

@@ -12,7 +12,8 @@ from pgsub_connect.add.adder import Adder
 from pgsub_connect.add.replacement import Leaving
 from pgsub_connect.commands.drop import read_known
 from pgsub_connect.drift.remembered import Remembered
-from pgsub_connect.follow.follower import Follower
+from pgsub_connect.follow.session import Session
+from pgsub_connect.follow.session_start import SessionStart
 from pgsub_connect.store.checkpoint import Checkpoint
 
 from .adding_case import Case, Run, T
@@ -83,8 +84,8 @@ class Cuts(Case):
             (Adder, "send", True, [str(T)]),
             (Adder, "finish", False, [str(T)]),
             (Adder, "finish", True, []),
-            (Follower, "renew", False, []),
-            (Follower, "renew", True, []),
+            (Session, "renew", False, []),
+            (Session, "renew", True, []),
         ):
             with self.subTest(name=name, after=after):
                 self.assertEqual(list(self.cut([(where, name)], after)), noted)
@@ -108,13 +109,13 @@ class Cuts(Case):
         """Before a session passes anything on, since the position may pass that LSN by."""
         self.cut([(Adder, "send")], False)
         noted = []
-        real = Follower.start_replication
+        real = SessionStart.start_replication
 
-        def start(follower: Follower, *words: object) -> None:
-            noted.append(dict(Checkpoint.read(follower.confirming.checkpoint).adding))
-            real(follower, *words)  # type: ignore[arg-type]
+        def start(it: SessionStart, *words: object) -> None:
+            noted.append(dict(Checkpoint.read(it.confirming.checkpoint).adding))
+            real(it, *words)  # type: ignore[arg-type]
 
-        self.patch(Follower, "start_replication", start)
+        self.patch(SessionStart, "start_replication", start)
         self.goes_on()
         self.assertEqual(noted[0], {str(T): 0})
 

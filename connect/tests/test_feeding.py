@@ -21,12 +21,14 @@ from pgsub_connect.drift.remembered import Remembered, replace_file
 from pgsub_connect.errors import FileError, Unfit
 from pgsub_connect.follow import feed as feed_module
 from pgsub_connect.follow import tables_process
-from pgsub_connect.follow.feed import Feeding, Keeper, Reached
-from pgsub_connect.follow.filter import FilterEnded
+from pgsub_connect.follow.feed import Feeding, Keeper
 from pgsub_connect.follow.follower import Follower
 from pgsub_connect.follow.tables_process import Beside, words_of
 from pgsub_connect.status.metrics import metrics_text
 from pgsub_connect.status.progress import Progress
+from pgsub_connect.status.status_file import status_fields
+from pgsub_connect.stream.filter_end import FilterEnded
+from pgsub_connect.stream.statuses import Reached
 from pgsub_feed.reader.positions import Noted, make_folder
 from pgsub_feed.reader.segments import CONFIRMED, Reader, read_confirmed, segments
 
@@ -63,12 +65,12 @@ class Followed(Case):
     def fed(self, feed: str | None = None, **options: object) -> Follower:
         """A follower whose feed is checked, and that is about to run."""
         follower = self.follower(feed=self.feed if feed is None else feed, **options)
-        follower.feeding = it = Feeding(
+        follower.life.feeding = it = Feeding(
             follower.options, self.checkpoint, self.progress, follower.watch.remembered
         )
         it.check()
         self.addCleanup(it.finish)
-        it.begin(follower.filter, follower.confirming.stored, follower.check_stop)
+        it.begin(follower.life.filter, follower.confirming.stored, follower.check_stop)
         return follower
 
     def follower(self, **options: object) -> Follower:
@@ -103,9 +105,9 @@ class Followed(Case):
             and read_confirmed(self.feed) == 0x400,
         )
         self.assertEqual(self.ends(), [0x108])
-        assert follower.feeding
-        follower.feeding.finish()
-        self.assertEqual((self.progress.readers, self.progress.feed_bytes), ({}, 1024 + 256))
+        assert follower.life.feeding
+        follower.life.feeding.finish()
+        self.assertEqual((self.progress.feed.readers, self.progress.feed.bytes), ({}, 1024 + 256))
         self.assertEqual(Remembered(self.store).feed, self.feed)
         self.assertEqual(oct(stat.S_IMODE(os.stat(self.feed).st_mode)), "0o700")
 
@@ -114,8 +116,8 @@ class Followed(Case):
         self.server.to_send = [begin(0x100, 7), inserted(1), commit(0x100, 0x108)]
         follower = self.fed()
         self.run_until(follower, lambda: self.confirmed() == 0x108)
-        assert follower.feeding
-        follower.feeding.finish()
+        assert follower.life.feeding
+        follower.life.feeding.finish()
         self.assertEqual(read_confirmed(self.feed), 0x108)
 
     def let_go(self, has: mock.Mock) -> bool:
@@ -127,8 +129,8 @@ class Followed(Case):
     def test_the_end_waits_for_the_tables(self) -> None:
         self.server.to_send = [begin(0x100, 7), inserted(1), commit(0x100, 0x108), keepalive(0x400)]
         follower, has = self.fed(until=0x108), mock.Mock(return_value=False)
-        assert follower.feeding
-        follower.feeding.beside = mock.Mock(has=has)
+        assert follower.life.feeding
+        follower.life.feeding.beside = mock.Mock(has=has)
         self.run_until(follower, lambda: self.let_go(has))
         self.assertEqual({it.args for it in has.call_args_list}, {(0x108,)})
 
@@ -145,7 +147,7 @@ class Followed(Case):
         ]
         follower = self.fed(feed_segment_bytes=5000, feed_segment_seconds=60)
         self.assertEqual(
-            follower.filter.words[-12:],
+            follower.life.filter.words[-12:],
             [*words, "--feed-segment-bytes", "5000", "--feed-segment-seconds", "60"],
         )
         # (of a store that was followed, the checkpoint knows it)
@@ -161,8 +163,8 @@ class Followed(Case):
         self.server.to_send = [begin(end - 8, 7), inserted(1), commit(end - 8, end)]
         follower = self.fed()
         self.run_until(follower, lambda: self.confirmed() == end)
-        assert follower.feeding
-        follower.feeding.finish()
+        assert follower.life.feeding
+        follower.life.feeding.finish()
         self.unlock()
 
     def unlock(self) -> None:
@@ -234,7 +236,7 @@ class Followed(Case):
             file.write(str(0x108))
         follower = self.fed()
         # (what a killed filter had stored isn't taken for counted)
-        self.assertFalse(follower.filter.has_told_all or follower.filter.is_running())
+        self.assertFalse(follower.life.filter.has_told_all or follower.life.filter.is_running())
 
     def test_an_older_store_of_which_the_checkpoint_knows_nothing_more(self) -> None:
         """Since that isn't there, or was put back with it: the feed itself tells that it has
@@ -395,7 +397,7 @@ class Kept(FeedCase):
             self.feed.end()
         self.feed.commit(0x600, [])
         self.progress = Progress()
-        self.progress.position = 0x600
+        self.progress.stream.position = 0x600
 
     def keeper(self, confirmed: int = 0x600, **options: object) -> Keeper:
         chosen = Options(feed=str(self.path), **options)  # type: ignore[arg-type]
@@ -407,19 +409,19 @@ class Kept(FeedCase):
     def test_readers_and_size(self) -> None:
         self.read("index", 0x250)
         self.keeper().tend(100.0)
-        shown = self.progress.shown(0.0, 0.0)
+        shown = status_fields(self.progress, 0.0, 0.0)
         self.assertEqual(shown["readers"], {"index": {"lsn": "0/250", "lag_bytes": 0x3B0}})
         self.assertEqual(
             [base for base, _ in segments(str(self.path))], [0x200, 0x300, 0x400, 0x500]
         )
         self.keeper().tend(100.0)
         self.assertEqual(
-            self.progress.feed_bytes,
+            self.progress.feed.bytes,
             sum(it.stat().st_size for it in self.path.iterdir() if len(it.name) == 16),
         )
         text = metrics_text(self.progress, 0.0, {"slot": "s"})
         self.assertIn('pgsub_reader_lag_bytes{slot="s",reader="index"} 944\n', text)
-        self.assertIn(f'pgsub_feed_bytes{{slot="s"}} {self.progress.feed_bytes}\n', text)
+        self.assertIn(f'pgsub_feed_bytes{{slot="s"}} {self.progress.feed.bytes}\n', text)
         self.assertIn('pgsub_tables_failed{slot="s"} 0\n', text)
 
     def test_a_reader_that_loses_segments_is_named(self) -> None:
@@ -476,7 +478,7 @@ class Kept(FeedCase):
         self.assertEqual(
             [base for base, _ in segments(str(self.path))], [0x200, 0x300, 0x400, 0x500]
         )
-        self.assertEqual(self.progress.readers, {"index": 0x250})
+        self.assertEqual(self.progress.feed.readers, {"index": 0x250})
         told = [
             f"warning: the feed can't be looked after: {self.path}/confirmed: No space left on device"
         ]
@@ -493,7 +495,7 @@ class Kept(FeedCase):
             [base for base, _ in segments(str(self.path))], [0x200, 0x300, 0x400, 0x500]
         )
         self.assertEqual(
-            (self.progress.readers, [it for it in self.said if it.startswith("warning")]),
+            (self.progress.feed.readers, [it for it in self.said if it.startswith("warning")]),
             ({"index": 0x250}, []),
         )
 
@@ -567,7 +569,7 @@ class Tables(FeedCase):
         kept.finish()
         self.assertEqual(kept.child.returncode, 0)
         self.assertFalse(os.path.exists(self.into + "-wal"))
-        self.assertEqual(self.progress.tables_error, "")
+        self.assertEqual(self.progress.feed.tables_error, "")
         self.assertTrue(
             any(
                 it.startswith("info: tables: ") and it.endswith(f"from {lsn_text(0x100)}")
@@ -582,21 +584,23 @@ class Tables(FeedCase):
         kept = self.kept()
         self.assertTrue(wait_until(lambda: kept.has(0x100)), self.said)
         self.feed.commit(0x200, [insert("2", "5", of=numbers)])
-        self.assertTrue(wait_until(lambda: bool(self.progress.tables_aside)), self.said)
+        self.assertTrue(wait_until(lambda: bool(self.progress.feed.tables_aside)), self.said)
         self.assertTrue(wait_until(lambda: kept.has(0x200)), self.said)
         self.assertRegex(
-            self.progress.tables_aside["public.stock"],
+            self.progress.feed.tables_aside["public.stock"],
             "^since 0/200: the column name has a value that isn't one of its type",
         )
-        self.assertEqual(self.progress.shown(0.0, 0.0)["tables_aside"], self.progress.tables_aside)
-        self.progress.feed_bytes = 0
+        self.assertEqual(
+            status_fields(self.progress, 0.0, 0.0)["tables_aside"], self.progress.feed.tables_aside
+        )
+        self.progress.feed.bytes = 0
         self.assertIn(
             'pgsub_tables_aside{slot="s"} 1\n', metrics_text(self.progress, 0.0, {"slot": "s"})
         )
-        self.assertEqual(self.progress.tables_error, "")
+        self.assertEqual(self.progress.feed.tables_error, "")
         self.feed.commit(0x300, [truncate(numbers), insert("2", "5", of=numbers)])
-        self.assertTrue(wait_until(lambda: not self.progress.tables_aside), self.said)
-        self.assertNotIn("tables_aside", self.progress.shown(0.0, 0.0))
+        self.assertTrue(wait_until(lambda: not self.progress.feed.tables_aside), self.said)
+        self.assertNotIn("tables_aside", status_fields(self.progress, 0.0, 0.0))
 
     def test_before_they_are_made_they_have_nothing(self) -> None:
         """What a new reader needs is kept under its name: that isn't what it has."""
@@ -626,8 +630,10 @@ class Tables(FeedCase):
         self.feed.path.write_bytes(b"x" * 2000)
         kept = self.kept()
         kept.join(20)
-        self.assertIn("reading 1 NotAFeed", self.progress.tables_error)
-        self.assertEqual(self.progress.shown(0.0, 0.0)["tables_error"], self.progress.tables_error)
+        self.assertIn("reading 1 NotAFeed", self.progress.feed.tables_error)
+        self.assertEqual(
+            status_fields(self.progress, 0.0, 0.0)["tables_error"], self.progress.feed.tables_error
+        )
         self.assertTrue(
             any(
                 it.startswith(f"error: {self.into} follows no more, status 3: ") for it in self.said
@@ -640,7 +646,7 @@ class Tables(FeedCase):
         tried = self.folder / "tried"
         self.kept(f"open({str(tried)!r}, 'a').write('x'); raise SystemExit(7)")
         self.assertTrue(wait_until(lambda: tried.exists() and len(tried.read_text()) >= 3))
-        self.assertEqual(self.progress.tables_error, "")
+        self.assertEqual(self.progress.feed.tables_error, "")
 
     def test_a_fork_that_fails_is_tried_again(self) -> None:
         self.feed.commit(0x100, [insert("1", "x")])

@@ -11,21 +11,17 @@ from pathlib import Path
 from unittest import mock
 
 from pgsub_connect.errors import FilterFault, Stopped
-from pgsub_connect.follow import filter as filter_module
-from pgsub_connect.follow.filter import (
+from pgsub_connect.stream import filter as filter_module
+from pgsub_connect.stream.filter import Filter
+from pgsub_connect.stream.filter_end import MISSED, FilterEnded, Missing, missing_of
+from pgsub_connect.stream.filter_input import PIECE, ROOM
+from pgsub_connect.stream.frames import (
     COPY_DONE,
     HEADERS,
-    MISSED,
-    PIECE,
-    ROOM,
     STATUS_HEAD,
-    Filter,
-    FilterEnded,
-    Missing,
     asking,
     flushed,
     header,
-    missing_of,
     without_received,
 )
 
@@ -227,7 +223,7 @@ class Misses(Case):
         child = self.filter()
         child.start()
         child.push_payloads([begin(0x100, 7), delete(3), delete(4), commit(0x100, 0x108)])
-        child.write()
+        child.input.write()
         # (what it says comes before its status)
         self.assertTrue(select.select([child.up], [], [], 20.0)[0])
         with mock.patch("select.select", lambda *_: ([child.up], [], [])):
@@ -259,16 +255,16 @@ class Misses(Case):
             f" printf '{self.STATUS}'; read it; printf '!\\n' >&2; cat > /dev/null"
         )
         child.start()
-        while not child.line:
+        while not child.said.line:
             child.serve(0.01)
-        self.assertEqual((child.line, child.missing), (b"pgsub: rows not fou", Missing()))
+        self.assertEqual((child.said.line, child.missing), (b"pgsub: rows not fou", Missing()))
         child.push(b"x\n")
         self.statuses(child)
         self.assertEqual(
-            (child.missing, child.line, self.said), (Missing(3, 0x1A2B3C8, 16385), b"more", [])
+            (child.missing, child.said.line, self.said), (Missing(3, 0x1A2B3C8, 16385), b"more", [])
         )
         child.push(b"x\n")
-        while child.line:
+        while child.said.line:
             child.serve(0.01)
         self.assertEqual(self.said, ["filter: more!"])
 
@@ -314,7 +310,7 @@ class Given(Case):
         while child.has_room():
             child.push_payloads([piece] * 1000)
             child.serve(0)
-        self.assertGreaterEqual(child.waiting, ROOM)
+        self.assertGreaterEqual(child.input.waiting, ROOM)
         self.assertEqual(child.room(), ROOM - child.waiting)
 
     def test_a_long_message_is_not_copied(self) -> None:
@@ -325,11 +321,11 @@ class Given(Case):
         tracemalloc.start()
         self.addCleanup(tracemalloc.stop)
         child.push_payloads([insert(1), payload])
-        self.assertGreater(child.waiting, len(payload) - (1 << 20))
+        self.assertGreater(child.input.waiting, len(payload) - (1 << 20))
         child.push_payloads([insert(1)] * 10)
         self.assertLess(tracemalloc.get_traced_memory()[1], 1 << 20)
         given = framed(insert(1), payload, *[insert(1)] * 10)
-        self.assertTrue(given.endswith(b"".join(child.pending)))
+        self.assertTrue(given.endswith(b"".join(child.input.pending)))
 
     def test_to_one_that_takes_no_more(self) -> None:
         """Its end tells why."""
@@ -340,10 +336,10 @@ class Given(Case):
         )
         child.start()
         until = time.monotonic() + 20
-        while child.takes and time.monotonic() < until:
+        while child.input.takes and time.monotonic() < until:
             child.push_payloads([keepalive(1)] * 10)
         child.push_payloads([keepalive(1)] * 10)
-        child.write()
+        child.input.write()
         Path(told).touch()
         self.assertEqual(self.end(child).status, 1)
 

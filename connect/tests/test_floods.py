@@ -17,8 +17,8 @@ from pgsub_connect.server import connection as connection_module
 from pgsub_connect.server import notices
 from pgsub_connect.server import rows as rows_module
 from pgsub_connect.server.connection import Connection
+from tests import small_server
 
-from . import small_server
 from .small_server import SmallServer, answered, error, message
 from .test_postgres import Case, StopsLater
 

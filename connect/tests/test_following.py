@@ -18,10 +18,11 @@ from pgsub_connect.drift import watch
 from pgsub_connect.drift.findings import About
 from pgsub_connect.drift.remembered import Remembered
 from pgsub_connect.errors import FilterFault, Passing, ServerError, Unconnected, Unfit
+from pgsub_connect.follow import filter_life
 from pgsub_connect.follow import follower as follower_module
-from pgsub_connect.follow import statuses
-from pgsub_connect.follow.awake import Awake
-from pgsub_connect.follow.filter import Filter, FilterEnded, flushed
+from pgsub_connect.follow import schedule
+from pgsub_connect.follow import session as session_module
+from pgsub_connect.follow import upkeep
 from pgsub_connect.follow.follower import Follower
 from pgsub_connect.server import connection as connection_module
 from pgsub_connect.server import session, transport
@@ -32,12 +33,19 @@ from pgsub_connect.store import snapshot
 from pgsub_connect.store.at_rest import read_request
 from pgsub_connect.store.checkpoint import Checkpoint
 from pgsub_connect.store.snapshot import Snapshots
+from pgsub_connect.stream import statuses
+from pgsub_connect.stream.awake import Awake
+from pgsub_connect.stream.filter import Filter
+from pgsub_connect.stream.filter_end import FilterEnded
+from pgsub_connect.stream.frames import flushed
 from pgsub_feed.texts import lsn_text, parse_lsn
 
 from .fake_server import FakeServer, Quiet, Row
 from .small_server import READY, SmallServer, error
 from .vectors import a_catalog, a_table, begin, commit, insert, keepalive
 
+# The modules whose waits are short here.
+FOLLOW = (filter_life, follower_module, schedule, session_module, upkeep)
 FAKE = os.path.join(os.path.dirname(os.path.abspath(__file__)), "fake_filter.py")
 
 
@@ -68,10 +76,11 @@ class Case(Quiet):
         self.addCleanup(self.server.close)
         for where, name, by in (
             (connection_module, "TICK", 0.02),
-            (follower_module, "STEP", 0.02),
+            *((where, "STEP", 0.02) for where in FOLLOW),
             (statuses, "QUIET", 0.3),
+            (filter_life, "SLEEP", 0.02),
             (follower_module, "SLEEP", 0.02),
-            (follower_module, "FIRST_DELAY", 0.02),
+            (schedule, "FIRST_DELAY", 0.02),
         ):
             self.patch(where, name, by)
         self.patch(watch.Watch, "compare", lambda *_: True)
@@ -132,7 +141,7 @@ class Case(Quiet):
 
     def set_clock(self, clock: list[float]) -> None:
         """Has a follower's time be what the list says."""
-        for where in (follower_module, statuses):
+        for where in (*FOLLOW, statuses):
             self.patch(where, "time", mock.Mock(monotonic=lambda: clock[0], sleep=time.sleep))
 
     def confirmed(self) -> int:
@@ -144,7 +153,11 @@ class Sessions(Case):
         self.server.to_send = [begin(0x100, 7), insert(1), commit(0x100, 0x108)]
         self.run_until(self.follower(), lambda: self.confirmed() == 0x108)
         self.assertEqual(
-            (self.progress.passed_commits, self.progress.confirmed, self.progress.position),
+            (
+                self.progress.stream.commits,
+                self.progress.stream.confirmed,
+                self.progress.stream.position,
+            ),
             (1, 0x108, 0x108),
         )
         with open(self.store, encoding="ascii") as file:
@@ -179,15 +192,15 @@ class Sessions(Case):
         self.run_until(follower, lambda: self.confirmed() == 0x1000)
         follower.confirming.noted_in = 2.0
         self.assertEqual(follower.confirming.quiet(), 2.0 * statuses.PART)
-        self.progress.is_waited_for = False
+        self.progress.server.is_waited_for = False
         self.assertEqual(follower.confirming.quiet(), 30.0)
 
     def test_it_waits_awake_where_commits_wait_for_it(self) -> None:
         """For the next commit, and for what the filter says of the last one."""
-        with mock.patch.object(follower_module, "processors", return_value=2.0):
+        with mock.patch.object(schedule, "processors", return_value=2.0):
             follower = self.follower()
         waits = set[tuple[bool, str | None]]()
-        serve = follower.filter.serve
+        serve = follower.life.filter.serve
 
         def note(
             timeout: float,
@@ -199,14 +212,15 @@ class Sessions(Case):
                 waits.add(
                     (
                         bool(follower.noting.ends),
-                        {follower.for_statuses: "status", follower.for_commits: "commit"}.get(
-                            awake
-                        ),
+                        {
+                            follower.session.schedule.for_statuses: "status",
+                            follower.session.schedule.for_commits: "commit",
+                        }.get(awake),
                     )
                 )
             return serve(timeout, reads, writes, awake)
 
-        self.patch(follower.filter, "serve", note)
+        self.patch(follower.life.filter, "serve", note)
         for standbys, kinds in (("", {None}), ("*", {"status", "commit"})):
             waits.clear()
             self.brain.answer("SHOW synchronous_standby_names", [[standbys]])
@@ -217,19 +231,19 @@ class Sessions(Case):
         self.assertEqual(waits, {(True, "status"), (False, "commit")})
 
     def test_it_sleeps_where_the_filter_needs_the_processor(self) -> None:
-        with mock.patch.object(follower_module, "processors", return_value=1.5):
+        with mock.patch.object(schedule, "processors", return_value=1.5):
             follower = self.follower()
-        self.progress.is_waited_for = True
-        self.assertIsNone(follower.awake())
+        self.progress.server.is_waited_for = True
+        self.assertIsNone(follower.session.schedule.awake())
         follower.noting.ends.append(0x100)
-        self.assertIsNone(follower.awake())
+        self.assertIsNone(follower.session.schedule.awake())
 
     def test_the_catalog_is_read_on_another_connection(self) -> None:
         """A session's process would decode older changes by what it has in its caches."""
         follower, seen = self.follower(), list[bool]()
 
         def compare(_: object, connection: object, position: int) -> bool:
-            seen.append(connection is follower.connection)
+            seen.append(connection is follower.session.connection)
             return True
 
         self.patch(watch.Watch, "compare", compare)
@@ -266,7 +280,7 @@ class Sessions(Case):
                 keepalive(0x800),
             ]
             follower = self.follower(until=until)
-            self.run_until(follower, lambda follower=follower, end=end: follower.filter.status != b"" and follower.filter.confirmed() >= end)  # type: ignore[misc]
+            self.run_until(follower, lambda follower=follower, end=end: follower.life.filter.status != b"" and follower.life.filter.confirmed() >= end)  # type: ignore[misc]
             self.assertTrue(follower.stop_asked)
             self.patch(Checkpoint, "lock", lambda *_: None)
 
@@ -278,7 +292,7 @@ class Sessions(Case):
             "warning: the server said nothing for 0 seconds",
         )
         # (on a busy machine the beginning of a session may take longer)
-        follower.was_connected = True
+        follower.start.was_connected = True
         self.run_until(
             follower, lambda: said in self.said and self.server.sessions >= 2 and self.asks() > 0
         )
@@ -359,7 +373,7 @@ class Sessions(Case):
         self.patch(connection_module, "CONNECT_LIMIT", 0.05)
         self.patch(session, "QUICK", 0.05)
         follower = self.follower(silence=30.0)
-        follower.confirming.last_sent, now, self.progress.server_started = (
+        follower.confirming.last_sent, now, self.progress.server.started = (
             time.monotonic(),
             time.monotonic(),
             1000,
@@ -370,37 +384,41 @@ class Sessions(Case):
             (now - 40.0, False, b"", True),
             (now - 40.0, True, error("no", "53300"), False),
         ):
-            follower.heard, self.server.lets_in, self.server.refusal = heard, lets_in, refusal
+            follower.session.schedule.heard, self.server.lets_in, self.server.refusal = (
+                heard,
+                lets_in,
+                refusal,
+            )
             if fails:
                 with self.assertRaisesRegex(
                     ServerError, "the server said nothing for 30 seconds"
                 ) as raised:
-                    follower.attend()
+                    follower.requests.upkeep.attend()
                 self.assertFalse(raised.exception.is_lasting())
             else:
-                follower.attend()
-                self.assertLess(time.monotonic() - follower.heard, 20.0)
+                follower.requests.upkeep.attend()
+                self.assertLess(time.monotonic() - follower.session.schedule.heard, 20.0)
         for started, silent in ((1000, "pg_postmaster_start_time"), (999, "")):
             # (a server that was started since isn't the one that is waited for)
             (
                 self.server.refusal,
                 self.server.silent,
-                follower.heard,
-                self.progress.server_started,
+                follower.session.schedule.heard,
+                self.progress.server.started,
             ) = (b"", silent, now - 40.0, started)
             with self.assertRaisesRegex(ServerError, "said nothing"):
-                follower.attend()
+                follower.requests.upkeep.attend()
 
     def test_start_replication_that_isnt_answered(self) -> None:
         self.server.silent = "START_REPLICATION"
         follower = self.follower(silence=0.2)
-        follower.was_connected = True
+        follower.start.was_connected = True
         self.run_until(follower, lambda: any("didn't answer" in it for it in self.said))
 
     def test_a_filter_that_ends_badly_when_it_is_to_end(self) -> None:
         """What may pass is told, and what won't is raised."""
         follower = self.follower()
-        for end in (follower.finish_filter, follower.end_session_by_ourselves):
+        for end in (follower.life.finish, follower.session.end):
             for status, said in (
                 (0, []),
                 (13, ["warning: the filter ended with status 13: pgsub: store 8 Refused"]),
@@ -408,7 +426,7 @@ class Sessions(Case):
                 self.said.clear()
                 ended = FilterEnded(status, "pgsub: store 8 Refused" if status else "")
                 with mock.patch.multiple(
-                    follower.filter,
+                    follower.life.filter,
                     create=True,
                     runs=True,
                     takes=False,
@@ -417,7 +435,7 @@ class Sessions(Case):
                     end()
                 self.assertEqual(self.said, said)
             with mock.patch.multiple(
-                follower.filter,
+                follower.life.filter,
                 create=True,
                 runs=True,
                 takes=False,
@@ -431,7 +449,7 @@ class Sessions(Case):
         follower = self.follower()
         self.run_until(follower, lambda: self.progress.state == "connecting")
         began = time.monotonic()
-        follower.finish_filter()
+        follower.life.finish()
         self.assertLess(time.monotonic() - began, 1.0)
 
 
@@ -443,8 +461,8 @@ class Meets(Case):
         super().setUp()
         for name in ("LOOK", "SOON"):
             self.patch(snapshot, name, 0.01)
-        self.patch(follower_module, "SOON", 0.01)
-        self.patch(follower_module, "ASK", 0.05)
+        self.patch(schedule, "SOON", 0.01)
+        self.patch(schedule, "ASK", 0.05)
         self.request = self.store + ".request"
         self.taken: list[int] = []
         self.patch(Snapshots, "take", self.take)
@@ -488,7 +506,7 @@ class Meets(Case):
         while "held" not in read_request(self.request):
             yield False
         self.server.to_send += then
-        self.running.heartbeat, before = 0.02, len(self.server.statuses)
+        self.running.session.schedule.heartbeat, before = 0.02, len(self.server.statuses)
         while len(self.server.statuses) < before + 3:
             # (statuses go on meanwhile)
             yield False
@@ -530,9 +548,9 @@ class Fits(Case):
 
     def connect(self, follower: Follower) -> None:
         """Connects once, where the filter's store has nothing yet."""
-        self.addCleanup(follower.disconnect)
-        follower.filter.status = b"r" + bytes(33)
-        follower.connect()
+        self.addCleanup(follower.session.disconnect)
+        follower.life.filter.status = b"r" + bytes(33)
+        follower.session.connect()
 
     def check(self, *, timeline: int, started: int, position: int, now: Server) -> None:
         """Checks the timeline of a server, where the last session had this one and the store is
@@ -541,7 +559,7 @@ class Fits(Case):
         self.checkpoint.write(False, timeline=timeline, started=started, position=position)
         connection = connection_module.Connection(self.server.dsn())
         self.addCleanup(connection.close)
-        follower.fitting.check_timeline(connection, now, position)
+        follower.start.fitting.check_timeline(connection, now, position)
 
     def server_now(self, timeline: int, started: int = 2000, standby: bool = False) -> Server:
         return Server("77", timeline, 0x1000000, "shop", standby, started)
@@ -595,7 +613,7 @@ class Fits(Case):
             ({"history": "0/900"}, [text]),
         )
         self.assertIn(f"warning: found: history at 0/900: {text}", self.said)
-        follower.disconnect()
+        follower.session.disconnect()
         self.identity[1], self.started = "3", "3000"
         self.brain.answer("TIMELINE_HISTORY", [["x", "1\t0/500\treason\n2\t0/600\treason"]])
         with self.assertRaisesRegex(Unfit, "changes that the server hasn't"):
@@ -624,16 +642,16 @@ class Fits(Case):
                     position=position,
                     found={},
                 )
-                follower.confirming.position, follower.filter.status = position, b"r" + 4 * (
+                follower.confirming.position, follower.life.filter.status = position, b"r" + 4 * (
                     0xA00
                 ).to_bytes(8, "big")
-                self.addCleanup(follower.disconnect)
+                self.addCleanup(follower.session.disconnect)
                 found = position > parse_lsn(left)
                 with self.assertRaisesRegex(
                     Unfit if found and strict else ServerError,
                     "are missing" if found and strict else "started anew",
                 ):
-                    follower.connect()
+                    follower.session.connect()
                 known = self.checkpoint.read()
                 self.assertEqual(
                     (known.timeline, known.confirmed, "history" in known.found),
@@ -655,7 +673,7 @@ class Fits(Case):
                 transport, "protection_of", return_value=protection
             ), mock.patch.object(transport, "OWN", own):
                 self.connect(follower)
-                follower.disconnect()
+                follower.session.disconnect()
             self.assertEqual(sum("warning: the connection is" in it for it in self.said), warnings)
             self.assertIs(self.checkpoint.read().encrypted, kept)
         with mock.patch.object(transport, "protection_of", return_value=plain), mock.patch.object(
@@ -676,7 +694,7 @@ class Fits(Case):
 
     def promoted(self) -> bool:
         if self.server.sessions == 1 and self.progress.state == "following":
-            self.progress.was_promoted = True
+            self.progress.server.was_promoted = True
         return True
 
     def test_the_slot_is_looked_at_again_once_it_is_ours(self) -> None:
@@ -722,16 +740,16 @@ class Fits(Case):
                 connection.version.return_value, connection.value.return_value = 170000, status
                 connection.run.side_effect = ServerError("no", sqlstate)
                 with self.assertRaises(ServerError) as raised:
-                    follower.start_replication(connection, server)
+                    follower.start.start_replication(connection, server)
                 self.assertEqual(raised.exception.is_lasting(), lasts)
                 with self.assertRaises(ServerError) as raised:
-                    follower.start_replication(connection, self.server_now(1))
+                    follower.start.start_replication(connection, self.server_now(1))
                 self.assertTrue(raised.exception.is_lasting())
 
     def follower_alone(self, **options: object) -> Follower:
         self.patch(Checkpoint, "lock", lambda *_: None)
         follower = self.follower(**options)
-        follower.filter.status = b"r" + bytes(33)
+        follower.life.filter.status = b"r" + bytes(33)
         return follower
 
     def test_another_server(self) -> None:
@@ -746,7 +764,7 @@ class Fits(Case):
                     False, **{"system": "77", "database": "shop", "slot": "pgsub", **change}
                 )
                 with self.assertRaisesRegex(error, text):
-                    follower.fitting.check_server(self.server_now(1), 0, 0)
+                    follower.start.fitting.check_server(self.server_now(1), 0, 0)
 
     def test_a_database_that_was_renamed(self) -> None:
         """It is known by its OID, where that was noted, and another one by that, too."""
@@ -786,7 +804,7 @@ class Fits(Case):
         follower = self.follower_alone()
         self.checkpoint.write(False, system="77", database="shop", slot="pgsub")
         with self.assertRaisesRegex(Unfit, "not slot pgsub of store"):
-            follower.fitting.check_server(
+            follower.start.fitting.check_server(
                 Server("77", 1, 0x1000000, "store", False, 1000, 16384), 0, 0
             )
 
@@ -817,9 +835,9 @@ class Fits(Case):
 
     def test_a_log_that_ends_before_the_store(self) -> None:
         with self.assertRaisesRegex(Unfit, "it lost changes.*Copy anew.*--accept history"):
-            self.follower_alone().fitting.check_server(self.server_now(1), 0x2000000, 0)
+            self.follower_alone().start.fitting.check_server(self.server_now(1), 0x2000000, 0)
         with self.assertRaisesRegex(ServerError, "a standby whose log ends") as raised:
-            self.follower_alone().fitting.check_server(
+            self.follower_alone().start.fitting.check_server(
                 self.server_now(1, standby=True), 0x2000000, 0
             )
         self.assertFalse(raised.exception.is_lasting())
@@ -833,21 +851,21 @@ class Fits(Case):
         self.checkpoint.write(
             False, phase="following", timeline=1, started=1, confirmed=0x2000000, position=0x500
         )
-        follower.confirming.position, follower.filter.status = 0x500, b"r" + 4 * (
+        follower.confirming.position, follower.life.filter.status = 0x500, b"r" + 4 * (
             0x2000000
         ).to_bytes(8, "big")
-        self.addCleanup(follower.disconnect)
+        self.addCleanup(follower.session.disconnect)
         with self.assertRaisesRegex(
             ServerError, "the filter is started anew on the server's new timeline"
         ) as raised:
-            follower.connect()
+            follower.session.connect()
         self.assertFalse(raised.exception.is_lasting())
         self.assertEqual(
             (self.checkpoint.read().confirmed, self.checkpoint.read().timeline), (0x900, 2)
         )
-        follower.disconnect()
-        follower.filter.status = b"r" + 4 * (0x500).to_bytes(8, "big")
-        follower.connect()
+        follower.session.disconnect()
+        follower.life.filter.status = b"r" + 4 * (0x500).to_bytes(8, "big")
+        follower.session.connect()
         self.assertIn(
             'START_REPLICATION SLOT "pgsub" LOGICAL 0/500', self.brain.told("START_REPLICATION")[0]
         )
@@ -862,18 +880,26 @@ class Fits(Case):
             (180000, 2, 2, True),
         ):
             follower = self.follower_alone()
-            follower.proto, follower.streams, follower.filter.proto = asked, asked == 2, asked
-            with mock.patch.object(follower, "start_filter"):
-                follower.choose_protocol(version)
-            self.assertEqual((follower.proto, follower.streams), (proto, streams), (version, asked))
-            self.assertGreaterEqual(follower.filter.proto, proto)
+            follower.life.form.proto, follower.life.form.streams, follower.life.filter.proto = (
+                asked,
+                asked == 2,
+                asked,
+            )
+            with mock.patch.object(follower.life, "start"):
+                follower.life.use_proto(follower.life.form.choose(version))
+            self.assertEqual(
+                (follower.life.form.proto, follower.life.form.streams),
+                (proto, streams),
+                (version, asked),
+            )
+            self.assertGreaterEqual(follower.life.filter.proto, proto)
 
 
 class Errors(Case):
     def note(self, error: ServerError, was_connected: bool = True) -> None:
         self.patch(Checkpoint, "lock", lambda *_: None)
         follower = self.follower()
-        follower.was_connected = was_connected
+        follower.start.was_connected = was_connected
         follower.note_error(error)
 
     def test_passing_ones(self) -> None:
@@ -913,7 +939,7 @@ class Errors(Case):
         follower, wrong = self.follower(), ServerError(
             'invalid byte sequence for encoding "UTF8": 0xff', "22021"
         )
-        follower.was_connected = True
+        follower.start.was_connected = True
         for position in (0x100, 0x100, 0x100, 0x100, 0x108, 0x108, 0x108, 0x108):
             follower.confirming.position = position
             follower.note_error(wrong)
@@ -929,7 +955,7 @@ class Errors(Case):
         self.patch(Checkpoint, "lock", lambda *_: None)
         follower = self.follower()
         follower.note_error(ServerError("could not map filenode", "XX000"))
-        self.assertFalse(follower.streams)
+        self.assertFalse(follower.life.form.streams)
 
 
 class Children(Case):

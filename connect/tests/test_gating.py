@@ -15,14 +15,15 @@ from pgsub_connect.add import addable, adder
 from pgsub_connect.commands import verify
 from pgsub_connect.commands.options import Options
 from pgsub_connect.errors import Delayed, Passing, ServerError, Stopped, Unrepaired
-from pgsub_connect.follow import follower, gate
-from pgsub_connect.follow.filter import flushed
-from pgsub_connect.follow.gate import Gating, Making, is_shared, too_large_to_copy
-from pgsub_connect.follow.hold import Hold
+from pgsub_connect.follow import schedule
 from pgsub_connect.server.connection import never
 from pgsub_connect.status.progress import Progress
 from pgsub_connect.store.at_rest import read_request
 from pgsub_connect.store.snapshot import Snapshots
+from pgsub_connect.stream import gate
+from pgsub_connect.stream.frames import flushed
+from pgsub_connect.stream.gate import Gating, Making, is_shared, too_large_to_copy
+from pgsub_connect.stream.hold import Hold
 from pgsub_connect.verify.meeting_point import Request
 from pgsub_feed.texts import lsn_text
 
@@ -92,7 +93,7 @@ class Looks(Quiet):
         self.addCleanup(patch.stop)
         self.hold, self.progress, self.gone = Hold(), Progress(), list[str]()
         self.gating = Gating(Options(), self.progress, self.hold, never, self.gone.append)
-        self.progress.is_waited_for = True
+        self.progress.server.is_waited_for = True
         self.addCleanup(self.gating.end_session)
 
     def answer(self, _: str) -> list[Row]:
@@ -152,7 +153,7 @@ class Looks(Quiet):
         self.assertEqual(self.gone, [])
 
     def test_where_none_waits_it_is_held(self) -> None:
-        self.progress.is_waited_for = False
+        self.progress.server.is_waited_for = False
         self.hold.begin("copy", 10.0)
         for _ in range(5):
             self.now[0] += 1.0
@@ -225,11 +226,13 @@ class Requests(StoreCase):
     def test_what_whoever_asks_has_read(self) -> None:
         """It may be newer than what the follower knows."""
         progress = Progress()
-        progress.name = "pgsub"
-        self.snapshots.delays_commits = progress.note_standbys
+        progress.server.name = "pgsub"
+        self.snapshots.delays_commits = progress.server.note_standbys
         with self.asked(maker=4711, standbys="ANY 1 (other, pgsub)"):
             self.snapshots.is_due(0x130)
-            self.assertEqual((self.snapshots.hold.maker, progress.is_waited_for), (4711, True))
+            self.assertEqual(
+                (self.snapshots.hold.maker, progress.server.is_waited_for), (4711, True)
+            )
 
     def test_who_asks_is_of_an_older_version(self) -> None:
         cases: tuple[dict[str, object], ...] = ({}, {"maker": "x"}, {"maker": 0})
@@ -240,16 +243,16 @@ class Requests(StoreCase):
                 self.assertFalse(self.snapshots.hold.is_held)
 
     def test_a_store_that_takes_long_to_copy(self) -> None:
-        self.patch("pgsub_connect.follow.gate.COPIED", 1)
-        self.patch("pgsub_connect.follow.gate.is_shared", lambda _: False)
+        self.patch("pgsub_connect.stream.gate.COPIED", 1)
+        self.patch("pgsub_connect.stream.gate.is_shared", lambda _: False)
         with self.asked(maker=4711):
             self.snapshots.is_due(0x130)
             self.assertIn("take the follower out of synchronous_standby_names", self.error())
             self.assertFalse(self.snapshots.hold.is_held)
 
     def test_a_file_system_that_shares_blocks(self) -> None:
-        self.patch("pgsub_connect.follow.gate.COPIED", 1)
-        self.patch("pgsub_connect.follow.gate.is_shared", lambda _: True)
+        self.patch("pgsub_connect.stream.gate.COPIED", 1)
+        self.patch("pgsub_connect.stream.gate.is_shared", lambda _: True)
         self.assertEqual(too_large_to_copy(self.path), "")
         self.assertIsInstance(is_shared(self.path), bool)
         self.assertFalse(is_shared("/proc/self/stat"))
@@ -351,7 +354,7 @@ class Synchronous(AddingCase):
     def test_rows_that_take_too_long(self) -> None:
         """The table is refused, and another session begins at once."""
         self.patch(adder, "LONGEST_WAIT", 0.0)
-        self.patch(follower, "FIRST_DELAY", 60.0)
+        self.patch(schedule, "FIRST_DELAY", 60.0)
         self.want(T)
 
         def hook(name: str) -> None:

@@ -13,15 +13,17 @@ import unittest
 from collections.abc import Callable, Iterator
 from unittest import mock
 
+from pgsub_connect.commands.options import Options
 from pgsub_connect.errors import ServerError, Stopped
-from pgsub_connect.follow.follower import Follower
-from pgsub_connect.follow.hold import Hold, count_below
-from pgsub_connect.follow.statuses import Confirming
+from pgsub_connect.follow.ending import Ending
+from pgsub_connect.follow.requests import Requests as Asked
 from pgsub_connect.server.connection import never
 from pgsub_connect.status.progress import Progress
 from pgsub_connect.store import snapshot
 from pgsub_connect.store.at_rest import read_request
 from pgsub_connect.store.snapshot import Snapshots
+from pgsub_connect.stream.hold import Hold, count_below
+from pgsub_connect.stream.statuses import Confirming
 
 from .stores import StoreCase
 from .vectors import (
@@ -39,26 +41,23 @@ from .vectors import (
 
 class Holds(unittest.TestCase):
     def setUp(self) -> None:
-        # (all that the call looks at)
-        self.follower = Follower.__new__(Follower)
-        self.follower.stop_asked = False
-        self.follower.filter, self.follower.snapshots, self.follower.noting = (
-            mock.Mock(),
-            mock.Mock(),
-            mock.Mock(),
+        self.filter, self.snapshots, self.noting = mock.Mock(), mock.Mock(), mock.Mock()
+        self.progress = Progress()
+        self.ending = Ending(self.progress, None)
+        upkeep = mock.Mock(filter=self.filter, serve_server=self.ending.check)
+        upkeep.life.progress = self.progress
+        upkeep.confirming = Confirming(
+            mock.Mock(), self.filter, self.progress, self.noting, mock.Mock()
         )
-        self.follower.progress, self.follower.gating = Progress(), mock.Mock()
-        self.follower.gating.is_over.return_value = False
-        self.noting = self.follower.noting
-        self.follower.confirming = Confirming(
-            mock.Mock(), self.follower.filter, self.follower.progress, self.noting, mock.Mock()
-        )
-        self.follower.confirming.position = 0x100
+        upkeep.confirming.position = 0x100
         self.noting.ends = collections.deque([0x108, 0x120])
         self.noting.confirm.side_effect = self.confirm
-        self.follower.snapshots.hold = Hold()
-        self.follower.filter.waiting = 0
-        self.follower.filter.confirmed.return_value = 0x100
+        self.snapshots.hold = Hold()
+        self.filter.waiting = 0
+        self.filter.confirmed.return_value = 0x100
+        self.requests = Asked(
+            Options(), self.snapshots, mock.Mock(), mock.Mock(), upkeep, self.ending
+        )
 
     def confirm(self, confirmed: int, position: int) -> int:
         while self.noting.ends and self.noting.ends[0] <= confirmed:
@@ -66,40 +65,40 @@ class Holds(unittest.TestCase):
         return position
 
     def holds(self) -> bool:
-        return self.follower.holds_for_snapshot()
+        return self.requests.holds_for_copy()
 
     def taken(self) -> list[int]:
-        return [it.args[0] for it in self.follower.snapshots.take.call_args_list]  # type: ignore[attr-defined]
+        return [it.args[0] for it in self.snapshots.take.call_args_list]
 
     def test_until_each_commit_is_stored(self) -> None:
         for confirmed in (0x100, 0x108, 0x11F):
-            self.follower.filter.confirmed.return_value = confirmed  # type: ignore[attr-defined]
+            self.filter.confirmed.return_value = confirmed
             self.assertTrue(self.holds())
         self.assertEqual(self.taken(), [])
-        self.follower.filter.confirmed.return_value = 0x120  # type: ignore[attr-defined]
+        self.filter.confirmed.return_value = 0x120
         self.assertFalse(self.holds())
         self.assertEqual(self.taken(), [0x120])
 
     def test_until_the_filter_has_all(self) -> None:
         """What waits for the pipe may have the end of a commit."""
         self.noting.ends.clear()
-        self.follower.filter.waiting = 1
+        self.filter.waiting = 1
         self.assertTrue(self.holds())
-        self.follower.filter.waiting = 0
+        self.filter.waiting = 0
         self.assertFalse(self.holds())
         self.assertEqual(self.taken(), [0x100])
 
     def test_not_where_none_is_due(self) -> None:
-        self.follower.snapshots.is_due.return_value = False  # type: ignore[attr-defined]
+        self.snapshots.is_due.return_value = False
         self.assertFalse(self.holds())
-        self.follower.snapshots.is_due.return_value = True  # type: ignore[attr-defined]
-        self.follower.stop_asked = True
+        self.snapshots.is_due.return_value = True
+        self.ending.ask()
         self.assertFalse(self.holds())
         self.assertEqual(self.taken(), [])
 
     def test_until_an_lsn_is_told(self) -> None:
-        self.follower.snapshots.is_due.return_value = False  # type: ignore[attr-defined]
-        hold = self.follower.snapshots.hold
+        self.snapshots.is_due.return_value = False
+        hold = self.snapshots.hold
         hold.begin("copy", 10.0)
         self.assertTrue(self.holds())
         hold.go(0x200)
@@ -111,7 +110,7 @@ class Holds(unittest.TestCase):
 
     def test_without_a_filter(self) -> None:
         """Nobody writes the store then."""
-        self.follower.filter.is_running.return_value = False  # type: ignore[attr-defined]
+        self.filter.is_running.return_value = False
         self.assertFalse(self.holds())
         self.assertEqual(self.taken(), [0x100])
 
@@ -120,15 +119,15 @@ class Holds(unittest.TestCase):
 
         def take(_: int, tick: Callable[[], None]) -> None:
             tick()
-            self.follower.stop_asked = True
+            self.ending.ask()
             tick()
             self.fail("the signal isn't heard")
 
         self.noting.ends.clear()
-        self.follower.snapshots.take.side_effect = take  # type: ignore[attr-defined]
-        self.follower.progress.state = "following"
+        self.snapshots.take.side_effect = take
+        self.progress.state = "following"
         self.assertFalse(self.holds())
-        self.assertEqual(self.follower.progress.state, "following")
+        self.assertEqual(self.progress.state, "following")
 
 
 class Below(unittest.TestCase):

@@ -7,11 +7,12 @@ import unittest
 from unittest import mock
 
 from pgsub_connect.drift.remembered import Remembered
-from pgsub_connect.follow.stream_log import EPOCH, Noting
 from pgsub_connect.status.lag import Lag
 from pgsub_connect.status.progress import STATES, Progress
-
-from . import vectors
+from pgsub_connect.status.status_file import status_fields
+from pgsub_connect.stream.messages import EPOCH
+from pgsub_connect.stream.stream_log import Noting
+from tests import vectors
 
 
 class Behind(unittest.TestCase):
@@ -89,14 +90,14 @@ def at(payload: bytes, offset: int, seconds: float) -> bytes:
 class Commits(unittest.TestCase):
     def setUp(self) -> None:
         self.progress = Progress()
-        self.noting = Noting(self.progress, Remembered("/nonexistent/copy.db"))
+        self.noting = Noting(self.progress.stream, Remembered("/nonexistent/copy.db"))
 
     def note(self, *payloads: bytes) -> None:
         self.noting.note_all(payloads)
         self.noting.show()
 
     def waits_since(self) -> float | None:
-        return self.progress.lag.waits_since
+        return self.progress.stream.lag.waits_since
 
     def test_times(self) -> None:
         self.note(at(vectors.begin(500, 7), 34, 1e9), vectors.insert(1))
@@ -108,9 +109,11 @@ class Commits(unittest.TestCase):
         )
         self.assertEqual(self.waits_since(), 1e9)
         self.noting.confirm(508, 0)
-        self.assertEqual((self.progress.lag.last_commit, self.waits_since()), (1e9, 1e9 + 5))
+        self.assertEqual((self.progress.stream.lag.last_commit, self.waits_since()), (1e9, 1e9 + 5))
         self.noting.confirm(600, 0)
-        self.assertEqual((self.progress.lag.last_commit, self.waits_since()), (1e9 + 5, None))
+        self.assertEqual(
+            (self.progress.stream.lag.last_commit, self.waits_since()), (1e9 + 5, None)
+        )
 
     def test_streamed(self) -> None:
         self.note(vectors.start(7, True), vectors.insert(1, 7), vectors.stop())
@@ -120,32 +123,32 @@ class Commits(unittest.TestCase):
 
     def test_the_last_message(self) -> None:
         self.note()
-        self.assertIsNone(self.progress.last_message)
+        self.assertIsNone(self.progress.stream.last_message)
         self.note(vectors.keepalive(5))
-        self.assertIsNotNone(self.progress.last_message)
+        self.assertIsNotNone(self.progress.stream.last_message)
 
     def test_counts_never_go_back(self) -> None:
         """They are counters, of which a monitor takes any step back for a restart."""
         self.note(vectors.begin(500, 7), vectors.insert(1), vectors.insert(1))
         self.noting.begin_session()
         self.noting.show()
-        self.assertEqual(self.progress.passed_changes, 2)
+        self.assertEqual(self.progress.stream.changes, 2)
         self.note(vectors.begin(500, 7), vectors.insert(1), vectors.commit(500, 508))
-        self.assertEqual((self.progress.passed_changes, self.progress.passed_commits), (3, 1))
+        self.assertEqual((self.progress.stream.changes, self.progress.stream.commits), (3, 1))
 
 
 class Shown(unittest.TestCase):
     def test_all_of_it(self) -> None:
         progress = Progress()
         progress.state, progress.heartbeat, progress.program = "following", 1e9, "pgsub 0.1.0"
-        progress.note_confirmed(0x1_0000_0010, 0x1_0000_0008)
-        progress.note_server(150018, 2)
-        progress.lag.note_answer(1e9, 1e9, None, 0x1_0000_0020)
-        progress.lag.last_commit, progress.last_message = 1e9 - 3, 1e9 - 1
+        progress.stream.note_confirmed(0x1_0000_0010, 0x1_0000_0008)
+        progress.note_login(150018, 2)
+        progress.stream.lag.note_answer(1e9, 1e9, None, 0x1_0000_0020)
+        progress.stream.lag.last_commit, progress.stream.last_message = 1e9 - 3, 1e9 - 1
         progress.slot.wal_status, progress.slot.safe_wal_size = "reserved", 77
-        progress.sent_to = (0x1_0000_0018).to_bytes(8, "big")
-        progress.found, progress.skipped = {"values": "x"}, "0/7"
-        shown = json.loads(json.dumps(progress.shown(2.5, 1e9 + 2)))
+        progress.stream.sent_to = (0x1_0000_0018).to_bytes(8, "big")
+        progress.findings.found, progress.findings.skipped = {"values": "x"}, "0/7"
+        shown = json.loads(json.dumps(status_fields(progress, 2.5, 1e9 + 2)))
         for name, value in {
             "state": "following",
             "heartbeat": "2001-09-09T01:46:40Z",
@@ -170,7 +173,7 @@ class Shown(unittest.TestCase):
         self.assertIn("connector_version", shown)
 
     def test_what_isnt_known_is_left_out(self) -> None:
-        shown = Progress().shown(0.0, 1e9)
+        shown = status_fields(Progress(), 0.0, 1e9)
         for name in (
             "server_end",
             "lag_bytes",

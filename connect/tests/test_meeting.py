@@ -14,11 +14,11 @@ from pgsub_connect.commands.options import Options
 from pgsub_connect.commands.verify import meet
 from pgsub_connect.copy.copier import CHANGED
 from pgsub_connect.errors import NoSlot, Passing, ServerError, Stopped, Unfit
-from pgsub_connect.follow.hold import write_request
 from pgsub_connect.server.connection import Check, never
 from pgsub_connect.server.publications import Table
-from pgsub_connect.store.checkpoint import FOLLOWING, Known
+from pgsub_connect.store.checkpoint_lines import FOLLOWING, Known
 from pgsub_connect.store.snapshot import Snapshots, position_in
+from pgsub_connect.stream.hold import write_request
 from pgsub_connect.verify import meeting_point
 from pgsub_connect.verify.meeting_point import Request, Source
 from pgsub_connect.verify.unchanged import ALTERED, LOCKED, MOVED

@@ -18,12 +18,17 @@ from pgsub_connect.commands.words import ENDS, KINDS
 from pgsub_connect.drift.missed_rows import Misses, texts_of
 from pgsub_connect.drift.remembered import Remembered
 from pgsub_connect.errors import Passing, ServerError, Unfit
-from pgsub_connect.follow.awake import Awake
-from pgsub_connect.follow.filter import FilterEnded, Missing, flushed
 from pgsub_connect.follow.follower import Follower
 from pgsub_connect.server.connection import Connection
+from pgsub_connect.status.findings import Counted
 from pgsub_connect.status.progress import Progress
-from pgsub_connect.store.checkpoint import Checkpoint, Counted, Known
+from pgsub_connect.status.status_file import status_fields
+from pgsub_connect.store.checkpoint import Checkpoint
+from pgsub_connect.store.checkpoint_lines import Known
+from pgsub_connect.stream.awake import Awake
+from pgsub_connect.stream.filter_end import FilterEnded, Missing
+from pgsub_connect.stream.filter_input import FilterInput
+from pgsub_connect.stream.frames import flushed
 
 from .test_following import FAKE, Case
 from .vectors import a_catalog, a_table, begin, commit, delete, insert, keepalive
@@ -56,13 +61,13 @@ class FollowCase(Case):
     def takes_late(self, follower: Follower) -> None:
         """Has the filter take no commit before it was told that nothing more comes."""
         self.says(f"late {self.folder}/goes_on")
-        finish = follower.filter.finish
+        finish = follower.life.filter.finish
 
         def finishes() -> None:
             finish()
             Path(self.folder, "goes_on").touch()
 
-        self.patch(follower.filter, "finish", finishes)
+        self.patch(follower.life.filter, "finish", finishes)
 
     def stored(self) -> int:
         with open(self.store, encoding="ascii") as file:
@@ -120,8 +125,8 @@ class Order(FollowCase):
 
         def holds() -> bool:
             # (the second part of a line is said once the first one was read)
-            child = follower.filter
-            if child.runs and child.line and child.missing.total not in heard:
+            child = follower.life.filter
+            if child.runs and child.said.line and child.missing.total not in heard:
                 heard.add(child.missing.total)
                 Path(self.folder, "goes_on").touch()
             return self.confirmed() >= end
@@ -220,27 +225,28 @@ class Order(FollowCase):
     def test_a_status_isnt_repeated_that_couldnt_be_noted(self) -> None:
         """Not by a heartbeat either."""
         follower, sent = self.follower(), list[int]()
-        follower.confirming.told = follower.filter.status = status(0x100)
+        follower.confirming.told = follower.life.filter.status = status(0x100)
         follower.confirming.position = 0x100
         follower.noting.note_all(ONE)
         self.checkpoint.begin_counting(0x100, False)
 
         def serve(*_: object) -> tuple[list[int], list[int], list[bytes]]:
-            follower.filter.status, follower.filter.missing = status(0x108), Missing(1, 0x108, 1)
+            follower.life.filter.status = status(0x108)
+            follower.life.filter.said.missing = Missing(1, 0x108, 1)
             return [], [], [status(0x108)]
 
-        self.patch(follower.filter, "serve", serve)
-        self.patch(follower.filter, "runs", True)
+        self.patch(follower.life.filter, "serve", serve)
+        self.patch(follower.life.filter, "runs", True)
         self.patch(
             follower.confirming, "connection", mock.Mock(send=lambda it: sent.append(flushed(it)))
         )
         with mock.patch("os.fdatasync", side_effect=OSError(28, "No space left on device")):
             with self.assertRaisesRegex(Passing, "No space"):
-                follower.attend()
+                follower.requests.upkeep.attend()
             follower.confirming.last_sent = 0.0
-            follower.keep_alive(0.0)
+            follower.session.schedule.keep_alive(0.0)
         self.assertEqual(sent, [0x100])
-        follower.attend()
+        follower.requests.upkeep.attend()
         self.assertEqual(
             (sent[-1], self.checkpoint.counted), (0x108, Counted(0x100, 0x108, 1, 0x108, 1))
         )
@@ -269,7 +275,7 @@ class Calls(FollowCase):
         the server whether it was told of."""
         follower = self.follower()
         waiting, told, is_ready = list[int](), list[bool](), list[bool]()
-        serve, consume = follower.filter.serve, Connection.consume
+        serve, consume = follower.life.filter.serve, Connection.consume
 
         def serves(
             timeout: float,
@@ -277,7 +283,7 @@ class Calls(FollowCase):
             writes: Sequence[int] = (),
             awake: Awake | None = None,
         ) -> tuple[list[int], list[int], list[bytes]]:
-            waiting.append(follower.filter.waiting)
+            waiting.append(follower.life.filter.waiting)
             readable, writable, statuses = serve(timeout, reads, writes, awake)
             is_ready.append(
                 not (readable or writable) or any(it in (*readable, *writable) for it in reads)
@@ -285,18 +291,18 @@ class Calls(FollowCase):
             return readable, writable, statuses
 
         def consumes(connection: Connection) -> None:
-            if connection is follower.connection and follower.progress.state == "following":
+            if connection is follower.session.connection and follower.progress.state == "following":
                 told.append(is_ready[-1])
             consume(connection)
 
         with mock.patch.multiple(Connection, consume=consumes, is_wrapped=lambda _: is_wrapped):
-            real = follower.session
+            real = follower.session.run
 
             def session() -> None:
-                with mock.patch.object(follower.filter, "serve", serves):
+                with mock.patch.object(follower.life.filter, "serve", serves):
                     real()
 
-            self.patch(follower, "session", session)
+            self.patch(follower.session, "run", session)
             self.server.to_send = [
                 *ONE,
                 *[
@@ -329,7 +335,8 @@ class Calls(FollowCase):
 
         for where, names in (
             (Connection, ("consume", "send")),
-            (follower.filter, ("serve", "written_of")),
+            (follower.life.filter, ("serve",)),
+            (FilterInput, ("written_of",)),
             (follower.noting, ("note_all", "show")),
             (follower.watch, ("tend",)),
             (follower.adder, ("wants_session", "step")),
@@ -358,11 +365,13 @@ class Killed(FollowCase):
         self.says(f"dies {0x108}")
         follower = self.follower()
         self.server.to_send = [*missing_commit(0x100), *missing_commit(0x110)]
-        self.run_until(follower, lambda: self.progress.sessions >= 2 and self.stored() == 0x108)
+        self.run_until(
+            follower, lambda: self.progress.server.sessions >= 2 and self.stored() == 0x108
+        )
         self.assertIn(f"warning: found: missing at 0/0: {GAP}", self.said)
         self.assertEqual(self.checkpoint.read_counted(), Counted(0, 0x108, gap=(0, 0x108)))
-        self.assertEqual(self.progress.found, {"missing": GAP})
-        shown = self.progress.shown(0.0, 0.0)
+        self.assertEqual(self.progress.findings.found, {"missing": GAP})
+        shown = status_fields(self.progress, 0.0, 0.0)
         self.assertEqual(
             (shown["not_counted"], shown["counted_upto"], shown["missing"]),
             (["0/0", "0/108"], "0/108", 0),
@@ -415,7 +424,7 @@ class Killed(FollowCase):
         self.patch(follower.watch, "tend", tend)
         with self.assertRaisesRegex(Unfit, "something else"):
             follower.run()
-        self.assertFalse(follower.filter.is_running())
+        self.assertFalse(follower.life.filter.is_running())
         self.assertEqual((self.stored(), self.counted()), (0x118, Counted(0, 0x118, 1, 0x118, 1)))
         self.assertEqual(len(self.lines()), 1)
 
@@ -469,7 +478,7 @@ class Rejected(FollowCase):
 
     def test_one_that_doesnt_open_its_store(self) -> None:
         """It has said nothing of what a killed one before it had stored."""
-        child, words = self.follower().filter, ["/bin/sh", "-c", "exit 1", "sh"]
+        child, words = self.follower().life.filter, ["/bin/sh", "-c", "exit 1", "sh"]
         self.says(f"dies {0x108}")
         for by, told in ((child.words, False), (words, False), (child.words, True), (words, True)):
             child.words = by
@@ -524,7 +533,7 @@ class Told(FollowCase):
                 )
             ],
         )
-        self.assertEqual((misses.count, self.progress.missing_in), (9, "public.t (1)"))
+        self.assertEqual((misses.count, self.progress.findings.missing_in), (9, "public.t (1)"))
 
     def test_those_of_several_filters(self) -> None:
         misses = self.misses()
@@ -539,13 +548,13 @@ class Told(FollowCase):
     def test_while_following(self) -> None:
         """The line, the status file and its findings."""
         self.server.to_send = missing_commit(0x100, 3)
-        shown: list[dict[str, object]] = []
+        found: list[dict[str, object]] = []
 
         def holds() -> bool:
-            now = self.progress.shown(0.0, 0.0)
+            now = status_fields(self.progress, 0.0, 0.0)
             if self.confirmed() == 0x108 and now.get("counted_upto") == "0/108":
-                shown.append(now)
-            return bool(shown)
+                found.append(now)
+            return bool(found)
 
         self.run_until(self.follower(), holds)
         text = f"3 changes found no row, {FIRST_OF_T}"
@@ -558,8 +567,8 @@ class Told(FollowCase):
             "counted_upto": "0/108",
             "found": {"missing": text},
         }
-        self.assertEqual({name: shown[0].get(name) for name in fields}, fields)
-        self.assertNotIn("not_counted", shown[0])
+        self.assertEqual({name: found[0].get(name) for name in fields}, fields)
+        self.assertNotIn("not_counted", found[0])
         self.assertEqual(
             [it for it in self.said if "rows not found" in it or "status 16" in it], []
         )
@@ -570,10 +579,10 @@ class Told(FollowCase):
         self.takes_late(follower)
         self.server.to_send = missing_commit(0x100)
         self.run_until(
-            follower, lambda: follower.noting.commits == 1 and not follower.filter.waiting
+            follower, lambda: follower.noting.commits == 1 and not follower.life.filter.waiting
         )
         self.assertEqual((self.counted(), len(self.lines())), (Counted(0, 0x108, 1, 0x108, 1), 1))
-        self.assertIn("missing", self.progress.found)
+        self.assertIn("missing", self.progress.findings.found)
 
     def test_at_each_start(self) -> None:
         self.server.to_send = missing_commit(0x100)
@@ -590,9 +599,9 @@ class Told(FollowCase):
         """With this status it has ended well."""
         follower = self.follower()
         ended = FilterEnded(16, "")
-        for end in (follower.finish_filter, follower.end_session_by_ourselves):
+        for end in (follower.life.finish, follower.session.end):
             with mock.patch.multiple(
-                follower.filter,
+                follower.life.filter,
                 create=True,
                 runs=True,
                 takes=False,
@@ -631,7 +640,8 @@ class Strict(FollowCase):
             self.follower(strict=True, accept=["missing"]), lambda: self.server.sessions == 2
         )
         self.assertEqual(
-            (self.counted(), self.lines(), self.progress.found), (Counted(0, 0x108), [], {})
+            (self.counted(), self.lines(), self.progress.findings.found),
+            (Counted(0, 0x108), [], {}),
         )
         self.run_until(self.follower(strict=True), lambda: self.server.sessions == 3)
 
@@ -650,13 +660,13 @@ class Strict(FollowCase):
         follower = self.follower(strict=True)
         self.checkpoint.begin_counting(0, False)
         follower.misses.note(Missing(1, 0x108, 1), 0x108)
-        self.patch(follower, "serve", lambda *_: ([], [], []))
-        self.patch(follower.filter, "runs", True)
+        self.patch(follower.life, "serve", lambda *_: ([], [], []))
+        self.patch(follower.life.filter, "runs", True)
         follower.confirming.last_sent = float("inf")
-        follower.attend()
+        follower.requests.upkeep.attend()
         self.assertEqual(len(self.lines()), 1)
         with self.assertRaises(Unfit):
-            follower.tend_misses()
+            follower.life.tend_misses()
 
 
 class Statuses(FollowCase):

@@ -7,11 +7,13 @@ import tempfile
 import unittest
 
 from pgsub_connect.drift.remembered import Remembered
-from pgsub_connect.follow.stream_log import Noting, changes_text, relation_of
 from pgsub_connect.server.catalog import Partition
 from pgsub_connect.status.progress import Progress
+from pgsub_connect.stream.messages import relation_of
+from pgsub_connect.stream.stream_log import Noting
+from pgsub_connect.stream.transactions import changes_text
+from tests import vectors
 
-from . import vectors
 from .vectors import (
     ID,
     NAME,
@@ -42,7 +44,7 @@ class Case(unittest.TestCase):
         tree = (Partition(10, 0, "public.root", False), Partition(11, 10, "public.p1", True))
         self.remembered.begin_copy(a_catalog(*tables, partitions=tree), 100)
         self.progress = Progress()
-        self.noting = Noting(self.progress, self.remembered)
+        self.noting = Noting(self.progress.stream, self.remembered)
 
     def note(self, *payloads: bytes) -> None:
         self.noting.note_all(payloads)
@@ -55,9 +57,9 @@ class Case(unittest.TestCase):
 class Counts(Case):
     def test_a_pair(self) -> None:
         self.note(begin(500, 77), relation(1, "t"), insert(1), insert(1), update(1), delete(2))
-        self.assertEqual((self.progress.passed_changes, self.progress.passed_commits), (4, 0))
+        self.assertEqual((self.progress.stream.changes, self.progress.stream.commits), (4, 0))
         self.note(vectors.truncate(1, 2), vectors.message(), vectors.a_type(9), commit(500, 508))
-        self.assertEqual((self.progress.passed_changes, self.progress.passed_commits), (6, 1))
+        self.assertEqual((self.progress.stream.changes, self.progress.stream.commits), (6, 1))
         self.assertEqual(list(self.noting.ends), [508])
 
     def test_blocks(self) -> None:
@@ -73,7 +75,7 @@ class Counts(Case):
         self.assertEqual(list(self.noting.ends), [])
         self.note(vectors.stream_commit(7, 600, 608))
         self.assertEqual(
-            (self.progress.passed_changes, self.progress.passed_commits, list(self.noting.ends)),
+            (self.progress.stream.changes, self.progress.stream.commits, list(self.noting.ends)),
             (5, 1, [608]),
         )
         self.assertIn(
@@ -84,12 +86,12 @@ class Counts(Case):
 
     def test_where_the_server_is(self) -> None:
         self.note(keepalive(0x700))
-        self.assertEqual(self.progress.sent_to, (0x700).to_bytes(8, "big"))
+        self.assertEqual(self.progress.stream.sent_to, (0x700).to_bytes(8, "big"))
         self.assertIsNone(self.noting.asked)
         self.note(keepalive(0x800, asks=True))
         self.assertEqual(self.noting.asked, 0x800)
         self.note(vectors.data(b"E", end=0x900))
-        self.assertEqual(self.progress.sent_to, (0x900).to_bytes(8, "big"))
+        self.assertEqual(self.progress.stream.sent_to, (0x900).to_bytes(8, "big"))
 
     def test_confirmed(self) -> None:
         for lsn in (500, 510, 520):
@@ -191,7 +193,8 @@ class Relations(Case):
     def test_the_same(self) -> None:
         self.note(begin(500, 7), relation(1, "t"), insert(1), commit(500, 508))
         self.assertEqual(
-            (self.found(), self.remembered.last_sent(1), self.noting.wants_look), ({}, 500, False)
+            (self.found(), self.remembered.last_sent(1), self.noting.relation_log.wants_look),
+            ({}, 500, False),
         )
         self.assertFalse(self.remembered.is_urgent and self.remembered.news)
 
@@ -275,13 +278,13 @@ class Relations(Case):
 
     def test_a_table_of_the_same_name(self) -> None:
         self.note(begin(500, 7), relation(3, "t"), insert(3), commit(500, 508))
-        self.assertTrue(self.noting.wants_look)
+        self.assertTrue(self.noting.relation_log.wants_look)
         text = self.found()["names"][0]
         for word in ("public.t", "table 3 now", "was 1 before"):
             self.assertIn(word, text)
-        self.noting.wants_look = False
+        self.noting.relation_log.wants_look = False
         self.note(begin(510, 7), relation(3, "t"), insert(3), commit(510, 518))
-        self.assertFalse(self.noting.wants_look)
+        self.assertFalse(self.noting.relation_log.wants_look)
 
     def test_a_partition_has_no_changes(self) -> None:
         self.note(
@@ -291,14 +294,14 @@ class Relations(Case):
             insert(10),
             commit(500, 508),
         )
-        self.assertEqual((self.found(), self.noting.wants_look), ({}, False))
-        self.assertEqual(self.noting.described, {})
+        self.assertEqual((self.found(), self.noting.relation_log.wants_look), ({}, False))
+        self.assertEqual(self.noting.relation_log.described, {})
 
     def test_a_new_partition_asks_for_a_look(self) -> None:
         self.note(
             begin(500, 7), relation(10, "root"), relation(12, "p2"), insert(10), commit(500, 508)
         )
-        self.assertEqual((self.found(), self.noting.wants_look), ({}, True))
+        self.assertEqual((self.found(), self.noting.relation_log.wants_look), ({}, True))
         self.note(begin(510, 7), insert(10), commit(510, 518))
         self.assertNotIn(12, self.remembered.sent)
 
@@ -312,11 +315,11 @@ class Relations(Case):
         self.note(
             begin(500, 7), relation(20, "parted"), relation(2, "u"), insert(2), commit(500, 508)
         )
-        self.assertFalse(self.noting.wants_look)
+        self.assertFalse(self.noting.relation_log.wants_look)
         self.note(
             begin(510, 7), relation(20, "parted"), relation(2, "u"), insert(20), commit(510, 518)
         )
-        self.assertTrue(self.noting.wants_look)
+        self.assertTrue(self.noting.relation_log.wants_look)
         self.assertEqual(self.remembered.text_of(20), "public.parted (20)")
 
     def test_a_table_that_left_and_joined_again(self) -> None:
@@ -327,16 +330,16 @@ class Relations(Case):
         for lsn, looked, wants in ((510, 600, False), (610, 600, True), (620, 620, False)):
             self.remembered.catalog.tables.pop(1, None)
             self.remembered.catalog = dataclasses.replace(self.remembered.catalog, lsn=looked)
-            self.noting.wants_look = False
+            self.noting.relation_log.wants_look = False
             self.note(begin(lsn, 7), relation(1, "t"), insert(1), commit(lsn, lsn + 8))
-            self.assertEqual(self.noting.wants_look, wants, lsn)
+            self.assertEqual(self.noting.relation_log.wants_look, wants, lsn)
         for lsn in (700, 720):
             self.remembered.catalog.tables[1] = it
             self.note(begin(lsn, 7), relation(1, "t"), insert(1), commit(lsn, lsn + 8))
             self.remembered.catalog.tables.pop(1)
-            self.noting.wants_look = False
+            self.noting.relation_log.wants_look = False
             self.note(begin(lsn + 10, 7), relation(1, "t"), insert(1), commit(lsn + 10, lsn + 18))
-            self.assertTrue(self.noting.wants_look)
+            self.assertTrue(self.noting.relation_log.wants_look)
 
     def test_a_change_in_a_later_commit(self) -> None:
         self.note(begin(500, 7), relation(1, "t", [ID, NAME, MORE]), insert(2), commit(500, 508))

@@ -12,10 +12,11 @@ import unittest
 from collections.abc import Iterable, Iterator
 
 from pgsub_connect.drift.remembered import Remembered
-from pgsub_connect.follow.stream_log import Noting, relation_of
-from pgsub_connect.status.progress import Progress
+from pgsub_connect.status.counters import StreamCounters
+from pgsub_connect.stream.messages import relation_of
+from pgsub_connect.stream.stream_log import Noting
+from tests import vectors
 
-from . import vectors
 from .vectors import a_catalog, a_table, begin, commit, data, insert, relation
 
 MB = 1 << 20
@@ -50,7 +51,7 @@ class Case(unittest.TestCase):
         self.remembered.begin_copy(
             a_catalog(*(a_table(oid, f"t{oid}") for oid in range(1, 9))), 100
         )
-        self.noting = Noting(Progress(), self.remembered)
+        self.noting = Noting(StreamCounters(), self.remembered)
 
     def note(self, payloads: Iterable[bytes], size: int = SHORT) -> int:
         """Notes payloads of so many bytes. Returns how many bytes of memory are kept of them."""

@@ -151,7 +151,7 @@ class Given(Case):
 
     def test_a_request_that_is_changed(self) -> None:
         """Who asks changes its own file alone, and a follower nothing that a link leads to."""
-        from pgsub_connect.follow.hold import write_own_request, write_request
+        from pgsub_connect.stream.hold import write_own_request, write_request
 
         request = self.folder + "/asked"
         file = os.open(request, os.O_RDWR | os.O_CREAT, 0o600)

@@ -15,11 +15,13 @@ from pgsub_connect.commands.options import Options
 from pgsub_connect.commands.record import Aside, Recording
 from pgsub_connect.drift.remembered import Remembered
 from pgsub_connect.errors import ServerError
-from pgsub_connect.follow.filter import PIECE, REJECTED, ROOM, Filter, FilterEnded
 from pgsub_connect.follow.follower import Follower
 from pgsub_connect.status.progress import Progress
 from pgsub_connect.store.checkpoint import Checkpoint
 from pgsub_connect.store.snapshot import Snapshots
+from pgsub_connect.stream.filter import Filter
+from pgsub_connect.stream.filter_end import REJECTED, FilterEnded
+from pgsub_connect.stream.filter_input import PIECE, ROOM
 
 from .vectors import a_catalog, a_table, begin, commit, insert, keepalive, logged, relation
 
@@ -59,7 +61,11 @@ class Case(unittest.TestCase):
         remembered.begin_copy(a_catalog(a_table(1, "t")), 100)
         self.child = Filter([FAKE, "follow", "--store", self.store], ())
         self.addCleanup(self.child.kill)
-        self.child.pending, self.child.waiting, self.child.written = collections.deque(), 0, 0
+        self.child.input.pending, self.child.input.waiting, self.child.input.written = (
+            collections.deque(),
+            0,
+            0,
+        )
         self.recording = Recording(folder.name + "/r.pgx", False, 1 << 30)
         self.addCleanup(self.recording.out.close)
         options = Options(store=self.store, publication=["pgsub"], skip=0x210)
@@ -75,12 +81,12 @@ class Case(unittest.TestCase):
 
     def take(self, source: Source) -> bool | None:
         """Takes as much as there is room for, as a session does."""
-        while (more := self.follower.take_payloads(source)) and self.child.has_room():  # type: ignore[arg-type]
+        while (more := self.follower.session.take_payloads(source)) and self.child.has_room():  # type: ignore[arg-type]
             pass
         return more
 
     def pushed(self) -> bytes:
-        return b"".join(self.child.pending)
+        return b"".join(self.child.input.pending)
 
     def recorded(self) -> bytes:
         self.recording.flush()
@@ -98,7 +104,7 @@ class Passes(Case):
             commit(0x100, 0x108),
         ]
         for then, result in ((b"", False), (None, None)):
-            self.child.pending.clear()
+            self.child.input.pending.clear()
             self.assertIs(self.take(Source(payloads, then)), result)
             self.assertEqual(self.pushed(), framed(*payloads))
 
@@ -106,7 +112,7 @@ class Passes(Case):
         with self.assertRaises(ServerError):
             self.take(Source([begin(0x100, 7), insert(1)], ServerError("gone")))
         self.assertEqual(self.pushed(), framed(begin(0x100, 7), insert(1)))
-        self.assertEqual(self.child.waiting, len(self.pushed()))
+        self.assertEqual(self.child.input.waiting, len(self.pushed()))
 
     def test_long_ones_between(self) -> None:
         long = insert(1) + bytes(3 * PIECE)
@@ -118,13 +124,13 @@ class Passes(Case):
         source = Source([insert(1) + bytes(10000)] * 1000)
         self.assertIs(self.take(source), True)
         self.assertFalse(self.child.has_room())
-        self.assertLess(self.child.waiting, ROOM + 2 * 10100)
+        self.assertLess(self.child.input.waiting, ROOM + 2 * 10100)
         left = len(source.left)
         self.assertIs(self.take(source), True)
         self.assertEqual(len(source.left), left)
 
     def test_one_commit_without_its_changes(self) -> None:
-        self.follower.skipping.begin_session(0x200)
+        self.follower.life.form.skipping.begin_session(0x200)
         pair = [begin(0x210, 7), relation(1, "t"), insert(1), commit(0x210, 0x218)]
         with logged() as said:
             self.take(Source(pair))
@@ -136,10 +142,15 @@ class Passes(Case):
     def test_the_recording_says_which_version_is_asked_for(self) -> None:
         """That of the session, which isn't always the one that was said."""
         follower = self.follower
-        follower.proto, follower.streams = 1, False
-        self.assertIn("proto_version '1', publication_names", follower.command(0))
+        follower.life.form.proto, follower.life.form.streams = 1, False
+        self.assertIn(
+            "proto_version '1', publication_names",
+            follower.life.form.command("pgsub", ["pgsub"], 0),
+        )
         chosen = dataclasses.replace(
-            follower.options, proto=follower.proto, streaming=follower.is_streaming()
+            follower.options,
+            proto=follower.life.form.proto,
+            streaming=follower.life.form.is_streaming(),
         )
         connection = mock.Mock()
         connection.parameter.return_value = "13.9"
@@ -150,10 +161,10 @@ class Passes(Case):
 
     def test_whole_transactions_while_it_is_to_come(self) -> None:
         with logged():
-            self.follower.skipping.begin_session(0x211)
-        self.assertIn("streaming 'on'", self.follower.command(0))
-        self.follower.skipping.begin_session(0x210)
-        self.assertNotIn("streaming", self.follower.command(0))
+            self.follower.life.form.skipping.begin_session(0x211)
+        self.assertIn("streaming 'on'", self.follower.life.form.command("pgsub", ["pgsub"], 0))
+        self.follower.life.form.skipping.begin_session(0x210)
+        self.assertNotIn("streaming", self.follower.life.form.command("pgsub", ["pgsub"], 0))
 
     def test_up_to_an_lsn(self) -> None:
         """What comes behind it waits until the copy is taken, in the recording too."""
@@ -165,11 +176,11 @@ class Passes(Case):
         ]
         hold.begin("copy", 10.0)
         hold.go(0x110)
-        self.assertIs(self.follower.take_payloads(Source([*below, *above])), True)  # type: ignore[arg-type]
+        self.assertIs(self.follower.session.take_payloads(Source([*below, *above])), True)  # type: ignore[arg-type]
         self.assertEqual((self.pushed(), self.recorded()), (framed(*below), framed(*below)))
         self.assertEqual((list(self.follower.noting.ends), hold.stops()), ([0x108], True))
         hold.end()
-        self.assertIs(self.follower.take_payloads(Source([keepalive(0x300)])), True)  # type: ignore[arg-type]
+        self.assertIs(self.follower.session.take_payloads(Source([keepalive(0x300)])), True)  # type: ignore[arg-type]
         self.assertIs(self.take(Source([keepalive(0x300)])), False)
         self.assertEqual(self.pushed(), framed(*below, *above, keepalive(0x300)))
 
@@ -179,7 +190,7 @@ class Passes(Case):
         hold.begin("copy", 10.0)
         hold.go(0x110)
         rest = [keepalive(0x110), insert(1), commit(0x100, 0x108)]
-        self.follower.take_payloads(Source([*rest, keepalive(0x110)]))  # type: ignore[arg-type]
+        self.follower.session.take_payloads(Source([*rest, keepalive(0x110)]))  # type: ignore[arg-type]
         self.assertEqual(self.pushed(), framed(begin(0x100, 7), insert(1), *rest))
         self.assertEqual(hold.kept, [keepalive(0x110)])
 
@@ -187,9 +198,9 @@ class Passes(Case):
         hold = self.follower.snapshots.hold
         hold.begin("copy", 10.0)
         hold.go(0x100)
-        self.assertIsNone(self.follower.take_payloads(Source([begin(0x100, 7)], None)))  # type: ignore[arg-type]
+        self.assertIsNone(self.follower.session.take_payloads(Source([begin(0x100, 7)], None)))  # type: ignore[arg-type]
         self.child.runs = False
-        self.follower.disconnect()
+        self.follower.session.disconnect()
         self.assertEqual((hold.kept, self.pushed()), ([], b""))
 
 
@@ -211,7 +222,7 @@ class Rejects(Case):
             )
         )
         with logged() as lines, self.assertRaises(FilterEnded):
-            self.follower.note_end(FilterEnded(REJECTED, said))
+            self.follower.life.note_end(FilterEnded(REJECTED, said))
         return lines
 
     def test_which_commit(self) -> None:

@@ -23,8 +23,8 @@ from pgsub_connect.server.connection import (
     parameters,
 )
 from pgsub_connect.server.libpq import LIBPQ
+from tests import small_server
 
-from . import small_server
 from .fake_server import FakeServer, Quiet
 from .small_server import SmallServer, error, message
 

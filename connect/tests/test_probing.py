@@ -11,7 +11,8 @@ import time
 import unittest
 
 from pgsub_connect import cli
-from pgsub_connect.status.progress import Progress, time_text
+from pgsub_connect.status.progress import Progress
+from pgsub_connect.status.status_file import status_fields, time_text
 
 
 class Probes(unittest.TestCase):
@@ -21,9 +22,9 @@ class Probes(unittest.TestCase):
         self.path = folder.name + "/status"
         progress = Progress()
         progress.state = "following"
-        progress.note_confirmed(0x500, 0x500)
+        progress.stream.note_confirmed(0x500, 0x500)
         self.status: dict[str, object] = {
-            **progress.shown(0.0, time.time()),
+            **status_fields(progress, 0.0, time.time()),
             "lag_bytes": 5000,
             "lag_seconds": 12.5,
         }

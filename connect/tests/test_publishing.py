@@ -25,7 +25,8 @@ from pgsub_connect.server.publications import (
     united,
     with_cure,
 )
-from tests.fake_server import FakeServer, Quiet, Row, connection_to
+
+from .fake_server import FakeServer, Quiet, Row, connection_to
 
 KEY, OTHER = Column("id", 23, -1, True), Column('Q"x', 25, -1, False)
 

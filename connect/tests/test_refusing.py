@@ -69,8 +69,8 @@ class InTheWay(Case):
             run.until(lambda: len([it for it in self.said if "made no slot" in it]) > 3), self.said
         )
         self.assertTrue(
-            run.until(lambda: "made no slot" in run.progress.adding["public.t (16385)"]),
-            run.progress.adding,
+            run.until(lambda: "made no slot" in run.progress.findings.adding["public.t (16385)"]),
+            run.progress.findings.adding,
         )
         self.world.commit(insert(THIRD, (1, "x")))
         end = self.world.end
@@ -105,7 +105,7 @@ class InTheWay(Case):
         self.assertIn(text, run.remembered.wanted[T])
         self.change()
         self.assertTrue(run.until(lambda: self.is_stored(run)), (self.said, run.raised))
-        self.assertIn("can't be added", run.progress.found["publication"])
+        self.assertIn("can't be added", run.progress.findings.found["publication"])
         run.end()
         self.assertEqual(read_known(self.store + ".connector").found.keys(), {"publication"})
         self.assertEqual(WorldSource.open, 0)

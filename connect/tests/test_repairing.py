@@ -18,12 +18,12 @@ from pgsub_connect.drift.findings import About
 from pgsub_connect.drift.remembered import Remembered
 from pgsub_connect.drift.watch import Watch
 from pgsub_connect.errors import Passing, Unrepaired
-from pgsub_connect.follow.hold import Hold
 from pgsub_connect.follow.repair import Repairing, Unusable, messages_in
 from pgsub_connect.server.connection import never
 from pgsub_connect.server.publications import Table
 from pgsub_connect.store import snapshot
 from pgsub_connect.store.snapshot import Snapshots
+from pgsub_connect.stream.hold import Hold
 from pgsub_connect.verify.digests import Plan, text_of
 from pgsub_connect.verify.meeting_point import Request
 from pgsub_connect.verify.repair_rows import Changes, changes_of
@@ -135,7 +135,7 @@ class Repairs(Case):
         """Ends once all is stored, and compares."""
         self.change()
         self.assertTrue(
-            run.until(lambda: self.is_stored(run) and not run.follower.is_whole),
+            run.until(lambda: self.is_stored(run) and not run.follower.life.form.is_whole),
             (self.said, run.raised),
         )
         run.end()
@@ -156,7 +156,7 @@ class Repaired(Repairs):
         begins there."""
         run = self.running()
         self.repair()
-        self.assertTrue(run.until(lambda: run.progress.sessions == 3))
+        self.assertTrue(run.until(lambda: run.progress.server.sessions == 3))
         self.assertEqual(
             (self.streams(1), self.server.started[3][0]), ([True, False, True], self.points[0])
         )
@@ -166,7 +166,7 @@ class Repaired(Repairs):
     def test_a_session_that_streams_nothing(self) -> None:
         run = self.running(proto=1)
         self.repair()
-        self.assertTrue(run.until(lambda: run.progress.sessions == 2))
+        self.assertTrue(run.until(lambda: run.progress.server.sessions == 2))
         self.assertEqual(self.server.started[2][0], self.points[0])
         self.ends(run)
 
@@ -199,7 +199,7 @@ class Repaired(Repairs):
             with open(request.changes(), "rb") as file:
                 written = file.read()
             request.pass_on([T])
-        self.assertTrue(run.until(lambda: run.progress.sessions == 2))
+        self.assertTrue(run.until(lambda: run.progress.server.sessions == 2))
         point, payloads = self.points[0], list(payloads_in(b"".join(passed)))
         first = next(
             at
@@ -234,7 +234,7 @@ class Repaired(Repairs):
         with self.compared():
             self.assertTrue(run.until(lambda: run.progress.state == "repairing rows"))
         self.assertTrue(
-            run.until(lambda: run.progress.sessions == 3 and not run.snapshots.hold.is_held),
+            run.until(lambda: run.progress.server.sessions == 3 and not run.snapshots.hold.is_held),
             (self.said, run.raised),
         )
         self.assertTrue(run.until(lambda: run.progress.state == "following"))
@@ -280,9 +280,9 @@ class Repaired(Repairs):
 
         def lose(name: str) -> None:
             if name == "copied":
-                sessions = run.progress.sessions
+                sessions = run.progress.server.sessions
                 run.filter.child.kill()
-                self.assertTrue(run.until(lambda: run.progress.sessions > sessions))
+                self.assertTrue(run.until(lambda: run.progress.server.sessions > sessions))
 
         self.hook = lose
         with self.assertRaisesRegex(Passing, "repaired nothing"):
@@ -331,7 +331,7 @@ class Repaired(Repairs):
             self.repair()
         self.change()
         self.assertTrue(run.until(lambda: self.is_stored(run)), (self.said, run.raised))
-        self.assertEqual(run.progress.sessions, 1)
+        self.assertEqual(run.progress.server.sessions, 1)
         run.follower.options.max_buffered, run.follower.options.max_frame = 1 << 20, 30
         with self.assertRaisesRegex(Unrepaired, "--max-frame"):
             self.repair()
@@ -495,9 +495,9 @@ class Held(unittest.TestCase):
             self.assertEqual(asked.hold.is_held, is_sent)
 
     def test_sessions(self) -> None:
-        it, stream, asked = mock.Mock(), mock.Mock(), mock.Mock()
+        it, form, asked = mock.Mock(), mock.Mock(), mock.Mock()
         asked.hold = Hold()
-        repairing = Repairing(it, it, it, it, it, it, it, asked, stream)
+        repairing = Repairing(it, it, it, it, it, it, it, asked, it, form)
         found = []
         for wants, streaming, streams, keeps in (
             (False, True, True, False),
@@ -509,7 +509,7 @@ class Held(unittest.TestCase):
             (False, False, False, False),
         ):
             asked.wants_whole, asked.hold.keeps, asked.hold.is_held = wants, keeps, keeps
-            stream.is_streaming.return_value = streaming
+            form.is_streaming.return_value = streaming
             wanted = repairing.wants_session()
             found.append((wanted, repairing.begin_session(streams), repairing.is_whole))
         self.assertEqual(

@@ -15,9 +15,9 @@ from pgsub_connect.follow.server_watch import Asker, SlotWarning
 from pgsub_connect.server import session
 from pgsub_connect.status import files
 from pgsub_connect.status.files import Replaced, Reporter, program_version
+from pgsub_connect.status.findings import Counted
 from pgsub_connect.status.metrics import metrics_text
 from pgsub_connect.status.progress import STATES, Progress
-from pgsub_connect.store.checkpoint import Counted
 
 from .fake_server import FakeServer, Quiet
 
@@ -138,12 +138,12 @@ class Metrics(unittest.TestCase):
     def text(self, store: str = "copy.db") -> str:
         progress = Progress()
         progress.state, progress.program = "following", 'pgsub "0.1"'
-        progress.note_confirmed(0x10, 0x8)
-        progress.lag.note_answer(1e9, 1e9, None, 0x20)
+        progress.stream.note_confirmed(0x10, 0x8)
+        progress.stream.lag.note_answer(1e9, 1e9, None, 0x20)
         progress.slot.wal_status, progress.slot.safe_wal_size = "extended", 77
-        progress.found = {"values": "x"}
-        progress.passed_changes = 5
-        progress.counted = Counted(1, 20, 3, 7, 16385, (5, 12))
+        progress.findings.found = {"values": "x"}
+        progress.stream.changes = 5
+        progress.findings.counted = Counted(1, 20, 3, 7, 16385, (5, 12))
         return metrics_text(progress, 1e9 + 2, {"slot": "pgsub", "store": store})
 
     def test_each_sample_is_described_once(self) -> None:
@@ -244,7 +244,7 @@ class Asks(Quiet):
         ]
         self.server.answer("pg_replication_slots", lambda _: [[self.standby, *self.row]])
         self.progress = Progress()
-        self.progress.sessions = 1
+        self.progress.server.sessions = 1
         self.asker = Asker(Options(status_file="x"), self.progress)
 
     def test_end_and_slot(self) -> None:
@@ -252,14 +252,14 @@ class Asks(Quiet):
         self.asker.ask()
         self.assertEqual(
             (
-                self.progress.lag.end,
+                self.progress.stream.lag.end,
                 self.progress.slot.wal_status,
                 self.progress.slot.safe_wal_size,
             ),
             (0x30, "extended", 50),
         )
         self.assertEqual((self.server.opened, len(self.said)), (1, 1))
-        self.assertLess(self.progress.lag.skew, -1e9)
+        self.assertLess(self.progress.stream.lag.skew, -1e9)
 
     def test_a_server_without_these_columns(self) -> None:
         self.server.server_version = 120000
@@ -271,11 +271,11 @@ class Asks(Quiet):
         self.assertEqual(self.server.told("wal_status"), [])
 
     def test_whether_commits_wait(self) -> None:
-        self.progress.name = "pgsub"
+        self.progress.server.name = "pgsub"
         for standbys, waits in (("FIRST 1 (other, pgsub)", True), ("other", False)):
             self.row[4] = standbys
             self.asker.ask()
-            self.assertIs(self.progress.is_waited_for, waits)
+            self.assertIs(self.progress.server.is_waited_for, waits)
 
     def test_a_lost_connection_is_made_again(self) -> None:
         self.asker.ask()
@@ -291,19 +291,19 @@ class Asks(Quiet):
             ("f", 7, False, False),
             ("f", 7, True, True),
         ):
-            self.standby, self.progress.server_started, self.progress.is_standby = (
+            self.standby, self.progress.server.started, self.progress.server.is_standby = (
                 standby,
                 started,
                 was_standby,
             )
             self.asker.ask()
-            self.assertIs(self.progress.was_promoted, promoted)
+            self.assertIs(self.progress.server.was_promoted, promoted)
 
     def test_the_thread_ends(self) -> None:
         with mock.patch.object(server_watch, "SHOWN", 0.001):
             asker = Asker(Options(status_file="x"), self.progress)
         asker.start()
-        while not self.progress.lag.end:
+        while not self.progress.stream.lag.end:
             pass
         asker.finish()
         self.assertFalse(asker.is_alive())

@@ -6,9 +6,9 @@ import unittest
 
 from pgsub_connect.cli import REJECTED, status_of
 from pgsub_connect.commands.options import Options
-from pgsub_connect.follow.filter import FRAME_TOO_LARGE, MEMORY, SPOOL_FULL, FilterEnded
-from pgsub_connect.follow.memory_limit import LONGEST_FRAME
-from pgsub_connect.follow.too_large import LEAST, KilledTwice, Kills, text_of
+from pgsub_connect.stream.filter_end import FRAME_TOO_LARGE, MEMORY, SPOOL_FULL, FilterEnded
+from pgsub_connect.stream.memory_limit import LONGEST_FRAME
+from pgsub_connect.stream.too_large import LEAST, KilledTwice, Kills, text_of
 
 from .test_passing import Case, Source
 from .vectors import begin, commit, insert, logged
@@ -98,7 +98,7 @@ class Texts(unittest.TestCase):
 class Follows(Case):
     def end(self, status: int, said: str = "") -> list[str]:
         with logged() as lines:
-            self.follower.note_end(FilterEnded(status, said))
+            self.follower.life.note_end(FilterEnded(status, said))
         return lines
 
     def test_killed(self) -> None:
@@ -108,15 +108,15 @@ class Follows(Case):
             [begin(0x100, 7), insert(1) + bytes(LEAST)],
             [begin(0x100, 7), insert(1) + bytes(LEAST), commit(0x100, 0x108)],
         ):
-            self.follower.kills.xid = 0
+            self.follower.life.kills.xid = 0
             for repeat in range(2):
                 self.follower.noting.begin_store()
-                self.child.pending.clear()
-                self.child.waiting = 0
+                self.child.input.pending.clear()
+                self.child.input.waiting = 0
                 source = Source([begin(0x90, 6), insert(1), commit(0x90, 0x98), *payloads])
                 while self.take(source):
-                    self.child.pending.clear()
-                    self.child.waiting = 0
+                    self.child.input.pending.clear()
+                    self.child.input.waiting = 0
                 if repeat:
                     with self.assertRaisesRegex(
                         KilledTwice, f"twice in the transaction 7, of which {LEAST}"[:-3]
@@ -135,7 +135,7 @@ class Follows(Case):
             ["warning: open transactions were too much at a time: they come whole from now on"],
         )
         with logged() as lines, self.assertRaises(FilterEnded):
-            self.follower.note_end(FilterEnded(SPOOL_FULL, "pgsub: spool 1 SpoolFull"))
+            self.follower.life.note_end(FilterEnded(SPOOL_FULL, "pgsub: spool 1 SpoolFull"))
         self.assertIn(
             f"error: transaction 7 had {10 * len(insert(1))} bytes so far, and 100 may be buffered",
             lines[0],
@@ -146,7 +146,7 @@ class Follows(Case):
         self.take(Source([begin(0x100, 7), long, insert(1)]))
         self.follower.options.max_frame = 1 << 16
         with logged() as lines, self.assertRaises(FilterEnded):
-            self.follower.note_end(FilterEnded(FRAME_TOO_LARGE, "pgsub: wire 3 TooLarge"))
+            self.follower.life.note_end(FilterEnded(FRAME_TOO_LARGE, "pgsub: wire 3 TooLarge"))
         self.assertIn(
             f"a message had {len(long)} bytes, and 65536 are accepted: give --max-frame", lines[0]
         )

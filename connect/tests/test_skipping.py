@@ -6,11 +6,11 @@ import tempfile
 import unittest
 
 from pgsub_connect.drift.remembered import Remembered
-from pgsub_connect.follow.skip import Skipping
 from pgsub_connect.status.progress import Progress
 from pgsub_connect.store.checkpoint import Checkpoint
+from pgsub_connect.stream.skip import Skipping
+from tests import vectors
 
-from . import vectors
 from .vectors import (
     a_catalog,
     a_table,
@@ -81,7 +81,11 @@ class Skips(Case):
         )
         self.assertFalse(skipping.is_pending)
         self.assertEqual(
-            (self.checkpoint.known.skipped, self.checkpoint.read().skipped, self.progress.skipped),
+            (
+                self.checkpoint.known.skipped,
+                self.checkpoint.read().skipped,
+                self.progress.findings.skipped,
+            ),
             (TEXT, TEXT, TEXT),
         )
         after = (begin(LSN + 16, 78), insert(1), commit(LSN + 16, LSN + 24), keepalive(LSN + 99))
@@ -129,7 +133,7 @@ class SkipsNothing(Case):
         self.checkpoint.write(True, skipped=TEXT)
         with logged() as said:
             self.skipping(at=LSN + 8)
-        self.assertEqual((said, self.progress.skipped), ([], TEXT))
+        self.assertEqual((said, self.progress.findings.skipped), ([], TEXT))
 
     def test_there_is_no_such_commit(self) -> None:
         for past in (

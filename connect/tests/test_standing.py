@@ -35,21 +35,21 @@ class Stopped(Case):
         """A follower whose filter is stopped as soon as a session has begun, while much comes."""
         follower = self.follower(**options)
         self.server.to_send += [begin(0x100, 7), *LARGE, commit(0x100, 0x108)]
-        connect = follower.connect
+        connect = follower.session.connect
 
         def stop() -> object:
             connection = connect()
-            if follower.progress.sessions == 1:
-                os.kill(follower.filter.pid(), signal.SIGSTOP)
+            if follower.progress.server.sessions == 1:
+                os.kill(follower.life.filter.pid(), signal.SIGSTOP)
             return connection
 
-        self.patch(follower, "connect", stop)
+        self.patch(follower.session, "connect", stop)
         self.addCleanup(self.go_on, follower)
         return follower
 
     def go_on(self, follower: Follower) -> None:
-        if follower.filter.is_running():
-            os.kill(follower.filter.pid(), signal.SIGCONT)
+        if follower.life.filter.is_running():
+            os.kill(follower.life.filter.pid(), signal.SIGCONT)
 
     def then_goes_on(self, follower: Follower, held: bool) -> bool:
         """Lets the filter go on where the test has seen all, so that the follower can end."""
@@ -68,17 +68,17 @@ class Stopped(Case):
             if self.ended() and not waited:
                 # (several delays between sessions pass)
                 time.sleep(0.3)
-                waited.append(follower.progress.sessions)
-                self.assertIsNone(follower.connection)
+                waited.append(follower.progress.server.sessions)
+                self.assertIsNone(follower.session.connection)
                 self.server.to_send[:] = [begin(0x100, 7), *LARGE, commit(0x100, 0x108)]
                 self.go_on(follower)
             return self.confirmed() == 0x108
 
         self.run_until(follower, holds)
         self.assertEqual(waited, [1])
-        self.assertEqual(follower.progress.sessions, 2)
+        self.assertEqual(follower.progress.server.sessions, 2)
         text = "has stood still for 1 second: the session is ended"
-        self.assertIn(f"the filter (process {follower.filter.pid()}) {text}", self.ended()[0])
+        self.assertIn(f"the filter (process {follower.life.filter.pid()}) {text}", self.ended()[0])
 
     def test_sooner_where_the_slot_is_about_to_be_lost(self) -> None:
         self.patch(stall, "ENDANGERED", 0.2)
@@ -86,10 +86,11 @@ class Stopped(Case):
         began, slot = list[float](), follower.progress.slot
 
         def holds() -> bool:
-            # (it is asked for again and again)
-            if follower.progress.is_unread:
+            if slot.is_unread:
+                # (it is told again and again, as the filter may stand still later than it was
+                # noted first)
                 began.append(time.monotonic())
-                slot.wal_status, slot.told = "unreserved", time.monotonic()
+                slot.note("unreserved", None)
             return self.then_goes_on(follower, bool(self.ended()))
 
         self.patch(stall, "NOTED", 0.05)
@@ -101,7 +102,7 @@ class Stopped(Case):
         self.patch(stall, "ENDANGERED", 0.1)
         follower = self.stopped(silence=1.0)
         slot = follower.progress.slot
-        slot.wal_status, slot.told = "unreserved", time.monotonic()
+        slot.note("unreserved", None)
         began = time.monotonic()
         self.run_until(follower, lambda: self.then_goes_on(follower, bool(self.ended())))
         self.assertGreater(time.monotonic() - began, 1.0)
@@ -113,39 +114,39 @@ class Stopped(Case):
         follower = self.stopped(silence=0.3)
         until = time.monotonic() + 2.0
         self.run_until(follower, lambda: self.then_goes_on(follower, time.monotonic() > until))
-        self.assertEqual((self.ended(), follower.progress.sessions), ([], 1))
+        self.assertEqual((self.ended(), follower.progress.server.sessions), ([], 1))
 
     def test_the_end_is_waited_for_without_a_session(self) -> None:
         follower = self.stopped(silence=0.4)
 
         def holds() -> bool:
-            return follower.progress.is_unread or bool(self.ended())
+            return follower.progress.slot.is_unread or bool(self.ended())
 
         self.patch(stall, "NOTED", 0.05)
-        disconnect, gone = follower.disconnect, list[bool]()
+        disconnect, gone = follower.session.disconnect, list[bool]()
 
         def note() -> None:
             disconnect()
-            gone.append(follower.filter.is_running())
+            gone.append(follower.life.filter.is_running())
             self.go_on(follower)
 
-        self.patch(follower, "disconnect", note)
+        self.patch(follower.session, "disconnect", note)
         self.run_until(follower, holds)
         self.assertTrue(gone[-1])
-        self.assertFalse(follower.filter.is_running())
+        self.assertFalse(follower.life.filter.is_running())
 
 
 class Held(Case):
     def test_a_held_stream_ends_the_session_where_the_slot_is_about_to_be_lost(self) -> None:
         follower = self.follower()
-        follower.start_filter()
+        follower.life.start()
         follower.progress.slot.wal_status = "unreserved"
         now = [100.0]
         self.patch(stall, "time", unittest.mock.Mock(monotonic=lambda: now[0]))
         follower.standing.check(60.0, is_held=True)
         now[0] = follower.progress.slot.told = 101.0
         follower.standing.check(60.0, is_held=True)
-        self.assertTrue(follower.progress.is_unread)
+        self.assertTrue(follower.progress.slot.is_unread)
         now[0] = 102.5
         follower.standing.check(60.0, is_held=False)
         follower.standing.check(60.0, is_held=True)
@@ -178,12 +179,13 @@ class Activity(unittest.TestCase):
 class Lasts(Case):
     def test_until_the_filter_is_gone(self) -> None:
         follower = self.follower()
-        follower.start_filter()
-        it = Standing(follower.filter, follower.progress)
-        stop(follower.filter.pid())
+        follower.life.start()
+        it = Standing(follower.life.filter, follower.progress)
         it.found, it.is_left = it.look(), True
+        os.kill(follower.life.filter.pid(), signal.SIGSTOP)
+        it.found = it.look()
         self.assertTrue(it.lasts())
-        follower.filter.kill()
+        follower.life.filter.kill()
         self.assertFalse(it.lasts())
         self.assertFalse(it.is_left)
 

@@ -19,7 +19,7 @@ from pgsub_connect.commands.verify import Verifier
 from pgsub_connect.errors import FileError, NoSlot, Passing, Stopped, Unfit, Unrepaired
 from pgsub_connect.server.connection import never
 from pgsub_connect.server.publications import Column, Table
-from pgsub_connect.store.checkpoint import FOLLOWING, Known
+from pgsub_connect.store.checkpoint_lines import FOLLOWING, Known
 from pgsub_connect.verify.digests import NotText, Plan, Summing, fields_of, text_of
 from pgsub_connect.verify.meeting_point import Source
 from pgsub_connect.verify.sides import Copy, Sides

@@ -17,6 +17,7 @@ from pgsub_connect.errors import ServerError, Unfit
 from pgsub_connect.server.catalog import Catalog
 from pgsub_connect.server.connection import never
 from pgsub_connect.status.progress import Progress
+from pgsub_connect.status.status_file import status_fields
 from pgsub_connect.store.checkpoint import Checkpoint
 
 from .fake_server import FakeServer, connection_to
@@ -61,15 +62,15 @@ class Shown(Case):
             watch_module, "PART", 1e9
         ):
             self.compare(watch, a_catalog(T, U, lsn=200))
-            before = self.progress.found["publication"]
+            before = self.progress.findings.found["publication"]
             self.compare(watch, a_catalog(T, U, a_table(3, "v"), lsn=300))
         self.assertEqual(len(said), 2)
-        self.assertEqual(self.progress.found["publication"], before)
+        self.assertEqual(self.progress.findings.found["publication"], before)
         watch.tend(False, never, 0)
-        self.assertNotIn("public.v", self.progress.found["publication"])
+        self.assertNotIn("public.v", self.progress.findings.found["publication"])
         watch.next_show = 0.0
         watch.tend(False, never, 0)
-        self.assertIn("public.v", self.progress.found["publication"])
+        self.assertIn("public.v", self.progress.findings.found["publication"])
 
     def test_a_strict_one_ends_at_once(self) -> None:
         watch = self.watch()
@@ -100,8 +101,8 @@ class Found(Case):
             with logged() as again:
                 self.compare(self.watch(), a_catalog(T, U, lsn=300))
             self.assertEqual(again, said)
-            self.assertEqual(list(self.progress.found), ["publication"])
-            self.assertIn("found", self.progress.shown(0.0, 0.0))
+            self.assertEqual(list(self.progress.findings.found), ["publication"])
+            self.assertIn("found", status_fields(self.progress, 0.0, 0.0))
 
     def test_accepted(self) -> None:
         with logged():
@@ -118,7 +119,7 @@ class Found(Case):
                 self.watch("all", strict=True),
                 a_catalog(dataclasses.replace(T, shape=WIDER), U, lsn=300),
             )
-        self.assertEqual((said, self.progress.found), ([], {}))
+        self.assertEqual((said, self.progress.findings.found), ([], {}))
 
     def test_a_gap_is_accepted_with_its_finding(self) -> None:
         """That is called `slot`: the two words are one. So a strict start goes on."""

@@ -28,10 +28,10 @@ from pgsub_connect.errors import (
     Unfit,
     UsageError,
 )
-from pgsub_connect.follow.filter import FilterEnded
-from pgsub_connect.follow.too_large import KilledTwice
 from pgsub_connect.server import followed_publications
 from pgsub_connect.server.followed_publications import require_published
+from pgsub_connect.stream.filter_end import FilterEnded
+from pgsub_connect.stream.too_large import KilledTwice
 
 from .fake_server import FakeServer, Quiet, Row
 

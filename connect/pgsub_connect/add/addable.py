@@ -5,10 +5,10 @@ from __future__ import annotations
 from typing import Protocol
 
 from ..drift.remembered import Relation
-from ..follow.gate import CURE, TABLE
 from ..server.catalog import Column, Shape
 from ..server.publications import Column as TableColumn
 from ..server.publications import Table
+from ..stream.gate import CURE, TABLE
 
 
 class Stream(Protocol):

@@ -34,9 +34,9 @@ from ..drift.differences import PUBLICATION
 from ..drift.findings import About
 from ..drift.remembered import Remembered
 from ..errors import NoSlot, Passing, Renewed, ServerError, Stopped, Unconnected, Unfit
-from ..follow.gate import MOST as LONGEST_WAIT
-from ..follow.gate import WAITED, Making
 from ..server.publications import Table, sizes_of
+from ..stream.gate import MOST as LONGEST_WAIT
+from ..stream.gate import WAITED, Making
 from ..verify.meeting_point import Source
 from .addable import Stream, TooLarge, relation_of, table_of, too_large, too_long
 from .replacement import Leaving, Rows, payload_of
@@ -44,11 +44,12 @@ from .replacement import Leaving, Rows, payload_of
 if TYPE_CHECKING:
     from ..commands.options import Options
     from ..drift.watch import Watch
-    from ..follow.hold import Hold
-    from ..follow.statuses import Confirming
-    from ..follow.stream_log import Noting
     from ..status.progress import Progress
     from ..store.checkpoint import Checkpoint
+    from ..stream.hold import Hold
+    from ..stream.statuses import Confirming
+    from ..stream.stream_log import Noting
+
 
 IDLE, HELD, MAKING, GOING, SENT = "idle", "held", "making", "going", "sent"
 # How long the stream is held at most until the slot is made, and after how many seconds it is tried
@@ -167,7 +168,7 @@ class Adder:
         most = self.options.max_buffered
         if size > FAR * most:
             return too_large(table, size, most)
-        return too_long(table, size) if self.progress.is_waited_for else ""
+        return too_long(table, size) if self.progress.server.is_waited_for else ""
 
     def left_out(self) -> dict[int, int]:
         """The tables whose changes are left out: those that are added next, and of the initial
@@ -275,7 +276,7 @@ class Adder:
         try:
             self.source = Source(self.options, self.checkpoint.known, self.stream.attend, "add")
             self.source.patience = (
-                SHORT_LOCK if self.progress.note_standbys(self.source.standbys()) else LOCK
+                SHORT_LOCK if self.progress.server.note_standbys(self.source.standbys()) else LOCK
             )
             self.table = self.source.narrow(self.oid)
             self.is_gone = self.table is None
@@ -293,13 +294,13 @@ class Adder:
             self.forget(self.oid)
             return
         self.hold_stream()
-        self.progress.state = "adding a table"
+        self.progress.enter("adding a table")
         self.show("waits for a slot")
 
     def check_size(self, source: Source) -> None:
         """Rejects a table whose rows commits would wait for. It is tried again later, when they may
         not wait any more."""
-        if self.table and self.progress.is_waited_for:
+        if self.table and self.progress.server.is_waited_for:
             if why := too_long(self.table, sizes_of(source.plain, [self.table]).get(self.oid, 0)):
                 raise Passing(why)
 
@@ -307,7 +308,7 @@ class Adder:
         """Holds the stream. Where commits wait for it, the slot is made meanwhile, and it goes on
         up to a gate."""
         assert self.source
-        if not self.progress.is_waited_for:
+        if not self.progress.server.is_waited_for:
             self.hold.begin(None, 0.0)
             self.phase = HELD
             return
@@ -382,7 +383,8 @@ class Adder:
         self.ends_session = self.leaving.has_described_otherwise(rows.relation)
         if not self.ends_session:
             self.hold.end()
-        self.phase, self.progress.state = SENT, "following"
+        self.phase = SENT
+        self.progress.enter("following")
         log.info(f"{self.table.text()}: {counted(rows.count, 'row')} as of {lsn_text(self.point)}")
 
     def send_all(self, rows: Rows) -> None:
@@ -399,7 +401,7 @@ class Adder:
                 raise TooLarge(
                     f"{self.table.text()} has a row of {rows.longest} bytes: give the follower a --max-frame above that"
                 )
-            if self.progress.is_waited_for and time.monotonic() - self.began > LONGEST_WAIT:
+            if self.progress.server.is_waited_for and time.monotonic() - self.began > LONGEST_WAIT:
                 raise TooLarge(WAITED)
             self.push(block, [])
             self.noting.note_rows(self.table.oid, len(lines), len(block))
@@ -451,7 +453,7 @@ class Adder:
                 return
         self.delay = min(2 * self.delay, LONGEST_DELAY) if self.delay else FIRST_DELAY
         self.next_try = time.monotonic() + self.delay
-        self.progress.state = "following"
+        self.progress.enter("following")
         log.warning(f"{text}: it is added later")
         self.show(reason(error))
 
@@ -466,18 +468,20 @@ class Adder:
         self.remembered.refuse(oid, why)
         text = f"table {self.remembered.text_of(oid)} can't be added: {why}"
         self.remembered.find(PUBLICATION, self.confirming.position, text, About((oid,)))
-        self.progress.state = "following"
+        self.progress.enter("following")
         self.show()
         self.watch.keep()
 
     def show(self, how: str = "") -> None:
         """Tells the progress which tables are being added."""
         oids = dict.fromkeys((*self.checkpoint.adding(), *self.remembered.wanted))
-        self.progress.adding = {
-            self.remembered.text_of(oid): self.remembered.wanted.get(oid)
-            or (how if how and oid == self.oid else "waits")
-            for oid in oids
-        }
+        self.progress.findings.note_adding(
+            {
+                self.remembered.text_of(oid): self.remembered.wanted.get(oid)
+                or (how if how and oid == self.oid else "waits")
+                for oid in oids
+            }
+        )
 
 
 def reason(error: Exception) -> str:

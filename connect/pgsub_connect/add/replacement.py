@@ -2,7 +2,7 @@
 transaction that has the rows.
 
 Let P be the consistent point of a temporary slot that is made while nothing is passed on, and above
-all that was. As the module `follow.hold` says, a commit whose final LSN is below P is seen by the
+all that was. As the module `stream.hold` says, a commit whose final LSN is below P is seen by the
 slot's snapshot, and any other isn't; P is the end of a record that is no commit (of running
 transactions), and above the final LSN of each commit that was passed on before. So the stream to
 the filter becomes this:
@@ -89,8 +89,8 @@ from collections.abc import Sequence
 
 from ..copy.messages import InsertHeads, begin, commit, frame, inserts, relation
 from ..errors import ServerError
-from ..follow.stream_log import BEGIN, CHANGES, COMMIT, RELATION, START, TRUNCATE, final_lsn
 from ..server.publications import Table
+from ..stream.messages import BEGIN, CHANGES, COMMIT, RELATION, START, TRUNCATE, final_lsn
 
 # FrozenTransactionId.
 XID = 2

@@ -40,6 +40,7 @@ from .drop import locked, read_known
 if TYPE_CHECKING:
     from .options import Options
 
+
 DONE, REFUSED = 0, 1
 # How long a follower may take until it has answered a request, in seconds: it may be about to
 # connect, or to open its store.

@@ -21,6 +21,7 @@ from ..server.transport import CURE, OWN
 if TYPE_CHECKING:
     from .options import Options
 
+
 OK, WARNING, ERROR = "ok", "warning", "error"
 # what a version of the server has first
 OLDEST, COPIES, STREAMS, FILTERS, STANDBYS, FAILOVER = (

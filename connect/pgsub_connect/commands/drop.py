@@ -22,13 +22,14 @@ from ..server.connection import TICK, Check, Connection, never
 from ..server.publication_setup import inserts_of, oid_of, other_slots
 from ..server.session import Server, database_oid, is_same_database, settle
 from ..store.at_rest import own_files
-from ..store.checkpoint import Known, has_name
-from ..store.checkpoint_lines import read_file
+from ..store.checkpoint import has_name
+from ..store.checkpoint_lines import Known, read_file
 from ..store.placing import OF_COPY, OF_STORE
 from ..store.snapshot import OF_FILE, meant
 
 if TYPE_CHECKING:
     from .options import Options
+
 
 # Beside which names processes make files for themselves: copies that a follower is asked for, and
 # exports with which a sink begins.

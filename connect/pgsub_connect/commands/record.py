@@ -15,7 +15,6 @@ from pgsub_feed import log
 from pgsub_feed.texts import counted, identifier, lsn_text, replication_literal
 
 from ..errors import FileError, Stopped, UsageError
-from ..follow.filter import COPY_DONE, header
 from ..server.connection import COPY_BOTH, Connection
 from ..server.session import (
     STREAMS,
@@ -25,9 +24,11 @@ from ..server.session import (
     tell_version_1,
     unsettle_for_slot,
 )
+from ..stream.frames import COPY_DONE, header
 
 if TYPE_CHECKING:
     from .options import Options
+
 
 LONGEST = 64 << 20
 EPOCH = 946684800

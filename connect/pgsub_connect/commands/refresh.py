@@ -35,6 +35,7 @@ from .drop import ask_terminal, read_known
 if TYPE_CHECKING:
     from .options import Options
 
+
 DONE, LEFT = 0, 1
 MISSING, CHANGED, EXTRA, OTHER = "missing", "changed", "extra", "other"
 

@@ -30,6 +30,7 @@ from .tables import plain_name
 if TYPE_CHECKING:
     from .options import Options
 
+
 ABOUT = """\
 write a feed to Redis or to NATS JetStream
 

@@ -17,6 +17,7 @@ from pgsub_feed.texts import counted, shortened
 if TYPE_CHECKING:
     from .options import Options
 
+
 ABOUT = """\
 tell how a follower with --status-file is, as a probe does
 

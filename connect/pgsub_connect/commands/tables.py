@@ -32,6 +32,7 @@ from ..store.export import OLDEST
 if TYPE_CHECKING:
     from .options import Options
 
+
 ABOUT = """\
 keep ordinary tables of SQLite that follow a feed
 

@@ -27,13 +27,13 @@ from pgsub_feed.texts import counted, lsn_text
 
 from ..drift.remembered import Remembered
 from ..errors import Delayed, FileError, Passing, Stopped, Unfit, Unrepaired
-from ..follow.gate import CURE, TABLE
 from ..server.connection import Check, parameters
 from ..server.publication_setup import names_of
 from ..server.publications import Table, sizes_of
 from ..server.session import waits_for
 from ..store.at_rest import check_there, is_followed
-from ..store.checkpoint import Known
+from ..store.checkpoint_lines import Known
+from ..stream.gate import CURE, TABLE
 from ..verify.digests import Field, Fields, NotText, Plan, Sums, fields_in
 from ..verify.meeting_point import Request, Source
 from ..verify.repair_rows import Changes, Mender
@@ -43,6 +43,7 @@ from .drop import read_known
 
 if TYPE_CHECKING:
     from .options import Options
+
 
 EQUAL, DIFFERENT = 0, 1
 # How often tables are compared once more that others have truncated, altered or locked meanwhile.

@@ -22,6 +22,7 @@ from .status import duration
 if TYPE_CHECKING:
     from .options import Options
 
+
 ABOUT = """\
 wait until tables that follow a feed have all that was committed up to an LSN
 

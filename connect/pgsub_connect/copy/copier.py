@@ -39,8 +39,6 @@ from ..commands.check import require, require_reading
 from ..drift.differences import PUBLICATION, root_of
 from ..drift.findings import About
 from ..errors import FileError, Passing, ServerError, Stopped, Unfit, understood
-from ..follow import too_large
-from ..follow.filter import Filter, FilterEnded
 from ..server import transport
 from ..server.catalog import Catalog, read_catalog
 from ..server.connection import QUICK, Check, Connection, never
@@ -59,6 +57,9 @@ from ..server.waits import Waiting, lock_text
 from ..store import checkpoint as known_of
 from ..store.at_rest import hold
 from ..store.snapshot import COPYING, meant, sync_folder
+from ..stream import too_large
+from ..stream.filter import Filter
+from ..stream.filter_end import FilterEnded
 from .messages import begin, commit, frame
 from .table_reader import LOCK_TIMEOUT, Left, Part, Readers, take_snapshot
 
@@ -67,6 +68,7 @@ if TYPE_CHECKING:
     from ..drift.remembered import Remembered
     from ..status.progress import Progress
     from ..store.checkpoint import Checkpoint
+
 
 LONGEST_DELAY = 60
 # for how many milliseconds a lock is waited for where names are compared
@@ -259,7 +261,7 @@ class Copier:
 
     def note(self, text: str) -> None:
         log.warning(f"{text}: the copy {'goes on' if self.remembered.copied else 'begins anew'}")
-        self.progress.last_error = text
+        self.progress.note_error(text)
 
     def sleep(self, seconds: float) -> None:
         until = time.monotonic() + seconds
@@ -286,14 +288,14 @@ class Copier:
 
     def attempt(self) -> None:
         options, known = self.options, self.checkpoint.known
-        self.progress.state = "copying"
+        self.progress.enter("copying")
         self.replication = replication = Connection(
             options.dsn, replication=True, name=options.slot, check=self.check_stop
         )
         self.was_connected = True
         settle(replication)
         server = identify(replication)
-        self.progress.note_server(replication.version(), server.timeline)
+        self.progress.note_login(replication.version(), server.timeline)
         slot_at = slot_position(replication, options.slot)
         if slot_at is not None:
             is_ours = (known.system, known.slot, known.confirmed) == (
@@ -360,9 +362,7 @@ class Copier:
         settle(plain)
         tables, stored = published_tables(plain, options.publication), dict[int, str | None]()
         stored = stored_in(plain, tables)
-        self.progress.copy_total_rows, self.progress.copy_total_tables = estimated_rows(
-            plain, tables
-        ), len(tables)
+        self.progress.copy.note_total(estimated_rows(plain, tables), len(tables))
         before = read_catalog(plain, options.publication)
         temporary, point, snapshot = self.make_temporary()
         own = self.hold_snapshot(snapshot)
@@ -481,7 +481,7 @@ class Copier:
                 self.send_part(item)
         self.forget_gone()
         self.end_copy(point)
-        log.info(f"copied {counted(self.progress.copied_rows, 'row')}")
+        log.info(f"copied {counted(self.progress.copy.rows, 'row')}")
 
     def forget_gone(self) -> None:
         """Forgets tables that were left for later and aren't published any more: nothing of them
@@ -505,15 +505,14 @@ class Copier:
     def send_part(self, part: Part) -> None:
         """Sends some rows as a transaction. The last ones of a table tell that it is stored whole,
         once they are."""
-        self.progress.copying = part.table.text()
+        self.progress.copy.begin_part(part.table.text())
         self.longest = max(self.longest, part.longest)
         self.begin_part()
         for frames in part.frames:
             self.send(frames)
         self.end_part()
-        self.progress.copied_rows += part.rows
+        self.progress.copy.note_part(part.rows, part.is_last)
         if part.is_last:
-            self.progress.copied_tables += 1
             self.remembered.copied[part.table.oid] = self.lsn + 1
             if time.monotonic() - self.noted > NOTED:
                 self.remembered.save()
@@ -528,7 +527,7 @@ class Copier:
             self.remembered.find(PUBLICATION, point, text, About((oid,)))
         self.remembered.take_news()
         self.remembered.want_later(self.later)
-        self.progress.copying = None
+        self.progress.copy.end()
         self.begin_part()
         self.end_part(point)
         self.wait_for(lambda: self.filter.confirmed() == point)
@@ -638,7 +637,7 @@ class Copier:
 
     def clear(self) -> None:
         """Removes what an earlier run left."""
-        self.progress.copied_rows = self.progress.copied_tables = 0
+        self.progress.copy.begin()
         self.later = {}
         try:
             for it in (self.part, self.part + LOG, self.store + LOG):

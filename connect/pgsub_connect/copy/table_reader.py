@@ -33,6 +33,7 @@ from .messages import InsertHeads, frame, inserts, relation
 if TYPE_CHECKING:
     from ..commands.options import Options
 
+
 # How many bytes a part has about, how many are encoded at a time, and how many parts of a
 # connection wait at most.
 PART, BLOCK, AHEAD = 4 << 20, 1 << 17, 2

@@ -19,13 +19,15 @@ from typing import TYPE_CHECKING
 from pgsub_feed import log
 from pgsub_feed.texts import counted, lsn_text
 
+from ..status.findings import Counted
 from ..status.progress import Progress
-from ..store.checkpoint import MISSING, Checkpoint, Counted
+from ..store.checkpoint import MISSING, Checkpoint
 from .remembered import Remembered
 
 if TYPE_CHECKING:
     from ..commands.options import Options
-    from ..follow.filter import Missing
+    from ..stream.filter_end import Missing
+
 
 # After how many seconds more of them are told at the earliest.
 AGAIN = 10.0
@@ -97,12 +99,17 @@ class Misses:
 
     def show(self) -> None:
         """Tells the progress what is counted."""
-        self.progress.counted = known = self.checkpoint.counted
-        self.progress.missing_in = (
-            self.remembered.text_of(known.relation) if known and known.count else ""
+        known = self.checkpoint.counted
+        table = self.remembered.text_of(known.relation) if known and known.count else ""
+        texts = texts_of(known, self.remembered) if known else []
+        self.progress.findings.note_missing(
+            known, table, {MISSING: "; ".join(texts)} if texts else {}
         )
-        if known and (texts := texts_of(known, self.remembered)):
-            self.progress.found = {**self.progress.found, MISSING: "; ".join(texts)}
+
+    def take_new(self) -> bool:
+        """Whether there were some since this was asked last."""
+        is_new, self.is_new = self.is_new, False
+        return is_new
 
     def tell(self, is_last: bool = False) -> None:
         """Tells the first one at once, and more of them later, with their number."""

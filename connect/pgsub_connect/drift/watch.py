@@ -23,6 +23,7 @@ from .tell_once import warnings
 if TYPE_CHECKING:
     from ..commands.options import Options
 
+
 # After how many seconds the file is written where nothing in it is urgent, the publications are
 # looked at again, and that is tried again where it failed; and after how many they are looked at
 # where no message says that anything has changed.
@@ -98,9 +99,9 @@ class Watch:
     def show(self) -> None:
         """Tells the progress what was found, and ends the following where it is to be strict."""
         began = time.monotonic()
-        self.progress.found = {
-            kind: "; ".join(self.texts_of(kind)) for kind in self.checkpoint.findings()
-        }
+        self.progress.findings.note(
+            {kind: "; ".join(self.texts_of(kind)) for kind in self.checkpoint.findings()}
+        )
         lasting = {
             kind: text
             for kind in self.checkpoint.findings()

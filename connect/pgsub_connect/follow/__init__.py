@@ -1,1 +1,1 @@
-"""The stream: the filter, its statuses, and what is noted, held and answered while it passes."""
+"""A follower: its sessions with a server, and what goes on beside them."""

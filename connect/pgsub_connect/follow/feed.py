@@ -18,7 +18,6 @@ loop only sets what is confirmed.
 from __future__ import annotations
 
 import contextlib
-import dataclasses
 import os
 import threading
 import time
@@ -38,7 +37,9 @@ from ..server.session import identify, settle
 from ..store.at_rest import has_log
 from ..store.checkpoint import Checkpoint
 from ..store.snapshot import position_in
-from .filter import Filter, FilterEnded
+from ..stream.filter import Filter
+from ..stream.filter_end import FilterEnded
+from ..stream.statuses import Reached
 from .retention import Limits, feed_bytes, read_readers, retire
 from .tables_process import Beside
 from .tables_process import check as check_tables
@@ -46,6 +47,7 @@ from .tables_process import check as check_tables
 if TYPE_CHECKING:
     from ..commands.options import Options
     from ..status.progress import Progress
+
 
 # How often what is confirmed is written where a keepalive alone has moved it, and else; how often
 # the readers are looked at, and how often old segments are looked for, in seconds.
@@ -56,15 +58,6 @@ STEP = 0.5
 AGAIN, SLEEP = 5, 0.2
 # What the filter says of a feed that doesn't fit its store.
 NOT_A_FEED = "pgsub: feed 1 NotAFeed"
-
-
-@dataclasses.dataclass(frozen=True)
-class Reached:
-    """What a store has: the LSN up to which all commits are stored, and the end of the last of
-    them."""
-
-    confirmed: int
-    position: int
 
 
 def has_segments(folder: str) -> bool:
@@ -151,7 +144,7 @@ class Feeding:
             )
         self.check_position(child, check)
         self.remembered.note_feed(self.folder)
-        child.words += self.words(check)
+        child.add_words(self.words(check))
         self.keeper = Keeper(self.options, self.folder, self.progress, reached)
         if self.options.tables:
             self.beside = Beside(self.options, self.progress)
@@ -369,8 +362,7 @@ class Keeper(threading.Thread):
 
     def look(self, reached: Reached) -> None:
         """Shows how far behind each reader is, and how large the feed."""
-        self.progress.readers = read_readers(self.folder)
-        self.progress.feed_bytes = feed_bytes(self.folder)
+        self.progress.feed.note(read_readers(self.folder), feed_bytes(self.folder))
 
     def retire(self, reached: Reached) -> None:
         gone = retire(self.folder, self.limits, reached.position, time.time())

@@ -1,7 +1,7 @@
 """Passes on the changes that make rows of the copy those of the server, as one transaction within
 the stream.
 
-They come from a comparison at an LSN P, which is held as the module `follow.hold` says: all that
+They come from a comparison at an LSN P, which is held as the module `stream.hold` says: all that
 was committed up to P is stored and in the copy that was compared, and nothing else. The transaction
 is Begin, for each table Relation and its changes, Commit. For it holds what the module
 `add.replacement` says of the rows of a table that is added:
@@ -41,8 +41,8 @@ from ..add.replacement import XID, payload_of
 from ..copy.messages import begin, commit, frame
 from ..errors import ServerError
 from ..status.progress import Progress
-from .hold import CHANGES
-from .stream_log import EPOCH, relation_of
+from ..stream.hold import CHANGES
+from ..stream.messages import EPOCH, relation_of
 
 if TYPE_CHECKING:
     from ..commands.options import Options
@@ -50,8 +50,10 @@ if TYPE_CHECKING:
     from ..drift.watch import Watch
     from ..store.checkpoint import Checkpoint
     from ..store.snapshot import Snapshots
-    from .statuses import Confirming
-    from .stream_log import Noting
+    from ..stream.statuses import Confirming
+    from ..stream.stream_log import Noting
+    from .stream_form import StreamForm
+
 
 # How many bytes of the file are passed on at a time.
 BLOCK = 1 << 17
@@ -64,9 +66,6 @@ class Stream(Protocol):
     def attend(self) -> None:
         """Keeps server and filter content in a session while something else is waited for. Raises
         where the end was asked for."""
-
-    def is_streaming(self) -> bool:
-        """Whether large transactions come while they run."""
 
     def push(self, frames: bytes) -> None:
         """Gives the filter frames, and waits until it has room."""
@@ -121,6 +120,7 @@ class Repairing:
         confirming: Confirming,
         snapshots: Snapshots,
         stream: Stream,
+        form: StreamForm,
     ) -> None:
         self.options, self.checkpoint, self.progress, self.remembered, self.watch = (
             options,
@@ -129,6 +129,7 @@ class Repairing:
             remembered,
             watch,
         )
+        self.form = form
         self.noting, self.confirming, self.snapshots, self.hold, self.stream = (
             noting,
             confirming,
@@ -147,7 +148,7 @@ class Repairing:
     def wants_session(self) -> bool:
         """Whether a session is to begin in place of the one that runs."""
         if self.snapshots.wants_whole:
-            return self.ends_session or self.stream.is_streaming()
+            return self.ends_session or self.form.is_streaming()
         return self.ends_session or self.is_whole and not self.hold.is_held
 
     def begin_session(self, streams: bool) -> bool:
@@ -183,7 +184,7 @@ class Repairing:
         """Goes on, where that is possible now. Called between payloads."""
         if self.hold.keeps != self.is_shown:
             self.is_shown = self.hold.keeps
-            self.progress.state = "repairing rows" if self.is_shown else "following"
+            self.progress.enter("repairing rows" if self.is_shown else "following")
         if self.is_stored():
             self.finish()
         elif self.hold.tables is not None and not self.hold.is_sent:

@@ -12,11 +12,12 @@ from pgsub_feed.texts import counted, literal, parse_lsn
 
 from ..errors import ServerError, Stopped, Unfit, understood
 from ..server.connection import QUICK, Connection
-from ..server.session import END, exact_end, postmaster_start, waits_for
+from ..server.session import END, exact_end, postmaster_start
 from ..status.progress import Progress
 
 if TYPE_CHECKING:
     from ..commands.options import Options
+
 
 # After how many seconds the server is asked again: where a file shows it or nothing of the session
 # is read, and else, where only warnings come of it.
@@ -84,8 +85,8 @@ class Asker(threading.Thread):
         # (a session that was just begun has looked at all of it)
         asked = time.monotonic()
         while not self.ended.wait(min(self.interval, SHOWN)):
-            is_due = time.monotonic() - asked >= self.interval or self.progress.is_unread
-            if self.progress.sessions and is_due:
+            is_due = time.monotonic() - asked >= self.interval or self.progress.slot.is_unread
+            if self.progress.server.sessions and is_due:
                 asked = time.monotonic()
                 self.ask()
                 if not self.is_shown:
@@ -139,17 +140,8 @@ class Asker(threading.Thread):
             QUICK,
         )[0]
         at = exact_end(parse_lsn(end or "0/0"), parse_lsn(flushed or "0/0"), int(segment or 0))
-        progress.is_waited_for = waits_for(standbys or "", progress.name)
-        progress.lag.note_answer(asked, time.time(), float(clock) if clock else None, at)
+        progress.server.note_answer(standbys or "", standby == "t", self.started)
+        progress.stream.lag.note_answer(asked, time.time(), float(clock) if clock else None, at)
         if there:
-            progress.slot.wal_status = status or ""
-            progress.slot.safe_wal_size = int(safe) if safe else None
-            progress.slot.told = time.monotonic()
+            progress.slot.note(status or "", int(safe) if safe else None)
             self.warning.note(progress.slot.wal_status, progress.slot.safe_wal_size, self.most)
-        if (
-            progress.is_standby
-            and standby == "f"
-            and self.started
-            and self.started == progress.server_started
-        ):
-            progress.was_promoted = True

@@ -17,7 +17,7 @@ from pgsub_feed.texts import counted
 
 from ..errors import ServerError
 from ..status.progress import Progress
-from .filter import Filter
+from ..stream.filter import Filter
 
 # How often it is looked at what the system says of the filter, and after how many seconds the
 # server is asked for the slot's state.
@@ -64,7 +64,7 @@ class Standing:
         stood = self.seconds(ends)
         self.held_since = (self.held_since or time.monotonic()) if is_held else None
         held = time.monotonic() - self.held_since if self.held_since else 0.0
-        self.progress.is_unread = max(stood, held) > NOTED
+        self.progress.slot.note_unread(max(stood, held) > NOTED)
         if stood > limit or self.is_in_danger(self.since, stood):
             self.is_left = True
             raise ServerError(self.text(stood))

@@ -25,11 +25,12 @@ from pgsub_feed.tables.set_aside import shown_asides
 
 from ..errors import FileError, Unfit
 from ..status.progress import Progress
-from .filter import KEPT
+from ..stream.filter import KEPT
 from .retention import read_lsn
 
 if TYPE_CHECKING:
     from ..commands.options import Options
+
 
 READER = "tables"
 # The statuses that another try doesn't mend; one that was killed by a signal has none above 0. And
@@ -105,10 +106,9 @@ class Beside(threading.Thread):
             if self.ended.is_set():
                 return
             if status in LASTING:
-                self.progress.tables_error = self.said or f"status {status}"
-                log.error(
-                    f"{self.path} follows no more, status {status}: {self.progress.tables_error}"
-                )
+                error = self.said or f"status {status}"
+                self.progress.feed.note_tables_error(error)
+                log.error(f"{self.path} follows no more, status {status}: {error}")
                 return
             delay = FIRST_DELAY if time.monotonic() - began > FORGET else delay
             log.warning(
@@ -170,13 +170,13 @@ class Beside(threading.Thread):
         with contextlib.suppress(OSError, sqlite3.Error, ValueError):
             if os.path.exists(self.path):
                 with contextlib.closing(opened(self.path)) as db:
-                    self.progress.tables_aside = {
-                        it.name(): it.text() for it in shown_asides(db).values()
-                    }
+                    self.progress.feed.note_tables_aside(
+                        {it.name(): it.text() for it in shown_asides(db).values()}
+                    )
 
     def has(self, lsn: int) -> bool:
         """Whether the disk has the tables at this LSN, or they don't follow any more."""
-        if self.progress.tables_error or not self.is_alive():
+        if self.progress.feed.tables_error or not self.is_alive():
             return True
         try:
             # (before they are made its LSN is that of what they need)

@@ -13,6 +13,7 @@ from .session import is_lost
 if TYPE_CHECKING:
     from ..commands.options import Options
 
+
 # The first versions that say why a slot is lost, and that end one which is idle.
 REASONS, IDLE = 170000, 180000
 # The class of errors of values, as of one that can't be converted to UTF-8, and how often one comes

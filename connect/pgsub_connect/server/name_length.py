@@ -11,6 +11,7 @@ from .publication_setup import inserts_of
 if TYPE_CHECKING:
     from ..commands.options import Options
 
+
 # In bytes: NAMEDATALEN, with which servers are built, less the zero byte.
 LONGEST_NAME = 63
 

@@ -12,14 +12,17 @@ from typing import TYPE_CHECKING
 
 from pgsub_feed import log
 
-from ..store.snapshot import NEW
 from .metrics import metrics_text
 from .progress import Progress
+from .status_file import status_fields
 
 if TYPE_CHECKING:
     from ..commands.options import Options
 
+
 INTERVAL = 1.0
+# What the name of a new file has behind it until it is whole.
+NEW = ".pgsub-new"
 # over how many intervals the rate is taken
 RATE = 5
 # After how many seconds in which a file was written all the time the same cause is told again.
@@ -41,7 +44,7 @@ class Reporter(threading.Thread):
         self.rates = [(time.monotonic(), 0)]
 
     def run(self) -> None:
-        self.progress.program = program_version(self.options.pgsub)
+        self.progress.note_program(program_version(self.options.pgsub))
         while not self.ended.is_set():
             self.write()
             self.ended.wait(INTERVAL)
@@ -56,7 +59,7 @@ class Reporter(threading.Thread):
         """Changes and copied rows a second."""
         self.rates = [
             *self.rates[-RATE:],
-            (time.monotonic(), self.progress.passed_changes + self.progress.copied_rows),
+            (time.monotonic(), self.progress.stream.changes + self.progress.copy.rows),
         ]
         (began, before), (now, after) = self.rates[0], self.rates[-1]
         return max(after - before, 0) / (now - began) if now > began else 0.0
@@ -64,7 +67,7 @@ class Reporter(threading.Thread):
     def write(self) -> None:
         now = time.time()
         if self.status:
-            self.status.write(json.dumps(self.progress.shown(self.rate(), now)) + "\n")
+            self.status.write(json.dumps(status_fields(self.progress, self.rate(), now)) + "\n")
         if self.metrics:
             self.metrics.write(
                 metrics_text(

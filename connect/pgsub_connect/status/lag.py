@@ -21,8 +21,9 @@ class Lag:
     yet tells its age itself. Commits have the times of the server's clock, which `skew` brings to
     this one's.
 
-    The thread that follows sets `confirmed`, `last_commit` and `waits_since`, the one that asks
-    calls `note_answer`, and the one that reports, where there is one, calls `bytes` and `seconds`.
+    The thread that follows calls `note_confirmed`, `note_commit` and `note_waiting`, the one that
+    asks calls `note_answer`, and the one that reports, where there is one, calls `bytes` and
+    `seconds`.
     """
 
     def __init__(self) -> None:
@@ -40,6 +41,18 @@ class Lag:
         self.lock = threading.Lock()
         self.answered = 0.0
         self.complete: float | None = None
+
+    def note_confirmed(self, confirmed: int) -> None:
+        self.confirmed = confirmed
+
+    def note_commit(self, at: float) -> None:
+        """Notes the commit time of the last commit that is confirmed."""
+        self.last_commit = at
+
+    def note_waiting(self, since: float | None) -> None:
+        """Notes the commit time of the first commit that was passed on and isn't confirmed; None
+        where there is none."""
+        self.waits_since = since
 
     def note_answer(self, asked: float, answered: float, clock: float | None, end: int) -> None:
         """Notes an answer of the server's: what its clock showed, and where its log ended."""

@@ -7,7 +7,10 @@ from collections.abc import Iterator, Mapping
 from typing import NamedTuple
 
 from .. import VERSION
+from .counters import StreamCounters
+from .findings import Counted
 from .progress import STATES, Progress
+from .server_state import Slot
 
 GAUGE, COUNTER = "gauge", "counter"
 # The kinds of findings, and what the server says of a slot's log.
@@ -28,8 +31,12 @@ class Metric(NamedTuple):
     samples: list[Sample]
 
 
-def one(name: str, kind: str, about: str, value: Value) -> Metric:
-    return Metric(name, kind, about, [({}, value)])
+def gauge(name: str, about: str, value: Value) -> Metric:
+    return Metric(name, GAUGE, about, [({}, value)])
+
+
+def counter(name: str, about: str, value: Value) -> Metric:
+    return Metric(name, COUNTER, about, [({}, value)])
 
 
 def chosen(name: str, about: str, label: str, values: tuple[str, ...], which: set[str]) -> Metric:
@@ -43,151 +50,86 @@ def chosen(name: str, about: str, label: str, values: tuple[str, ...], which: se
 
 
 def metrics(progress: Progress, now: float) -> Iterator[Metric]:
-    lag, slot, versions = (
-        progress.lag,
-        progress.slot,
-        {"connector": VERSION, "program": progress.program},
-    )
-    yield Metric(
-        "pgsub_info",
-        GAUGE,
-        "Versions of what follows.",
-        [({**versions, "server": str(progress.version or "")}, 1)],
-    )
+    versions = {"connector": VERSION, "program": progress.program}
+    labels = {**versions, "server": str(progress.server.version or "")}
+    yield Metric("pgsub_info", GAUGE, "Versions of what follows.", [(labels, 1)])
     yield chosen("pgsub_state", "What the follower is at.", "state", STATES, {progress.state})
-    yield one(
-        "pgsub_heartbeat_timestamp_seconds",
-        GAUGE,
-        "When the main loop was alive last.",
-        progress.heartbeat,
-    )
-    yield one(
-        "pgsub_last_message_timestamp_seconds",
-        GAUGE,
-        "When the server's last message came.",
-        progress.last_message,
-    )
-    yield one(
-        "pgsub_last_commit_timestamp_seconds",
-        GAUGE,
-        "Commit time of the last commit that is confirmed.",
-        lag.last_commit,
-    )
-    yield one(
-        "pgsub_position_lsn", GAUGE, "End of the last commit that the store has.", progress.position
-    )
-    yield one(
-        "pgsub_confirmed_lsn",
-        GAUGE,
-        "LSN up to which the copy is complete and confirmed.",
-        progress.confirmed,
-    )
-    yield one(
-        "pgsub_server_end_lsn", GAUGE, "Where the server's log ends.", progress.server_end() or None
-    )
-    yield one(
-        "pgsub_lag_bytes",
-        GAUGE,
-        "How much of the server's log the copy lacks.",
-        progress.lag_bytes(),
-    )
-    yield one(
-        "pgsub_lag_seconds",
-        GAUGE,
-        "At most how old the oldest commit is that the copy lacks.",
-        lag.seconds(now),
-    )
-    yield one(
-        "pgsub_slot_safe_wal_bytes",
-        GAUGE,
-        "How much log may come before the slot is lost.",
-        slot.safe_wal_size,
-    )
+    text = "When the main loop was alive last."
+    yield gauge("pgsub_heartbeat_timestamp_seconds", text, progress.heartbeat)
+    yield from stream_metrics(progress.stream, now)
+    yield from slot_metrics(progress.slot)
+    text = "What was found that may have made the copy wrong."
+    yield chosen("pgsub_found", text, "kind", KINDS, set(progress.findings.found))
+    if progress.findings.counted is not None:
+        yield from missing_metrics(progress.findings.counted)
+    if progress.feed.bytes is not None:
+        yield from feed_metrics(progress)
+    yield from counters(progress)
+
+
+def stream_metrics(stream: StreamCounters, now: float) -> Iterator[Metric]:
+    text = "When the server's last message came."
+    yield gauge("pgsub_last_message_timestamp_seconds", text, stream.last_message)
+    text = "Commit time of the last commit that is confirmed."
+    yield gauge("pgsub_last_commit_timestamp_seconds", text, stream.lag.last_commit)
+    text = "End of the last commit that the store has."
+    yield gauge("pgsub_position_lsn", text, stream.position)
+    text = "LSN up to which the copy is complete and confirmed."
+    yield gauge("pgsub_confirmed_lsn", text, stream.confirmed)
+    text = "Where the server's log ends."
+    yield gauge("pgsub_server_end_lsn", text, stream.server_end() or None)
+    text = "How much of the server's log the copy lacks."
+    yield gauge("pgsub_lag_bytes", text, stream.lag_bytes())
+    text = "At most how old the oldest commit is that the copy lacks."
+    yield gauge("pgsub_lag_seconds", text, stream.lag.seconds(now))
+
+
+def slot_metrics(slot: Slot) -> Iterator[Metric]:
+    text = "How much log may come before the slot is lost."
+    yield gauge("pgsub_slot_safe_wal_bytes", text, slot.safe_wal_size)
     if slot.wal_status:
-        yield chosen(
-            "pgsub_slot_wal_status",
-            "What the server says of the slot's log.",
-            "status",
-            WAL_STATUSES,
-            {slot.wal_status},
-        )
-    yield chosen(
-        "pgsub_found",
-        "What was found that may have made the copy wrong.",
-        "kind",
-        KINDS,
-        set(progress.found),
-    )
-    if (counted := progress.counted) is not None:
-        after, upto = counted.gap or (0, 0)
-        yield one(
-            "pgsub_missing_total",
-            COUNTER,
-            "Changes that found no row, until they are accepted.",
-            counted.count,
-        )
-        yield one(
-            "pgsub_counted_lsn",
-            GAUGE,
-            "LSN up to which changes that found no row are counted.",
-            counted.upto,
-        )
-        yield one(
-            "pgsub_not_counted_bytes",
-            GAUGE,
-            "Log in which such changes weren't counted, until that is accepted.",
-            upto - after,
-        )
-    if progress.feed_bytes is not None:
-        yield one("pgsub_feed_bytes", GAUGE, "How large the feed is.", progress.feed_bytes)
-        readers = sorted(progress.readers.items())
-        lags: list[Sample] = [({"reader": name}, progress.lag_of(lsn)) for name, lsn in readers]
-        yield Metric(
-            "pgsub_reader_lag_bytes",
-            GAUGE,
-            "How much of the server's log a reader of the feed lacks that the store has.",
-            lags,
-        )
-        yield Metric(
-            "pgsub_reader_lsn",
-            GAUGE,
-            "LSN up to which a reader of the feed has all.",
-            [({"reader": name}, lsn) for name, lsn in readers],
-        )
-        yield one(
-            "pgsub_tables_failed",
-            GAUGE,
-            "Whether the tables that follow the feed have ended by a fault.",
-            int(bool(progress.tables_error)),
-        )
-        yield one(
-            "pgsub_tables_aside",
-            GAUGE,
-            "How many of them are set aside until their rows come anew.",
-            len(progress.tables_aside),
-        )
-    yield one(
-        "pgsub_changes_total", COUNTER, "Changes that were passed on.", progress.passed_changes
-    )
-    yield one(
-        "pgsub_commits_total", COUNTER, "Commits that were passed on.", progress.passed_commits
-    )
-    yield one("pgsub_sessions_total", COUNTER, "Sessions with the server.", progress.sessions)
-    yield one(
-        "pgsub_filter_restarts_total", COUNTER, "How often the filter was lost.", progress.restarts
-    )
-    yield one(
-        "pgsub_copied_rows",
-        GAUGE,
-        "Rows that this run's initial copy has so far.",
-        progress.copied_rows,
-    )
-    yield one(
-        "pgsub_copy_total_rows",
-        GAUGE,
-        "Rows to copy, by the server's statistics.",
-        progress.copy_total_rows,
-    )
+        text = "What the server says of the slot's log."
+        which = {slot.wal_status}
+        yield chosen("pgsub_slot_wal_status", text, "status", WAL_STATUSES, which)
+
+
+def missing_metrics(counted: Counted) -> Iterator[Metric]:
+    after, upto = counted.gap or (0, 0)
+    text = "Changes that found no row, until they are accepted."
+    yield counter("pgsub_missing_total", text, counted.count)
+    text = "LSN up to which changes that found no row are counted."
+    yield gauge("pgsub_counted_lsn", text, counted.upto)
+    text = "Log in which such changes weren't counted, until that is accepted."
+    yield gauge("pgsub_not_counted_bytes", text, upto - after)
+
+
+def feed_metrics(progress: Progress) -> Iterator[Metric]:
+    feed, lag_of = progress.feed, progress.stream.lag_of
+    yield gauge("pgsub_feed_bytes", "How large the feed is.", feed.bytes)
+    readers = sorted(feed.readers.items())
+    lags: list[Sample] = [({"reader": name}, lag_of(lsn)) for name, lsn in readers]
+    text = "How much of the server's log a reader of the feed lacks that the store has."
+    yield Metric("pgsub_reader_lag_bytes", GAUGE, text, lags)
+    positions: list[Sample] = [({"reader": name}, lsn) for name, lsn in readers]
+    text = "LSN up to which a reader of the feed has all."
+    yield Metric("pgsub_reader_lsn", GAUGE, text, positions)
+    text = "Whether the tables that follow the feed have ended by a fault."
+    yield gauge("pgsub_tables_failed", text, int(bool(feed.tables_error)))
+    text = "How many of them are set aside until their rows come anew."
+    yield gauge("pgsub_tables_aside", text, len(feed.tables_aside))
+
+
+def counters(progress: Progress) -> Iterator[Metric]:
+    stream, copy = progress.stream, progress.copy
+    yield counter("pgsub_changes_total", "Changes that were passed on.", stream.changes)
+    yield counter("pgsub_commits_total", "Commits that were passed on.", stream.commits)
+    yield counter("pgsub_sessions_total", "Sessions with the server.", progress.server.sessions)
+    text = "How often the filter was lost."
+    yield counter("pgsub_filter_restarts_total", text, progress.restarts)
+    text = "Rows that this run's initial copy has so far."
+    yield gauge("pgsub_copied_rows", text, copy.rows)
+    text = "Rows to copy, by the server's statistics."
+    yield gauge("pgsub_copy_total_rows", text, copy.total_rows)
 
 
 def escaped_help(text: str) -> str:

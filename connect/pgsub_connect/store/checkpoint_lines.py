@@ -40,6 +40,7 @@ from pgsub_feed.json_texts import (
 )
 
 from ..errors import FileError
+from ..status.findings import Counted
 
 VERSION, SIZE, OLD_SIZE = 2, 4096, 512
 TEXT = json.JSONEncoder(separators=(",", ":"))
@@ -64,18 +65,6 @@ class Known:
     skipped: str = ""
     adding: dict[str, int] = dataclasses.field(default_factory=dict)
     encrypted: bool = False
-
-
-@dataclasses.dataclass(frozen=True)
-class Counted:
-    """What is known of changes that found no row."""
-
-    since: int
-    upto: int
-    count: int = 0
-    first: int = 0
-    relation: int = 0
-    gap: tuple[int, int] | None = None
 
 
 TEXTS = [it for it in dataclasses.fields(Known) if isinstance(it.default, str)]

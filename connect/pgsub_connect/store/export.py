@@ -33,6 +33,7 @@ from .primary_key import primary_key
 if TYPE_CHECKING:
     from ..commands.options import Options
 
+
 # The first version of SQLite with STRICT tables and columns of type ANY.
 OLDEST = (3, 37, 0)
 # How much of the rows waits for being written, in bytes.

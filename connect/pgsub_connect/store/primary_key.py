@@ -15,6 +15,7 @@ from ..server.catalog import Table
 if TYPE_CHECKING:
     from ..drift.remembered import Relation
 
+
 # The replica identities that may be another key, or none.
 OTHER = ("f", "i")
 

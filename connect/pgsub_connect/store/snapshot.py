@@ -17,8 +17,9 @@ from pgsub_feed.ownership import real
 from pgsub_feed.texts import lsn_text, parse_lsn
 
 from ..errors import FileError, Stopped
-from ..follow.gate import too_large_to_copy
-from ..follow.hold import LONGEST, Hold, read_locked, write_request
+from ..server.connection import never
+from ..stream.gate import too_large_to_copy
+from ..stream.hold import LONGEST, Hold, read_locked, write_request
 
 LOG = "-wal"
 # A file, and what SQLite may have beside it. Whoever opens another file in its place would take
@@ -38,7 +39,7 @@ class Snapshots:
 
     A request is the file `STORE.request`, a JSON object whose `into` names a file in the store's
     own folder. It goes when the copy is there, or gets the field `error`. One with `hold` is for a
-    copy at one LSN, as the module `follow.hold` says, and where it has `repair` the stream stays
+    copy at one LSN, as the module `stream.hold` says, and where it has `repair` the stream stays
     held, in a session of whole transactions, so that rows may be repaired; one with `add` asks for
     no copy: it has the OIDs of tables to add, and as `remove` those of which the rows are to go,
     and goes once that is noted.
@@ -306,10 +307,11 @@ class Snapshots:
         if into is not None:
             self.answer(into, why)
 
-    def wait(self) -> None:
+    def wait(self, tick: Callable[[], None] = never) -> None:
         """Waits for a copy that is being made."""
-        if self.finishing:
-            self.finishing.join()
+        while self.finishing and self.finishing.is_alive():
+            self.finishing.join(LOOK)
+            tick()
 
 
 def path_of(said: object) -> str | None:

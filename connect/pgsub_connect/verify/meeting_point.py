@@ -1,5 +1,5 @@
 """Brings a server and the copy of a running follower to one LSN, for `pgsub-connect verify`; the
-module `follow.hold` says how.
+module `stream.hold` says how.
 
 A follower that adds a table reads it in the same way. The server gets a temporary slot for that,
 which goes as soon as its snapshot is taken.
@@ -20,7 +20,6 @@ from ..copy.copier import CHANGED, SHORT, check_names, create_temporary
 from ..copy.table_reader import GONE, LOCK_TIMEOUT, lock_tables, take_snapshot
 from ..drift.remembered import Remembered
 from ..errors import Delayed, NoSlot, Passing, ServerError, Unfit, Unrepaired
-from ..follow.hold import CHANGES, write_own_request
 from ..server.connection import Check, Connection
 from ..server.publications import Table, published_tables
 from ..server.session import identify, is_same_database, settle
@@ -34,12 +33,14 @@ from ..store.at_rest import (
     remove_files,
     wait_for_copy,
 )
-from ..store.checkpoint import FOLLOWING, Known
+from ..store.checkpoint_lines import FOLLOWING, Known
 from ..store.snapshot import remove
+from ..stream.hold import CHANGES, write_own_request
 from .unchanged import ALTERED, changed, locked, there
 
 if TYPE_CHECKING:
     from ..commands.options import Options
+
 
 # How long a follower may take until it holds the stream, in seconds: it may be about to connect, or
 # to open its store; and so long may tables be locked by others. And for how much longer than a slot

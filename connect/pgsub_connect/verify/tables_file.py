@@ -3,7 +3,7 @@ another such file.
 
 The server is seen as of the LSN P of a temporary slot; the file is read in one transaction, at
 whatever LSN it has then, once it has all commits that end up to P. Those that end above P, which
-the slot's snapshot doesn't see (the module `follow.hold` says why), are taken back by the feed's
+the slot's snapshot doesn't see (the module `stream.hold` says why), are taken back by the feed's
 images. So nothing is held, neither the stream nor what follows the feed, and nothing is changed but
 for the slot.
 
@@ -56,13 +56,14 @@ from ..errors import FileError, Passing, Stopped, Unfit
 from ..server.connection import Check
 from ..server.publication_setup import names_of
 from ..server.publications import Column, Table
-from ..store.checkpoint import FOLLOWING, Known
+from ..store.checkpoint_lines import FOLLOWING, Known
 from .digests import Plan, Sums, chunks_for
 from .meeting_point import Source, chosen
 from .sides import Difference, Sides, differing
 
 if TYPE_CHECKING:
     from ..commands.options import Options
+
 
 # For how long feed and tables may take to have all commits up to the LSN, in seconds.
 PATIENCE = 60.0

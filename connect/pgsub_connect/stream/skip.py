@@ -14,18 +14,8 @@ from pgsub_feed.texts import lsn_text
 from ..drift.remembered import Remembered
 from ..status.progress import Progress
 from ..store.checkpoint import Checkpoint
-from .stream_log import (
-    BEGIN,
-    CHANGES,
-    COMMIT,
-    OUTSIDE,
-    TRUNCATE,
-    TRUNCATED,
-    changes_text,
-    count_truncates,
-    final_lsn,
-    xid_of,
-)
+from .messages import BEGIN, CHANGES, COMMIT, OUTSIDE, TRUNCATE, final_lsn, xid_of
+from .transactions import TRUNCATED, changes_text, count_truncates
 
 MESSAGE = 0x4D
 LEFT_OUT = bytes([*CHANGES, TRUNCATE, MESSAGE])
@@ -44,7 +34,7 @@ class Skipping:
         # under way
         self.begun, self.is_inside = b"", False
         self.counts: dict[bytes, int] = {}
-        progress.skipped = checkpoint.known.skipped
+        progress.findings.note_skipped(checkpoint.known.skipped)
 
     def begin_session(self, at: int) -> None:
         """A session starts at an LSN. A commit that ends above it comes in it, so one that has its
@@ -103,7 +93,7 @@ class Skipping:
         """The commit is complete."""
         lsn, changes = lsn_text(self.lsn), changes_text(self.counts, self.remembered)
         self.checkpoint.write(True, skipped=lsn)
-        self.progress.skipped = lsn
+        self.progress.findings.note_skipped(lsn)
         log.warning(f"skipped: transaction {xid_of(self.begun)}, final LSN {lsn}, {changes}")
         self.begun, self.is_pending = b"", False
 

@@ -5,11 +5,12 @@ from __future__ import annotations
 
 from typing import TYPE_CHECKING
 
-from .filter import FRAME_TOO_LARGE, SPOOL_FULL, FilterEnded
+from .filter_end import FRAME_TOO_LARGE, SPOOL_FULL, FilterEnded
 from .memory_limit import LONGEST_FRAME
 
 if TYPE_CHECKING:
     from ..commands.options import Options
+
 
 # Below so many bytes no transaction is why a filter is killed.
 LEAST = 1 << 20

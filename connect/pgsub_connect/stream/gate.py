@@ -3,7 +3,7 @@
 The server makes a slot once transactions have ended that ran when it was asked for it. A commit
 that waits for a synchronous follower is of one of them: its record is in the log, and its
 transaction ends once the follower has confirmed that. So where the stream were held meanwhile, as
-the module `follow.hold` says, each would wait for the other. It goes on here as far as that is
+the module `stream.hold` says, each would wait for the other. It goes on here as far as that is
 below the slot's consistent point P for certain, whatever that will be:
 
 - Decoding becomes consistent at a record of the transactions that run, which the server writes once
@@ -30,7 +30,7 @@ import tempfile
 import threading
 import time
 from collections.abc import Callable
-from typing import TYPE_CHECKING
+from typing import TYPE_CHECKING, Protocol
 
 from pgsub_feed.texts import parse_lsn
 
@@ -41,7 +41,7 @@ from .hold import Hold
 
 if TYPE_CHECKING:
     from ..commands.options import Options
-    from ..verify.meeting_point import Source
+
 
 # How often it is looked whether the slot still waits, and again where the server couldn't be asked,
 # in seconds.
@@ -95,7 +95,7 @@ class Gating:
             self.next = now + LOOK
             self.look()
         # (changes that are on their way end the hold themselves)
-        stops = self.progress.is_waited_for and hold.stops() and not hold.is_sent
+        stops = self.progress.server.is_waited_for and hold.stops() and not hold.is_sent
         self.since = (self.since or now) if stops else None
         if self.is_over():
             self.since = None
@@ -137,10 +137,17 @@ class Gating:
         self.connection, self.end, self.next = None, 0, 0.0
 
 
+class SlotMaker(Protocol):
+    """A connection that makes a slot."""
+
+    def make_slot(self, seconds: float, check_end: Check | None = None) -> tuple[int, str]:
+        """Returns its consistent point and its snapshot."""
+
+
 class Making(threading.Thread):
     """Makes a slot while the follower goes on."""
 
-    def __init__(self, source: Source, seconds: float) -> None:
+    def __init__(self, source: SlotMaker, seconds: float) -> None:
         super().__init__(daemon=True)
         self.source, self.seconds = source, seconds
         self.given_up = threading.Event()

@@ -23,7 +23,7 @@ what they hold isn't in the store.
 
 The stream is held before the slot is made, so P is above all that was passed on: its record is
 written later than each commit that the server has sent. Where commits at the server wait for the
-follower, it goes on up to a gate, as the module `follow.gate` says, which P is above. No frame is
+follower, it goes on up to a gate, as the module `stream.gate` says, which P is above. No frame is
 made up or left out, and statuses go on meanwhile.
 
 The request is a dialog in the file `STORE.request`, which is locked (flock) by whoever asks: with
@@ -60,7 +60,7 @@ from typing import Any
 
 from pgsub_feed.json_texts import Unreadable, object_of, open_plain, parsed, read_whole
 
-from .stream_log import BEGIN, COMMIT, STREAM_COMMIT, final_lsn
+from .messages import BEGIN, COMMIT, STREAM_COMMIT, final_lsn
 
 # The most seconds that a request may ask for.
 LONGEST = 610.0

@@ -10,6 +10,7 @@ before that.
 
 from __future__ import annotations
 
+import dataclasses
 import time
 from collections.abc import Sequence
 
@@ -17,14 +18,24 @@ from ..drift.missed_rows import Misses
 from ..server.connection import Connection
 from ..status.progress import Progress
 from ..store.checkpoint import Checkpoint
-from .feed import Reached
-from .filter import Filter, asking, flushed, lowered
-from .stream_log import Noting, final_lsn
+from .filter import Filter
+from .frames import asking, flushed, lowered
+from .messages import final_lsn
+from .stream_log import Noting
 
 # How often a position that a keepalive alone has moved is passed on, in seconds. Each time costs a
 # sync of the checkpoint. Where commits at the server wait for that, as those of tables that aren't
 # published do: so often that at most a part in so many of the time is spent.
 QUIET, PART = 1.0, 5
+
+
+@dataclasses.dataclass(frozen=True)
+class Reached:
+    """What a store has: the LSN up to which all commits are stored, and the end of the last of
+    them."""
+
+    confirmed: int
+    position: int
 
 
 class Confirming:
@@ -93,7 +104,7 @@ class Confirming:
             self.position,
             self.filter.confirmed(),
             begun,
-            int.from_bytes(self.progress.sent_to, "big"),
+            int.from_bytes(self.progress.stream.sent_to, "big"),
         )
 
     def note_missing(self, statuses: Sequence[bytes]) -> None:
@@ -114,8 +125,8 @@ class Confirming:
         confirmed = flushed(statuses[-1])
         self.forget_confirmed(confirmed)
         self.checkpoint.note(confirmed, self.position)
-        self.progress.counted = self.checkpoint.counted
-        self.progress.note_confirmed(confirmed, self.position)
+        self.progress.findings.note_counted(self.checkpoint.counted)
+        self.progress.stream.note_confirmed(confirmed, self.position)
 
     def forget_confirmed(self, confirmed: int) -> None:
         """Forgets the ends of commits that are stored."""
@@ -148,7 +159,7 @@ class Confirming:
 
     def quiet(self) -> float:
         """After how many seconds a position that a keepalive alone has moved is passed on again."""
-        return min(QUIET, PART * self.noted_in) if self.progress.is_waited_for else QUIET
+        return min(QUIET, PART * self.noted_in) if self.progress.server.is_waited_for else QUIET
 
     def pass_on(self, status: bytes) -> None:
         """Sends a status, and notes it: first where only this tells the next start of it, and else
@@ -161,8 +172,7 @@ class Confirming:
         lsn, began = flushed(status), time.monotonic()
         if lsn > self.checkpoint.known.confirmed:
             self.last_moved = began
-        if self.noting.asked is not None and lsn >= self.noting.asked:
-            self.noting.asked = None
+        self.noting.note_answer(lsn)
         self.held = None
         if lsn > self.noting.stored(lsn, self.position):
             self.note_statuses([status])

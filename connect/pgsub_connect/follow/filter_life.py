@@ -1,0 +1,187 @@
+"""The filter's life: it is started, serves one session after the other, and ends; what its end
+means."""
+
+from __future__ import annotations
+
+import contextlib
+import itertools
+import time
+from collections.abc import Sequence
+from typing import TYPE_CHECKING
+
+from pgsub_feed import log
+from pgsub_feed.texts import counted
+
+from ..drift.watch import Watch
+from ..errors import FileError, FilterFault, Passing, Stopped
+from ..status.progress import Progress
+from ..stream import too_large
+from ..stream.awake import Awake
+from ..stream.filter import Filter
+from ..stream.filter_end import MISSED, FilterEnded
+from ..stream.statuses import Confirming
+from .ending import Ending
+from .feed import Feeding
+from .stream_form import StreamForm
+
+if TYPE_CHECKING:
+    from ..commands.options import Options
+
+
+# How long the filter is waited for, and how long it is slept, before it is looked whether the end
+# was asked for.
+STEP, SLEEP = 0.5, 0.2
+# After how many seconds each a store that can't be opened is tried again, the last one again and
+# again.
+OPENED_AFTER = (1, 2, 4, 8, 15, 30)
+
+
+class FilterLife:
+    """The filter that runs, and what is noted of it."""
+
+    def __init__(
+        self,
+        options: Options,
+        child: Filter,
+        progress: Progress,
+        confirming: Confirming,
+        watch: Watch,
+        form: StreamForm,
+        ending: Ending,
+        feeding: Feeding | None,
+    ) -> None:
+        self.options, self.filter, self.progress = options, child, progress
+        self.confirming, self.noting, self.misses = confirming, confirming.noting, confirming.misses
+        self.watch, self.form, self.ending, self.feeding = watch, form, ending, feeding
+        self.kills = too_large.Kills()
+
+    def start(self) -> None:
+        if self.filter.is_running():
+            return
+        self.progress.enter("opening the store")
+        position = self.open_store()
+        self.confirming.begin_store(position)
+        if self.feeding:
+            self.feeding.note_opened()
+        if self.misses.begin_filter(position, self.filter.has_told_all):
+            self.watch.show()
+        self.noting.begin_store()
+        self.progress.stream.note_confirmed(position, position)
+
+    def open_store(self) -> int:
+        """Starts the filter. A store that somebody else has open, to dump it say, is waited for."""
+        for tried in itertools.count():
+            try:
+                return self.filter.start(self.ending.check)
+            except FilterEnded as ended:
+                if not ended.is_unopened():
+                    raise
+            delay = OPENED_AFTER[min(tried, len(OPENED_AFTER) - 1)]
+            log.warning(
+                f"the store can't be opened now: it is tried again in {counted(delay, 'second')}"
+            )
+            self.sleep(delay)
+        raise AssertionError
+
+    def sleep(self, seconds: float) -> None:
+        until = time.monotonic() + seconds
+        while (left := until - time.monotonic()) > 0:
+            self.ending.check()
+            time.sleep(min(left, SLEEP))
+
+    def serve(
+        self,
+        timeout: float,
+        reads: Sequence[int] = (),
+        writes: Sequence[int] = (),
+        awake: Awake | None = None,
+    ) -> tuple[list[int], list[int], list[bytes]]:
+        """Serves the filter. What it says of changes that found no row is on the disk before
+        anybody sees the statuses that follow."""
+        statuses: list[bytes] = []
+        try:
+            readable, writable, statuses = self.filter.serve(timeout, reads, writes, awake)
+            return readable, writable, statuses
+        finally:
+            self.confirming.note_missing(statuses)
+
+    def serve_alone(self, seconds: float) -> None:
+        """Serves the filter while no session is open."""
+        try:
+            self.confirming.note_statuses(self.serve(seconds)[2])
+        except FilterEnded as ended:
+            self.note_end(ended)
+
+    def tend_misses(self) -> None:
+        """Tells what is new of changes that found no row. Raises where the following is to be
+        strict."""
+        self.misses.tell()
+        if self.misses.take_new():
+            self.watch.show()
+
+    def use_proto(self, proto: int) -> None:
+        """Has the filter read this version of the protocol."""
+        if proto > self.filter.proto:
+            self.finish()
+            self.filter.use(proto)
+            self.start()
+
+    def finish(self) -> None:
+        """Ends the filter where no session is open."""
+        if not self.filter.is_running():
+            return
+        self.filter.finish()
+        try:
+            while True:
+                self.progress.beat()
+                self.confirming.note_statuses(self.serve(STEP)[2])
+        except FilterEnded as ended:
+            check_end(ended)
+
+    def leave(self) -> None:
+        """Ends the filter in its own time where something else ends the run: what a killed one has
+        stored may not be counted."""
+        with contextlib.suppress(FileError, FilterEnded, FilterFault, Passing):
+            self.finish()
+
+    def note_end(self, ended: FilterEnded) -> None:
+        """Notes why the filter ended. Raises where the same would come of another try."""
+        if not (
+            ended.is_full()
+            and self.form.stop_streaming("open transactions were too much at a time")
+        ):
+            largest = self.noting.largest()
+            if text := too_large.text_of(ended, self.options, largest, self.noting.longest):
+                log.error(text)
+            if self.feeding and (text := self.feeding.text_of(ended.said)):
+                log.error(text)
+            if ended.is_rejection():
+                self.tell_rejected(ended)
+                raise ended
+            self.kills.note(ended, *largest)
+            log.warning(f"{ended}: it is started again")
+        self.progress.note_restart(str(ended))
+
+    def tell_rejected(self, ended: FilterEnded) -> None:
+        """Tells which commit the filter has rejected: the first one above its store's position. All
+        up to there is counted."""
+        if not ended.is_of_stream():
+            return
+        with contextlib.suppress(FilterEnded, Stopped):
+            position = self.filter.start(self.ending.check)
+            self.misses.begin_filter(position, ended.has_told_all())
+            self.filter.finish()
+            if ended.is_of_commit() and (text := self.noting.rejected_text(position)):
+                log.error(text)
+            while True:
+                self.progress.beat()
+                self.filter.serve(STEP)
+
+
+def check_end(ended: FilterEnded) -> None:
+    """Looks at how a filter has ended that was to end. Raises where the next one would end in the
+    same way."""
+    if ended.is_rejection():
+        raise ended
+    if ended.status not in (0, MISSED):
+        log.warning(f"{ended}")

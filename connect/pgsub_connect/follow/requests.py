@@ -1,0 +1,101 @@
+"""What others ask of a running follower: copies of its store for readers, tables to be added, rows
+to be repaired."""
+
+from __future__ import annotations
+
+import contextlib
+from typing import TYPE_CHECKING
+
+from ..add.adder import Adder
+from ..errors import Stopped
+from ..store.snapshot import Snapshots
+from ..stream.gate import WAITED, Gating
+from .ending import Ending
+from .repair import Repairing
+from .upkeep import Upkeep
+
+if TYPE_CHECKING:
+    from ..commands.options import Options
+
+
+class Requests:
+    """Goes on with each of them between payloads."""
+
+    def __init__(
+        self,
+        options: Options,
+        snapshots: Snapshots,
+        adder: Adder,
+        repairing: Repairing,
+        upkeep: Upkeep,
+        ending: Ending,
+    ) -> None:
+        self.snapshots, self.hold = snapshots, snapshots.hold
+        self.adder, self.repairing, self.upkeep, self.ending = adder, repairing, upkeep, ending
+        self.filter, self.confirming = upkeep.filter, upkeep.confirming
+        self.progress = upkeep.life.progress
+        self.gating = Gating(options, self.progress, self.hold, upkeep.serve_server, self.let_go)
+
+    def begin_session(self, streams: bool) -> bool:
+        """A session begins. Returns whether it has to be one of whole transactions."""
+        adds = self.adder.begin_session(self.confirming.position, streams)
+        repairs = self.repairing.begin_session(streams)
+        return adds or repairs
+
+    def end_session(self) -> None:
+        self.adder.end_session()
+        self.repairing.end_session()
+        self.gating.end_session()
+        self.hold.end_session()
+
+    def step(self) -> bool:
+        """Goes on with tables that are added, and rows that are repaired. Returns whether another
+        session is to begin for them."""
+        # (behind a repair nothing is passed on in this session)
+        self.repairing.step()
+        if self.repairing.wants_session() or not self.hold.keeps and self.adder.wants_session():
+            return True
+        self.adder.step()
+        self.gating.step()
+        return False
+
+    def holds_for_copy(self) -> bool:
+        """Copies the store for readers, where that is due, once all commits that were passed on are
+        stored.
+
+        Until then nothing more is passed on, nor where the stream is held for a copy at one LSN:
+        returns whether so. The filter has nothing to write meanwhile, and what it has buffered of
+        open transactions isn't in the store.
+        """
+        if self.ending.is_asked:
+            return False
+        if not self.snapshots.is_due(self.confirming.position):
+            return self.hold.stops()
+        if self.filter.is_running() and not self.confirming.is_stored():
+            return True
+        if self.hold.keeps:
+            self.repairing.look()
+        state = self.progress.state
+        self.progress.enter("copying the store")
+        with contextlib.suppress(Stopped):
+            # (whoever has called this sees that, and ends)
+            self.snapshots.take(self.confirming.position, self.serve_copy)
+        self.progress.enter(state)
+        return self.hold.stops()
+
+    def serve_copy(self) -> None:
+        """Keeps the server content while the store is copied. Ends one for which commits have
+        waited for too long."""
+        self.upkeep.serve_server()
+        if self.gating.is_over():
+            raise OSError(0, WAITED)
+
+    def let_go(self, why: str) -> None:
+        """Goes on, whatever the stream is held for."""
+        if self.hold.keeps:
+            self.repairing.give_up(why, False, delays=True)
+        elif self.hold.into:
+            self.snapshots.answer(self.hold.into, why)
+            self.hold.end()
+        else:
+            self.adder.let_go(why)

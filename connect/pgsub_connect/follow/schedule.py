@@ -1,0 +1,122 @@
+"""What is due at which time: how long a session waits for what comes, when it repeats a status,
+and when the next one begins."""
+
+from __future__ import annotations
+
+import time
+from typing import TYPE_CHECKING
+
+from ..errors import ServerError
+from ..status.progress import Progress
+from ..store.snapshot import SOON
+from ..stream.awake import NEEDED, Awake, processors
+from ..stream.gate import LOOK as GATE
+from ..stream.hold import Hold
+from ..stream.statuses import Confirming
+from .filter_life import STEP
+
+if TYPE_CHECKING:
+    from ..commands.options import Options
+
+
+# After how many seconds a lost session is begun anew, at first and at most.
+FIRST_DELAY, LONGEST_DELAY = 1.0, 60.0
+# How often the server is asked how far it has read its log, where the copy is to be taken at an
+# LSN, in seconds.
+ASK = 0.3
+
+
+class Schedule:
+    """The times of a session."""
+
+    def __init__(
+        self, options: Options, progress: Progress, confirming: Confirming, hold: Hold
+    ) -> None:
+        self.silence, self.longest_heartbeat = options.silence, options.heartbeat
+        self.progress, self.confirming, self.hold = progress, confirming, hold
+        self.heartbeat = options.heartbeat
+        # when the server was heard last, as far as anything of it was waited for
+        self.heard = time.monotonic()
+        # how statuses and commits are waited for where commits at the server wait for this
+        self.for_statuses, self.for_commits = (
+            (Awake(), Awake()) if processors() >= NEEDED else (None, None)
+        )
+
+    def begin_session(self, sender_timeout: float | None) -> None:
+        """Statuses are repeated often enough for a server that waits for them so long; None where it
+        waits for ever."""
+        longest = self.longest_heartbeat
+        self.heartbeat = min(longest, sender_timeout / 3) if sender_timeout else longest
+
+    def note_heard(self, at: float) -> None:
+        self.heard = at
+
+    def is_silent(self) -> bool:
+        """Whether nothing was heard of the server for longer than it may be silent."""
+        return time.monotonic() - self.heard > self.silence
+
+    def silent_error(self) -> ServerError:
+        return ServerError(f"the server said nothing for {self.silence:.0f} seconds")
+
+    def is_status_due(self) -> bool:
+        return time.monotonic() - self.confirming.last_sent >= self.heartbeat
+
+    def awake(self) -> Awake | None:
+        """Waits for what the filter says of a commit, or for the next one, where commits at the
+        server wait for that."""
+        if not self.progress.server.is_waited_for:
+            return None
+        return self.for_statuses if self.confirming.noting.ends else self.for_commits
+
+    def longest_wait(self, has_more: bool) -> float:
+        """For how many seconds a session waits at most until something comes. `has_more`: something
+        has come already."""
+        confirming = self.confirming
+        wait = 0.0 if has_more else self.heartbeat - (time.monotonic() - confirming.last_sent)
+        if confirming.held:
+            wait = min(wait, confirming.quiet() - (time.monotonic() - confirming.last_moved))
+        if self.hold.into:
+            wait = min(wait, SOON)
+        if self.hold.is_gated():
+            wait = min(wait, GATE)
+        return max(0.0, min(wait, STEP))
+
+    def keep_alive(self, silent: float) -> None:
+        """Repeats the last status at each heartbeat. A server that has been silent is asked for an
+        answer, and given up."""
+        limit = self.silence
+        if silent > limit:
+            raise self.silent_error()
+        waits = self.hold.is_going()
+        if time.monotonic() - self.confirming.last_sent >= (
+            ASK if waits else min(self.heartbeat, limit / 4)
+        ):
+            self.confirming.repeat(asks=waits or silent > limit / 2)
+
+
+class Delay:
+    """After how many seconds the next session begins: each time later, until one lasts."""
+
+    def __init__(self) -> None:
+        self.seconds = 0.0
+        # whether the next one is to begin at once
+        self.is_renewed = False
+
+    def renew(self) -> None:
+        self.seconds, self.is_renewed = 0.0, True
+
+    def note_renewed(self, is_renewed: bool) -> None:
+        self.is_renewed = is_renewed
+
+    def take_renewed(self) -> bool:
+        is_renewed, self.is_renewed = self.is_renewed, False
+        return is_renewed
+
+    def next(self) -> float:
+        self.seconds = min(2 * self.seconds, LONGEST_DELAY) if self.seconds else FIRST_DELAY
+        return self.seconds
+
+    def note_lasting(self, lasted: float, heartbeat: float) -> None:
+        """A session has lasted so long."""
+        if self.seconds and lasted > 2 * heartbeat:
+            self.seconds = 0.0

@@ -1,0 +1,225 @@
+"""One session after the other: passes on what comes, and the filter's statuses, from its start to
+its end on either side."""
+
+from __future__ import annotations
+
+import time
+from typing import TYPE_CHECKING
+
+from pgsub_feed import log
+
+from ..drift.differences import PUBLICATION
+from ..drift.findings import NOTHING, About
+from ..errors import ServerError
+from ..server.connection import Connection
+from ..stream.filter_end import FilterEnded
+from ..stream.filter_input import PIECE
+from .ending import Ending
+from .filter_life import STEP, FilterLife, check_end
+from .requests import Requests
+from .schedule import Delay, Schedule
+from .session_start import SessionStart
+from .stall import Standing
+
+if TYPE_CHECKING:
+    from ..commands.options import Options
+
+
+class Session:
+    """The session that is open, if any."""
+
+    connection: Connection | None
+
+    def __init__(
+        self,
+        options: Options,
+        start: SessionStart,
+        life: FilterLife,
+        requests: Requests,
+        schedule: Schedule,
+        standing: Standing,
+        delay: Delay,
+        ending: Ending,
+    ) -> None:
+        self.options, self.start, self.life, self.requests = options, start, life, requests
+        self.schedule, self.standing, self.delay, self.ending = schedule, standing, delay, ending
+        self.filter, self.confirming, self.noting = life.filter, life.confirming, life.noting
+        self.progress, self.hold, self.recording = life.progress, requests.hold, start.recording
+        self.connection = None
+        # for how long nothing has come, as far as it was waited for
+        self.silent = 0.0
+
+    def connect(self) -> Connection:
+        """Connects, and starts the session."""
+        self.connection = connection = self.start.log_in()
+        self.start.begin(connection)
+        self.standing.begin_session()
+        return connection
+
+    def run(self) -> None:
+        """One session.
+
+        What comes is passed on first: all else is done while the filter stores it, since a commit
+        at the server may wait for that.
+        """
+        connection = self.connect()
+        self.progress.enter("following")
+        began, self.silent = time.monotonic(), 0.0
+        more: bool | None = True
+        while not self.is_over():
+            if self.ends_for_another(connection):
+                return
+            more = self.pass_on(connection, more)
+            if connection.left_out:
+                self.note_left_out(connection.left_out)
+            self.life.tend_misses()
+            self.noting.show()
+            self.noting.relation_log.note_look(self.look_again())
+            if more is None:
+                log.warning("the server ended the session")
+                return
+            if connection.unsent:
+                connection.flush()
+            self.keep_on(began)
+        self.end()
+
+    def pass_on(self, connection: Connection, more: bool | None) -> bool | None:
+        """Waits until something comes, and passes it on both ways. `more`: something has come
+        already. Returns that anew, None after the end."""
+        room = not self.requests.holds_for_copy() and self.filter.has_room()
+        listens, socket = time.monotonic(), connection.socket()
+        readable, writable, statuses = self.life.serve(
+            self.schedule.longest_wait(bool(more) and room),
+            [socket] if room else [],
+            [socket] if connection.unsent else [],
+            self.schedule.awake(),
+        )
+        # (what else takes long, as a copy of the store does, is none of the server's silence)
+        is_heard = socket in readable or not room
+        self.silent = 0.0 if is_heard else self.silent + time.monotonic() - listens
+        if statuses or self.confirming.held:
+            self.confirming.forward(statuses)
+        # (what was read already of an encrypted connection doesn't wake select, nor what is read
+        # where a flush would block)
+        may_have_come = (
+            socket in readable
+            or socket in writable
+            or connection.is_wrapped()
+            or not (readable or writable)
+        )
+        if room and not more and may_have_come:
+            connection.consume()
+            more = True
+        return self.take_payloads(connection) if room and more else more
+
+    def take_payloads(self, connection: Connection) -> bool | None:
+        """Passes on what has come. Returns false where there is no more yet, true where there may
+        be, None after the end."""
+        hold = self.hold
+        payloads, more = (
+            (hold.take_kept(), True)
+            if hold.kept
+            else connection.payloads(self.filter.room(), PIECE)
+        )
+        if not payloads:
+            return more
+        if hold.limit() is not None:
+            payloads = hold.passing(payloads, bool(self.noting.begun))
+        recorded, leaving = payloads, self.requests.adder.leaving
+        if leaving.points:
+            payloads = leaving.passing(payloads)
+        if self.recording:
+            for payload in recorded:
+                self.recording.write_payload(payload)
+        skipping = self.life.form.skipping
+        if skipping.is_pending:
+            payloads = [payload for payload in payloads if skipping.passes(payload)]
+        if payloads and len(payloads[-1]) >= PIECE:
+            self.noting.note_long(len(payloads[-1]))
+        self.filter.push_payloads(payloads)
+        self.noting.note_all(payloads)
+        return True if hold.kept and more is not None else more
+
+    def look_again(self) -> bool:
+        """Looks at the publications, where it is time. Returns whether a look is still wanted."""
+        serve, position = self.requests.upkeep.serve_server, self.confirming.position
+        return self.life.watch.tend(self.noting.relation_log.wants_look, serve, position)
+
+    def keep_on(self, began: float) -> None:
+        """Does what is due by now. Raises where the session makes no sense any more."""
+        now = time.monotonic()
+        self.schedule.note_heard(now - self.silent)
+        self.schedule.keep_alive(self.silent)
+        self.standing.check(self.options.silence, self.hold.stops())
+        self.delay.note_lasting(now - began, self.schedule.heartbeat)
+
+    def ends_for_another(self, connection: Connection) -> bool:
+        """Goes on with what others have asked for. Returns whether another session is to begin for
+        that."""
+        self.progress.beat()
+        if self.progress.server.was_promoted:
+            raise ServerError("the standby was promoted: a session with the new primary is begun")
+        if not self.requests.step():
+            return False
+        self.renew(connection)
+        return True
+
+    def renew(self, connection: Connection) -> None:
+        """Ends a session so that another one begins, with whole transactions where rows come from
+        here, or again without."""
+        log.info("a session begins anew, because of rows that are added or repaired")
+        self.delay.renew()
+        connection.end_copy()
+        # (the slot is in use as long as the server hasn't heard it)
+        connection.drain(STEP)
+
+    def is_over(self) -> bool:
+        """Whether the end was asked for, or what was asked for is stored."""
+        feeding = self.life.feeding
+        if self.ending.is_reached(self.filter.confirmed()) and (
+            not feeding or feeding.is_read(self.confirming.position)
+        ):
+            self.ending.ask()
+        return self.ending.is_asked
+
+    def note_left_out(self, said: list[str]) -> None:
+        """Finds what the server has said of publications that weren't there yet at this place in
+        the log: it leaves out their changes.
+
+        Up to 17 that is an error. It comes before whatever confirms the transactions.
+        """
+        while said:
+            text = said.pop(0)
+            names = sorted((name for name in self.options.publication if name in text), key=len)
+            about = About(publication=names[-1], is_missing=True) if names else NOTHING
+            text = f"the server leaves out changes from before a publication was made: {text}"
+            remembered = self.life.watch.remembered
+            remembered.find(PUBLICATION, self.confirming.position, text, about)
+
+    def end(self) -> None:
+        """Ends the filter's input, sends what it still confirms, and ends the session."""
+        self.progress.enter("stopping")
+        self.filter.finish()
+        try:
+            while True:
+                self.progress.beat()
+                for status in self.life.serve(STEP)[2][-1:]:
+                    self.confirming.pass_on(status)
+                if self.schedule.is_status_due():
+                    self.confirming.repeat()
+                self.standing.check(self.options.silence, ends=True)
+        except FilterEnded as ended:
+            self.confirming.release()
+            check_end(ended)
+        if self.connection:
+            self.connection.end_copy()
+
+    def disconnect(self) -> None:
+        self.confirming.end_session()
+        self.progress.slot.note_unread(False)
+        self.requests.end_session()
+        self.life.watch.finish()
+        if self.connection:
+            self.connection.close()
+            self.connection = None
+        self.filter.end_session()

@@ -1,0 +1,78 @@
+"""Tells the service manager how the follower goes, as systemd's sd_notify(3) says: one datagram of
+lines to the socket that NOTIFY_SOCKET names.
+
+Only the main loop tells that it is alive. Where it stands still, nothing else says that all is
+well, and the manager ends the process after its WatchdogSec.
+"""
+
+from __future__ import annotations
+
+import contextlib
+import os
+import socket
+import time
+from collections.abc import MutableMapping
+
+# How often it is told at most that the main loop is alive, in seconds, and how many times at least
+# in the time within which the manager wants to hear of it.
+SELDOM, TIMES = 1.0, 5
+# For how many seconds it is tried to tell what is told once.
+PATIENCE = 1.0
+# Until it is ready, the manager gives it so many seconds more each time.
+LONGER = 60
+VARIABLES = ("NOTIFY_SOCKET", "WATCHDOG_USEC", "WATCHDOG_PID")
+
+
+class Notifier:
+    """Tells nothing where it is given no address. One whose first letter is an at sign is an
+    abstract name."""
+
+    def __init__(self, address: str = "", within: float | None = None) -> None:
+        """`within`: for how many seconds the manager waits for a sign of life."""
+        self.address = "\0" + address[1:] if address.startswith("@") else address
+        self.interval = min(SELDOM, within / TIMES) if within else SELDOM
+        self.is_ready = self.is_stopping = False
+        self.next, self.status = 0.0, ""
+
+    def ready(self) -> None:
+        """The follower has come so far that whatever needs it may start."""
+        if not self.is_ready:
+            self.is_ready = True
+            self.send(PATIENCE, "READY=1")
+
+    def is_due(self) -> bool:
+        return bool(self.address) and time.monotonic() >= self.next
+
+    def beat(self, status: str) -> None:
+        """The main loop is alive, and at this. Called where it is due."""
+        self.next = time.monotonic() + self.interval
+        alive = "WATCHDOG=1" if self.is_ready else f"EXTEND_TIMEOUT_USEC={LONGER * 1000000}"
+        self.send(0.0, alive, *self.news(status))
+
+    def stopping(self, status: str) -> None:
+        """The follower is about to end."""
+        first = [] if self.is_stopping else ["STOPPING=1"]
+        self.is_stopping = True
+        self.send(PATIENCE, *first, *self.news(status))
+
+    def news(self, status: str) -> list[str]:
+        is_new, self.status = status != self.status, status
+        return [f"STATUS={status}"] if is_new else []
+
+    def send(self, patience: float, *lines: str) -> None:
+        """Sends these. A manager that doesn't listen any more is none of the follower's faults."""
+        if not self.address or not lines:
+            return
+        with contextlib.suppress(OSError), socket.socket(
+            socket.AF_UNIX, socket.SOCK_DGRAM | socket.SOCK_CLOEXEC
+        ) as it:
+            it.settimeout(patience)
+            it.sendto("\n".join(lines).encode(), self.address)
+
+
+def notifier_of(environment: MutableMapping[str, str]) -> Notifier:
+    """The one that an environment asks for, which has these variables no more: they aren't for
+    children."""
+    address, usec, pid = (environment.pop(name, "") for name in VARIABLES)
+    is_watched = usec.isdecimal() and (not pid or pid == str(os.getpid()))
+    return Notifier(address, int(usec) / 1000000 if is_watched else None)

@@ -1,0 +1,67 @@
+"""What is known of the server: as a session found it, and as it was asked beside that."""
+
+from __future__ import annotations
+
+import time
+
+from ..server.session import waits_for
+
+
+class ServerState:
+    """The server of the session, and whether commits there wait for the follower."""
+
+    def __init__(self) -> None:
+        self.version = self.timeline = self.sessions = 0
+        # when it was started, whether it was a standby then, and whether it was promoted since
+        self.started = 0
+        self.is_standby = self.was_promoted = False
+        # the session's name there, and whether commits may wait for it
+        self.name, self.is_waited_for = "", False
+
+    def note_version(self, version: int, timeline: int) -> None:
+        self.version, self.timeline = version, timeline
+
+    def note_start(self, started: int, is_standby: bool) -> None:
+        """A session is about to begin with a server that was started then."""
+        self.started, self.is_standby, self.was_promoted = started, is_standby, False
+
+    def note_name(self, name: str, standbys: str) -> None:
+        """The session has this name. `standbys`: the server's synchronous_standby_names."""
+        self.name, self.is_waited_for = name, waits_for(standbys, name)
+
+    def begin_session(self) -> None:
+        self.sessions += 1
+
+    def note_standbys(self, standbys: str) -> bool:
+        """Notes what was just read of a server's synchronous_standby_names. Returns whether commits
+        may wait."""
+        self.is_waited_for = self.is_waited_for or bool(standbys) and waits_for(standbys, self.name)
+        return self.is_waited_for
+
+    def note_answer(self, standbys: str, is_standby: bool, started: int) -> None:
+        """Notes what a server that was started then says of itself now. (A promotion starts none
+        anew.)"""
+        self.is_waited_for = waits_for(standbys, self.name)
+        if self.is_standby and not is_standby and started and started == self.started:
+            self.was_promoted = True
+
+
+class Slot:
+    """What the server says of the slot; empty or None where its version doesn't say it, or hasn't
+    yet."""
+
+    def __init__(self) -> None:
+        self.wal_status = ""
+        self.safe_wal_size: int | None = None
+        # when that was told, by the clock that runs evenly
+        self.told = 0.0
+        # whether nothing of the session is read just now, so that it matters more what becomes of
+        # the slot
+        self.is_unread = False
+
+    def note(self, wal_status: str, safe_wal_size: int | None) -> None:
+        self.wal_status, self.safe_wal_size = wal_status, safe_wal_size
+        self.told = time.monotonic()
+
+    def note_unread(self, is_unread: bool) -> None:
+        self.is_unread = is_unread

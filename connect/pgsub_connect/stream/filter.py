@@ -1,0 +1,226 @@
+"""The filter `pgsub follow` as a child: frames go to its standard input, statuses come from its
+standard output."""
+
+from __future__ import annotations
+
+import errno
+import os
+import select
+import signal
+import subprocess
+from collections.abc import Sequence
+
+from .. import version
+from ..errors import FilterFault, Passing
+from ..server.connection import Check, never
+from .awake import Awake
+from .filter_end import FilterEnded, Missing
+from .filter_input import PIECE, ROOM, FilterInput
+from .filter_said import FilterSaid
+from .frames import COPY_DONE, HEADERS, STATUS, STATUS_HEAD, flushed, without_received
+
+# For how long one that opens its store is waited for, until it is looked whether the end was asked
+# for, in seconds.
+LOOK = 0.5
+# What a filter needs of the environment: not the passwords of a server.
+KEPT = ("PATH", "LANG", "LC_ALL", "LC_MESSAGES", "TMPDIR", "TZ", "HOME")
+
+
+class Filter:
+    """A running filter, or one that is to be started."""
+
+    child: subprocess.Popen[bytes]
+
+    def __init__(
+        self, words: list[str], kept_open: Sequence[int], proto: int = 2, mode: int = 0o600
+    ) -> None:
+        self.words = words
+        self.proto = proto
+        self.kept_open = kept_open
+        self.mode = mode
+        self.runs = self.in_session = False
+        self.input, self.said = FilterInput(), FilterSaid()
+        # the last status, and the beginning of the next one
+        self.status = self.partial = b""
+        # whether the last one that had opened its store has said it of all that it stored
+        self.has_told_all = False
+
+    def is_running(self) -> bool:
+        return self.runs
+
+    def pid(self) -> int:
+        """Its process."""
+        return self.child.pid
+
+    @property
+    def waiting(self) -> int:
+        """How many bytes wait for the one that runs."""
+        return self.input.waiting
+
+    @property
+    def taken(self) -> int:
+        """How many bytes it has taken."""
+        return self.input.taken
+
+    @property
+    def missing(self) -> Missing:
+        """What it has said of changes that found no row since it began."""
+        return self.said.missing
+
+    def use(self, proto: int) -> None:
+        """The next one reads this version of the protocol."""
+        self.proto = proto
+
+    def add_words(self, words: Sequence[str]) -> None:
+        self.words += words
+
+    def launch(self) -> None:
+        """Starts the filter. Its first status comes once it has opened its store."""
+        version.check_program(self.words[0])
+        try:
+            # (a session of its own: an interrupt at the terminal is for the connector, which ends
+            # the filter in its own time)
+            self.child = subprocess.Popen(
+                [*self.words, "--proto", str(self.proto)],
+                stdin=subprocess.PIPE,
+                stdout=subprocess.PIPE,
+                stderr=subprocess.PIPE,
+                start_new_session=True,
+                pass_fds=self.kept_open,
+                umask=0o777 & ~self.mode,
+                env={name: value for name, value in os.environ.items() if name in KEPT},
+            )
+        except OSError as error:
+            if error.errno in (errno.EAGAIN, errno.ENOMEM):
+                raise Passing(f"{self.words[0]} can't be started now: {error.strerror}") from None
+            raise FilterFault(f"{self.words[0]}: {error.strerror}") from None
+        assert self.child.stdout
+        self.input, self.said = FilterInput(self.child.stdin), FilterSaid(self.child.stderr)
+        self.up = self.child.stdout.fileno()
+        os.set_blocking(self.up, False)
+        self.status, self.partial, self.in_session = b"", b"", False
+        self.runs = True
+
+    def start(self, check: Check = never) -> int:
+        """Starts the filter, waits for its first status, and returns the LSN up to which its store
+        confirms.
+
+        What `check` raises meanwhile ends the filter: one that opens its store has nothing to lose.
+        """
+        self.launch()
+        try:
+            while not self.status:
+                check()
+                self.serve(LOOK)
+        except BaseException:
+            self.kill()
+            raise
+        return flushed(self.status)
+
+    def confirmed(self) -> int:
+        return flushed(self.status)
+
+    def push(self, piece: bytes) -> None:
+        """Gives the filter bytes of the session, at once as far as the pipe takes them. A frame may
+        come in several pieces, one right after the other."""
+        self.in_session = True
+        self.input.push(piece)
+
+    def push_payloads(self, payloads: list[bytes]) -> None:
+        """Gives the filter CopyData with these payloads. A long one isn't copied together with
+        others: it may be the last only."""
+        if not payloads:
+            return
+        parts = [b""] * (2 * len(payloads))
+        parts[::2] = map(HEADERS.__getitem__, map(len, payloads))
+        parts[1::2] = payloads
+        long = parts.pop() if len(payloads[-1]) >= PIECE else b""
+        self.push(b"".join(parts))
+        if long:
+            self.push(long)
+
+    def end_session(self) -> None:
+        """Puts CopyDone in the place of a connection that is gone."""
+        if self.runs and self.input.takes and self.in_session:
+            self.push(COPY_DONE)
+            self.in_session = False
+            self.status = without_received(self.status)
+
+    def room(self) -> int:
+        """How many bytes may be pushed before others are to be written; a last frame may be
+        longer."""
+        return ROOM - self.input.waiting
+
+    def has_room(self) -> bool:
+        return self.input.waiting < ROOM
+
+    def finish(self) -> None:
+        """Ends the filter's input."""
+        self.input.finish()
+
+    def serve(
+        self,
+        timeout: float,
+        reads: Sequence[int] = (),
+        writes: Sequence[int] = (),
+        awake: Awake | None = None,
+    ) -> tuple[list[int], list[int], list[bytes]]:
+        """Waits until something is ready, asleep or awake at first, moves bytes both ways, and
+        returns what of `reads` and `writes` is ready and the filter's new statuses. What it said
+        before these is read then, too."""
+        takes = [self.input.number] if self.input.waits() else []
+        tells = [self.up, self.said.number] if self.said.speaks else [self.up]
+        if awake:
+            readable, writable = awake.select([*tells, *reads], [*takes, *writes], timeout)
+        else:
+            readable, writable, _ = select.select([*tells, *reads], [*takes, *writes], [], timeout)
+        if self.input.takes and self.input.number in writable:
+            self.input.write()
+        statuses = self.read_statuses() if self.up in readable else []
+        if self.said.number in readable or statuses and self.said.has_said():
+            self.said.read()
+        return readable, writable, statuses
+
+    def read_statuses(self) -> list[bytes]:
+        try:
+            piece = os.read(self.up, PIECE)
+        except BlockingIOError:
+            return []
+        if not piece:
+            raise self.ended()
+        if self.partial:
+            piece = self.partial + piece
+        statuses, at = [], 0
+        while at + STATUS <= len(piece):
+            if not piece.startswith(STATUS_HEAD, at):
+                self.kill()
+                raise FilterFault("the filter wrote what isn't a status")
+            self.status = piece[at + 5 : at + STATUS]
+            statuses.append(self.status)
+            at += STATUS
+        self.partial = piece[at:]
+        return statuses
+
+    def ended(self) -> FilterEnded:
+        """Waits for the end, and makes the exception that says how it ended."""
+        self.finish()
+        status = self.child.wait()
+        while self.said.has_said():
+            self.said.read()
+        ended = FilterEnded(status, self.said.said)
+        self.close(ended.has_told_all())
+        return ended
+
+    def kill(self) -> None:
+        if self.runs:
+            self.child.send_signal(signal.SIGKILL)
+            self.child.wait()
+            self.close(False)
+
+    def close(self, has_told_all: bool) -> None:
+        if self.status:
+            self.has_told_all = has_told_all
+        for it in (self.child.stdin, self.child.stdout, self.child.stderr):
+            if it:
+                it.close()
+        self.runs = False

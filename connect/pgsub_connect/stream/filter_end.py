@@ -1,0 +1,80 @@
+"""How a filter ends, and what it says of changes that found no row."""
+
+from __future__ import annotations
+
+import re
+from typing import NamedTuple
+
+from pgsub_feed.texts import parse_lsn
+
+# The statuses with which a filter ends by itself, but for those of its words (2) and of a file that
+# is no store (3).
+REJECTED, SPOOL_FULL, FRAME_TOO_LARGE, UNOPENED, REFUSED, MEMORY, BROKEN = 1, 10, 11, 12, 13, 14, 15
+PASSING = (UNOPENED, REFUSED, MEMORY, BROKEN)
+# The status of one whose input ended, after changes that found no row.
+MISSED = 16
+# What it says of these on standard error, before the status that confirms their commits: how many
+# there were since it began, and of the first one the OID of its table and the end of its commit.
+MISSING = re.compile(
+    r"pgsub: rows not found: ([0-9]{1,20}), first in relation ([0-9]{1,10}) at ([0-9A-F]{1,8}/[0-9A-F]{1,8})"
+)
+
+
+class FilterEnded(Exception):
+    """The filter ended: with a status above 0 by a fault, below 0 by a signal."""
+
+    def __init__(self, status: int, said: str) -> None:
+        ended = (
+            f"the filter ended with status {status}"
+            if status >= 0
+            else f"signal {-status} ended the filter"
+        )
+        super().__init__(f"{ended}: {said}" if said else ended)
+        self.status = status
+        self.said = said
+
+    def is_rejection(self) -> bool:
+        """Whether the same would come of another try. A disk that is full, or too little memory,
+        may pass."""
+        return self.status > 0 and self.status not in (*PASSING, MISSED)
+
+    def is_of_stream(self) -> bool:
+        """Whether what was rejected is something that came, and not the words or the store."""
+        return self.status in (REJECTED, SPOOL_FULL, FRAME_TOO_LARGE)
+
+    def is_of_commit(self) -> bool:
+        """Whether what was rejected is a commit, and not a single message."""
+        return self.status == REJECTED and self.said.startswith(
+            ("pgsub: store ", "pgsub: relation ")
+        )
+
+    def is_full(self) -> bool:
+        """Whether too much of open transactions was buffered."""
+        return self.status == SPOOL_FULL
+
+    def has_told_all(self) -> bool:
+        """Whether it has said of all commits that it stored which of their changes found no row:
+        also of those that came right before one that it rejected, which it doesn't confirm. One
+        that was killed hasn't, nor one whose store, memory or output failed.
+        """
+        return self.status >= 0 and self.status not in PASSING
+
+    def is_unopened(self) -> bool:
+        """Whether the store couldn't be opened, as where another process has it open."""
+        return self.status == UNOPENED
+
+
+class Missing(NamedTuple):
+    """The changes of a filter that found no row: how many, and of the first one its commit's end
+    and its table's OID."""
+
+    total: int = 0
+    first: int = 0
+    relation: int = 0
+
+
+def missing_of(line: str) -> Missing | None:
+    """What a line on standard error says of changes that found no row, None where it is another
+    one."""
+    found = MISSING.fullmatch(line)
+    return Missing(int(found[1]), parse_lsn(found[3]), int(found[2])) if found else None

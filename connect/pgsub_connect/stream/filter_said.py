@@ -1,0 +1,52 @@
+"""What a filter says on its standard error."""
+
+from __future__ import annotations
+
+import os
+import select
+from typing import IO
+
+from pgsub_feed import log
+
+from .filter_end import Missing, missing_of
+from .filter_input import PIECE
+
+
+class FilterSaid:
+    """Notes how many changes found no row, passes on the rest, and keeps the last line."""
+
+    def __init__(self, file: IO[bytes] | None = None) -> None:
+        self.speaks, self.number = file is not None, file.fileno() if file else -1
+        self.line, self.said = b"", ""
+        # what it has said of changes that found no row since it began
+        self.missing = Missing()
+        self.hearing = select.poll()
+        if file:
+            os.set_blocking(self.number, False)
+            self.hearing.register(self.number, select.POLLIN)
+
+    def has_said(self) -> bool:
+        """Whether there is something on standard error, or its end."""
+        return self.speaks and bool(self.hearing.poll(0))
+
+    def read(self) -> None:
+        """Takes all that it has said."""
+        length = PIECE
+        # (a pipe has no more than that at a time)
+        while self.speaks and length == PIECE:
+            try:
+                piece = os.read(self.number, PIECE)
+            except BlockingIOError:
+                return
+            length = len(piece)
+            self.speaks = length > 0
+            *lines, self.line = (self.line + piece).split(b"\n")
+            for line in lines:
+                self.hear(line.decode(errors="replace"))
+
+    def hear(self, line: str) -> None:
+        if missing := missing_of(line):
+            self.missing = missing
+        else:
+            self.said = line
+            log.info(f"filter: {line}")

@@ -1,0 +1,71 @@
+"""What the Relation messages of the stream say of tables, compared with what is remembered."""
+
+from __future__ import annotations
+
+from collections.abc import Sequence
+
+from ..drift.remembered import Remembered
+from .messages import number, relation_of
+from .transactions import Described
+
+
+class RelationLog:
+    """Compares them. `wants_look`: a table came that isn't among those that are remembered, or
+    wasn't published when these were."""
+
+    def __init__(self, remembered: Remembered) -> None:
+        self.remembered = remembered
+        self.wants_look = False
+        self.strangers: set[int] = set()
+        # the last Relation message of each table that was compared with what is remembered, as it
+        # came
+        self.compared: dict[int, bytes] = {}
+        # those of tables that no commit has changed yet
+        self.described: dict[int, list[bytes]] = {}
+
+    def begin_session(self) -> None:
+        """Forgets those of a session that has ended."""
+        self.described = {}
+
+    def note_look(self, wants_look: bool) -> None:
+        self.wants_look = wants_look
+
+    def last_of(self, body: bytes) -> bytes:
+        """A message's body, as the same object as the one before in the same words."""
+        compared = self.compared.get(number(body[:4]))
+        return compared if compared == body else body
+
+    def describe(self, counts: dict[bytes, int], lsn: int, relations: Described) -> None:
+        """Compares the Relation messages of tables that a commit changes with what is remembered.
+        `counts`: its changes by letter and OID; `lsn`: its final LSN.
+
+        One of a partition comes with that of the table under whose name its rows are sent, and no
+        change has it, as long as it is one.
+        """
+        changed = {number(key[-4:]): None for key in counts}
+        oids = [number(body[:4]) for _, body in relations.bodies]
+        for oid, (_, body) in zip(oids, relations.bodies):
+            if oid in changed or not self.remembered.is_partition(oid):
+                self.described.setdefault(oid, []).append(body)
+            if self.remembered.is_known(oid) and not (
+                oid in changed and self.remembered.is_unpublished(oid, lsn)
+            ):
+                self.strangers.discard(oid)
+            elif oid not in self.strangers:
+                self.strangers.add(oid)
+                self.wants_look = True
+        for oid in changed:
+            if oid in self.described:
+                self.compare(oid, self.described.pop(oid), lsn)
+        for oid in oids:
+            del self.described.get(oid, [])[:-1]
+
+    def compare(self, oid: int, bodies: Sequence[bytes], lsn: int) -> None:
+        """Compares the Relation messages of a table in one commit, one after the other."""
+        last = self.remembered.last_sent(oid)
+        for body in bodies:
+            if self.compared.get(oid) == body and last >= 0:
+                self.remembered.note_again(oid, lsn)
+            elif (relation := relation_of(body)) is not None:
+                self.compared[oid] = body
+                self.remembered.note(relation, lsn, last)

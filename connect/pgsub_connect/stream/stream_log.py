@@ -1,0 +1,249 @@
+"""What is noted of the payloads that are passed on: counts, the ends of commits, and of the
+transactions that are under way which tables their changes touch and how these are described."""
+
+from __future__ import annotations
+
+import collections
+from collections.abc import Sequence
+
+from pgsub_feed.texts import lsn_text
+
+from ..drift.remembered import Remembered
+from ..status.counters import StreamCounters
+from .messages import (
+    ABORT,
+    AT,
+    BEGIN,
+    CHANGES,
+    COMMIT,
+    HEAD,
+    INSIDE,
+    OUTSIDE,
+    RELATION,
+    START,
+    STOP,
+    STREAM_COMMIT,
+    TRUNCATE,
+    commit_time,
+    final_lsn,
+    number,
+    xid_of,
+)
+from .relation_log import RelationLog
+from .transactions import TRUNCATED, Described, Streamed, changes_text, count_truncates
+
+# A commit that was passed on: the message that has its xid and final LSN (Begin or Stream Commit),
+# how many changes it has by letter and OID as they came, whether some of them may have been rolled
+# back, and how many bytes it had.
+Passed = tuple[bytes, dict[bytes, int], bool, int]
+
+
+class Noting:
+    """Notes payloads."""
+
+    def __init__(self, progress: StreamCounters, remembered: Remembered) -> None:
+        self.progress, self.remembered = progress, remembered
+        self.relation_log = RelationLog(remembered)
+        self.changes = self.commits = 0
+        self.counts: dict[bytes, int] = {}
+        self.begin_store()
+
+    def begin_store(self) -> None:
+        """A filter was started: it has what its store has."""
+        # the ends of commits that were passed on and aren't confirmed yet, and what they were
+        self.ends: collections.deque[int] = collections.deque()
+        self.passed: collections.deque[Passed] = collections.deque()
+        self.begin_session()
+
+    def begin_session(self) -> None:
+        """Forgets the transactions of a session that has ended."""
+        self.open: dict[int, Streamed] = {}
+        self.xid = 0
+        self.relation_log.begin_session()
+        # the length of the longest message, where it is one of the long ones
+        self.longest = 0
+        # the end of a keepalive that asks for a status
+        self.asked: int | None = None
+        self.last = self.begun = b""
+        # how many bytes have come, how many of them the progress was told of, and how many came
+        # before the transaction or block that is under way
+        self.total = self.shown = self.began = 0
+        # (what was passed on of a transaction that isn't complete was passed on all the same)
+        self.changes += sum(self.counts.values())
+        self.leave()
+
+    def leave(self) -> None:
+        """Between transactions. What comes here is out of order, which the filter tells."""
+        self.current: Streamed | None = None
+        self.counts = {}
+        self.relations = Described()
+        self.end = OUTSIDE
+
+    def note_long(self, length: int) -> None:
+        """A message of this length is passed on, which is one of the long ones."""
+        self.longest = max(self.longest, length)
+
+    def note_answer(self, lsn: int) -> None:
+        """A status is passed on that confirms up to this LSN."""
+        if self.asked is not None and lsn >= self.asked:
+            self.asked = None
+
+    def note_all(self, payloads: Sequence[bytes]) -> None:
+        """Notes payloads that were passed on, in one loop: a call for each would cost more than all
+        that is done for it."""
+        counts, end, total = self.counts, self.end, self.total
+        for payload in payloads:
+            total += len(payload)
+            key = payload[25:end]
+            if key in counts:
+                counts[key] += 1
+                continue
+            letter = key[0] if key else 0
+            if letter in CHANGES:
+                counts[key] = 1
+            elif letter == BEGIN:
+                self.begun, self.began = payload[:HEAD], total
+                self.counts = counts = {}
+            elif letter == COMMIT:
+                self.changes += sum(counts.values())
+                passed = (self.begun, counts, False, total - self.began)
+                self.ends.append(int.from_bytes(payload[35:43], "big"))
+                self.passed.append(passed)
+                self.commits += 1
+                if self.relations.bodies or self.relation_log.described:
+                    self.describe(passed, self.relations)
+                self.begun = b""
+                self.counts = counts = {}
+            elif letter:
+                self.total = total
+                self.note_other(letter, payload)
+                counts, end = self.counts, self.end
+            elif payload[17:] == b"\1":
+                self.asked = number(payload[1:9])
+        self.total = total
+        self.last = payloads[-1][:AT] if payloads else self.last
+
+    def note_rows(self, oid: int, count: int, size: int) -> None:
+        """Notes Inserts of a table in the transaction that is under way, of so many bytes
+        together."""
+        key = b"I" + oid.to_bytes(4, "big")
+        self.counts[key] = self.counts.get(key, 0) + count
+        self.total += size
+
+    def note_other(self, letter: int, payload: bytes) -> None:
+        if letter == RELATION:
+            self.note_relation(payload)
+        elif letter == TRUNCATE:
+            self.note_truncate(payload)
+        elif letter in (START, STOP, STREAM_COMMIT, ABORT):
+            self.note_block(letter, payload)
+
+    def note_relation(self, payload: bytes) -> None:
+        """Keeps a Relation message until its commit. One that came before in the same words costs
+        no more than that it came."""
+        body = payload[self.end - 4 :]
+        maker = payload[26:30] if self.current else b""
+        self.relations.add(maker, self.relation_log.last_of(body))
+
+    def note_truncate(self, payload: bytes) -> None:
+        count_truncates(
+            self.counts, TRUNCATED + payload[26 : self.end - 4], payload, self.end + 1, self.is_met
+        )
+
+    def is_met(self, oid: int) -> bool:
+        """Whether a table is known, or described by what has come."""
+        is_known = self.remembered.is_known(oid) or oid in self.relation_log.described
+        return is_known or self.relations.has(oid)
+
+    def note_block(self, letter: int, payload: bytes) -> None:
+        xid = number(payload[26:30])
+        if letter == START:
+            self.xid, self.current = xid, self.open.pop(xid, None) or Streamed()
+            self.relations, self.counts, self.end = self.current.relations, {}, INSIDE
+            self.began = self.total
+        elif letter == STOP:
+            self.changes += sum(self.counts.values())
+            if self.current:
+                self.current.add(self.counts, self.total - self.began)
+                if self.current.has_items():
+                    self.open[self.xid] = self.current
+            self.leave()
+        elif letter == STREAM_COMMIT:
+            it = self.open.pop(xid, None) or Streamed()
+            self.commit(
+                (payload[:HEAD], it.counts, it.about, it.size), it.relations, payload[39:47]
+            )
+        elif payload[26:30] == payload[30:34]:
+            self.open.pop(xid, None)
+        elif xid in self.open:
+            self.open[xid].abort(payload[30:34])
+
+    def commit(self, passed: Passed, relations: Described, end: bytes) -> None:
+        self.ends.append(int.from_bytes(end, "big"))
+        self.passed.append(passed)
+        self.commits += 1
+        if relations.bodies or self.relation_log.described:
+            self.describe(passed, relations)
+
+    def describe(self, passed: Passed, relations: Described) -> None:
+        self.relation_log.describe(passed[1], final_lsn(passed[0]), relations)
+        self.relations = Described()
+
+    def show(self) -> None:
+        """Tells the progress what came, and how far the transaction that isn't complete has come.
+        Called after each lot of payloads."""
+        last = self.last
+        if self.total != self.shown:
+            self.shown = self.total
+            self.progress.note_sent(last[9:17] if last[:1] == b"w" else last[1:9])
+        self.progress.note_passed(self.changes + sum(self.counts.values()), self.commits)
+        self.show_waiting()
+
+    def show_waiting(self) -> None:
+        """Tells the progress how old the first commit is that was passed on, or is being, and isn't
+        confirmed."""
+        first = self.passed[0][0] if self.passed else self.begun
+        self.progress.lag.note_waiting(commit_time(first) if first else None)
+
+    def confirm(self, confirmed: int, position: int) -> int:
+        """Forgets commits that are confirmed. Returns the store's position by them, at least
+        `position`."""
+        ends, passed = self.ends, self.passed
+        if not ends or ends[0] > confirmed:
+            return position
+        while ends and ends[0] <= confirmed:
+            position = max(position, ends.popleft())
+            last = passed.popleft()
+        self.progress.lag.note_commit(commit_time(last[0]))
+        self.show_waiting()
+        return position
+
+    def stored(self, confirmed: int, position: int) -> int:
+        """The store's position where this is confirmed, by commits that were passed on; at least
+        `position`."""
+        if self.ends and position <= self.ends[-1] <= confirmed:
+            return self.ends[-1]
+        return max((end for end in self.ends if end <= confirmed), default=position)
+
+    def rejected_text(self, position: int) -> str:
+        """What is said of the first commit above a store's position, which its filter has rejected;
+        "" where there is none."""
+        for end, (message, counts, about, _) in zip(self.ends, self.passed):
+            if end > position:
+                lsn, most = lsn_text(final_lsn(message)), "at most " if about else ""
+                return (
+                    f"rejected: transaction {xid_of(message)}, final LSN {lsn}, {most}{changes_text(counts, self.remembered)}:"
+                    f" --skip {lsn} passes over it"
+                )
+        return ""
+
+    def largest(self) -> tuple[int, int]:
+        """The xid of the largest transaction that isn't confirmed, and how many bytes of it were
+        passed on."""
+        sizes = {xid_of(it[0]): it[3] for it in self.passed}
+        sizes |= {xid: it.size for xid, it in self.open.items()}
+        if self.current:
+            sizes[self.xid] = self.current.size + self.total - self.began
+        if self.begun:
+            sizes[xid_of(self.begun)] = self.total - self.began
+        return max(sizes.items(), key=lambda it: it[1], default=(0, 0))

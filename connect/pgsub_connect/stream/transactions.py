@@ -1,0 +1,127 @@
+"""Transactions of the stream that are under way: which tables their changes touch, and how these
+are described.
+
+What is done for a change is little: it is counted for its table, and nothing of it is kept. So
+memory goes by the tables that a transaction changes and by what describes them, and not by its
+bytes: tests/test_noting_memory.py says how much that is for each kind of message.
+"""
+
+from __future__ import annotations
+
+import collections
+import itertools
+import struct
+from collections.abc import Callable
+
+from pgsub_feed.texts import counted
+
+from ..drift.remembered import Remembered
+from .messages import number
+
+# The letter under which a TRUNCATE is counted for a table: the count of relations, which follows
+# that of the message, is no OID. And the OID under which it is for all tables that aren't known.
+TRUNCATED, UNKNOWN = b"t", bytes(4)
+# How many OIDs are looked at together.
+AT_ONCE = 1024
+# How many tables a text names.
+NAMED = 5
+
+
+class Described:
+    """The Relation messages of a transaction that is under way, in order: each with who sent it,
+    b"" outside of blocks."""
+
+    __slots__ = ("bodies", "makers", "oids", "listed")
+
+    def __init__(self) -> None:
+        self.bodies: list[tuple[bytes, bytes]] = []
+        # how many of them each one has sent
+        self.makers: dict[bytes, int] = {}
+        # the OIDs of as many of them as `listed` says
+        self.oids: set[int] | None = None
+        self.listed = 0
+
+    def add(self, maker: bytes, body: bytes) -> None:
+        if self.bodies and self.bodies[-1][0] == maker:
+            maker = self.bodies[-1][0]
+        self.bodies.append((maker, body))
+        self.makers[maker] = self.makers.get(maker, 0) + 1
+
+    def has(self, oid: int) -> bool:
+        """Whether one of them is of this table, or was before it was rolled back."""
+        self.oids = self.oids or set()
+        self.oids.update(
+            number(body[:4]) for _, body in itertools.islice(self.bodies, self.listed, None)
+        )
+        self.listed = len(self.bodies)
+        return oid in self.oids
+
+    def abort(self, maker: bytes) -> None:
+        """Drops those of a subtransaction, which mostly are the last ones."""
+        left = self.makers.pop(maker, 0)
+        while left and self.bodies[-1][0] == maker:
+            self.bodies.pop()
+            left -= 1
+        if left:
+            self.bodies = [it for it in self.bodies if it[0] != maker]
+        self.listed = min(self.listed, len(self.bodies))
+
+
+class Streamed:
+    """A transaction that comes in blocks: its changes, its Relation messages, and its bytes so
+    far."""
+
+    __slots__ = ("counts", "relations", "size", "about")
+
+    def __init__(self) -> None:
+        self.counts: dict[bytes, int] = {}
+        self.relations = Described()
+        self.size = 0
+        self.about = False
+
+    def add(self, counts: dict[bytes, int], size: int) -> None:
+        """Adds the changes of a block, whoever made them, and its bytes."""
+        self.size += size
+        for key, count in counts.items():
+            key = key[:1] + key[5:]
+            self.counts[key] = self.counts.get(key, 0) + count
+
+    def has_items(self) -> bool:
+        """Whether anything of it is buffered. One of which nothing is costs the filter nothing of a
+        limit, so it isn't kept here."""
+        return bool(self.counts or self.relations.bodies)
+
+    def abort(self, subxid: bytes) -> None:
+        """Drops what a subtransaction described. What it changed can't be told from the rest."""
+        self.relations.abort(subxid)
+        self.about = True
+
+
+def count_truncates(
+    counts: dict[bytes, int], head: bytes, payload: bytes, first: int, is_met: Callable[[int], bool]
+) -> None:
+    """Counts a TRUNCATE, whose OIDs begin at `first`, for each table that is met elsewhere, and for
+    all others together: these are as many as anybody sends."""
+    for at in range(first, len(payload) - 3, 4 * AT_ONCE):
+        some = payload[at : at + 4 * AT_ONCE]
+        oids = struct.unpack_from(f">{len(some) // 4}I", some)
+        for oid, count in collections.Counter(oids).items():
+            key = head + (oid.to_bytes(4, "big") if is_met(oid) else UNKNOWN)
+            counts[key] = counts.get(key, 0) + count
+
+
+def changes_text(counts: dict[bytes, int], remembered: Remembered) -> str:
+    """`3 changes of public.t (16385), 1 change of ..`, the tables with the most changes first."""
+    tables: collections.Counter[int] = collections.Counter()
+    for key, count in counts.items():
+        tables[number(key[-4:])] += count
+    others = tables.pop(number(UNKNOWN), 0)
+    parts = [
+        f"{counted(count, 'change')} of {remembered.text_of(oid)}"
+        for oid, count in tables.most_common(NAMED)
+    ]
+    if len(tables) > NAMED:
+        parts.append(f"and of {counted(len(tables) - NAMED, 'table')} more")
+    if others:
+        parts.append(f"{counted(others, 'TRUNCATE')} of tables that aren't known")
+    return ", ".join(parts) or "no changes"

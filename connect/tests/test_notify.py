@@ -1,0 +1,251 @@
+"""What a service manager is told: through a socket, as by systemd."""
+
+from __future__ import annotations
+
+import os
+import select
+import socket
+import threading
+import time
+import unittest
+from collections.abc import Iterator
+from contextlib import contextmanager
+from unittest import mock
+
+from pgsub_connect.errors import ServerError
+from pgsub_connect.follow import filter_life, schedule
+from pgsub_connect.follow.follower import Follower
+from pgsub_connect.status.notify import LONGER, Notifier, notifier_of
+from pgsub_connect.status.progress import ENDING, STATES, Progress
+from pgsub_connect.store import snapshot
+
+from .test_copying import Copying
+from .test_following import Case
+
+# Within how many seconds a manager wants signs of life, in these tests.
+WITHIN = 2.0
+ALIVE = ("WATCHDOG=1", f"EXTEND_TIMEOUT_USEC={LONGER * 1000000}")
+
+
+class Manager:
+    """Listens at a socket, and notes when each line has come."""
+
+    def __init__(self, address: str) -> None:
+        self.address = address
+        self.socket = socket.socket(socket.AF_UNIX, socket.SOCK_DGRAM)
+        self.socket.bind("\0" + address[1:] if address.startswith("@") else address)
+        self.told: list[tuple[float, str]] = []
+        self.ended = threading.Event()
+        self.thread = threading.Thread(target=self.listen)
+        self.thread.start()
+
+    def listen(self) -> None:
+        while not self.ended.is_set() or select.select([self.socket], [], [], 0)[0]:
+            if select.select([self.socket], [], [], 0.02)[0]:
+                now = time.monotonic()
+                text = self.socket.recv(1 << 16).decode()
+                self.told += [(now, line) for line in text.split("\n")]
+
+    def close(self) -> None:
+        self.ended.set()
+        self.thread.join()
+        self.socket.close()
+
+    def lines(self) -> list[str]:
+        return [line for _, line in list(self.told)]
+
+    def longest_silence(self, began: float, ended: float) -> float:
+        """The longest time without a sign of life between these."""
+        signs = [at for at, line in list(self.told) if line in ALIVE and began <= at <= ended]
+        times = [began, *signs, ended]
+        return max(after - before for before, after in zip(times, times[1:]))
+
+
+class Lines(unittest.TestCase):
+    def manager(self, address: str) -> Manager:
+        manager = Manager(address)
+        self.addCleanup(manager.close)
+        return manager
+
+    def test_an_abstract_name_too(self) -> None:
+        manager = self.manager(f"@pgsub-test-{os.getpid()}")
+        notifier = Notifier(manager.address, WITHIN)
+        notifier.beat("connecting")
+        notifier.ready()
+        notifier.ready()
+        notifier.beat("following")
+        notifier.beat("following")
+        notifier.stopping("stopping")
+        notifier.stopping("stopped")
+        manager.close()
+        self.assertEqual(
+            manager.lines(),
+            [
+                *(ALIVE[1], "STATUS=connecting", "READY=1", ALIVE[0], "STATUS=following", ALIVE[0]),
+                *("STOPPING=1", "STATUS=stopping", "STATUS=stopped"),
+            ],
+        )
+
+    def test_without_an_address(self) -> None:
+        with mock.patch.object(socket, "socket", side_effect=AssertionError):
+            for notifier in (Notifier(), notifier_of({"WATCHDOG_USEC": "1000000"})):
+                notifier.ready()
+                self.assertFalse(notifier.is_due())
+                notifier.beat("following")
+                notifier.stopping("stopped")
+
+    def test_a_manager_that_is_gone(self) -> None:
+        notifier = Notifier("/nowhere/notify", WITHIN)
+        notifier.ready()
+        notifier.beat("following")
+
+    def test_the_variables_arent_for_children(self) -> None:
+        own = str(os.getpid())
+        for pid, interval in (("", 0.2), (own, 0.2), ("1", 1.0)):
+            environment = {"NOTIFY_SOCKET": "/x", "WATCHDOG_USEC": "1000000", "HOME": "/"}
+            environment |= {"WATCHDOG_PID": pid} if pid else {}
+            notifier = notifier_of(environment)
+            self.assertEqual(environment, {"HOME": "/"})
+            self.assertEqual((notifier.address, notifier.interval), ("/x", interval))
+
+    def test_one_line_tells_how_it_goes(self) -> None:
+        progress = Progress()
+        self.assertEqual(progress.line(), "starting")
+        progress.enter("following")
+        progress.stream.note_confirmed(0x100, 0x100)
+        self.assertEqual(progress.line(), "following, at 0/100")
+        progress.stream.note_sent((0x180).to_bytes(8, "big"))
+        self.assertEqual(progress.line(), "following, at 0/100, 128 bytes behind")
+        progress.copy.begin_part("public.t")
+        progress.copy.note_part(1, False)
+        self.assertEqual(progress.line(), "following public.t, 1 row so far")
+
+    def test_what_ends(self) -> None:
+        self.assertEqual(ENDING, ("stopping", "stopped", "failed"))
+        self.assertEqual(set(ENDING) - set(STATES), set())
+
+
+class Following(Case):
+    def setUp(self) -> None:
+        super().setUp()
+        self.manager = Manager(self.folder + "/notify")
+        self.addCleanup(self.manager.close)
+
+    def follower(self, **options: object) -> Follower:
+        follower = super().follower(**options)
+        self.progress.notifier = Notifier(self.manager.address, WITHIN)
+        return follower
+
+    @contextmanager
+    def watched(self) -> Iterator[None]:
+        """Demands signs of life within half of the time."""
+        began = time.monotonic()
+        yield
+        ended = time.monotonic()
+        self.assertGreater(ended - began, WITHIN / 2)
+        self.assertLess(self.manager.longest_silence(began, ended), WITHIN / 2)
+
+    def follow_for(self, follower: Follower, seconds: float) -> None:
+        until = time.monotonic() + seconds
+        with self.watched():
+            self.run_until(follower, lambda: time.monotonic() > until)
+
+    def test_ready_comes_after_the_login(self) -> None:
+        """A server that doesn't answer yet isn't followed."""
+        self.server.lets_in = False
+        follower = self.follower()
+        until = time.monotonic() + 1.0
+        self.run_until(follower, lambda: time.monotonic() > until)
+        self.assertNotIn("READY=1", self.manager.lines())
+        self.assertIn(ALIVE[1], self.manager.lines())
+        self.server.lets_in = True
+        follower.stop_asked = False
+        self.run_until(follower, lambda: "READY=1" in self.manager.lines())
+        self.manager.close()
+        lines = self.manager.lines()
+        self.assertEqual((lines.count("READY=1"), lines.count("STOPPING=1")), (1, 1))
+
+    def test_in_the_loop(self) -> None:
+        self.follow_for(self.follower(), WITHIN)
+        self.assertIn(ALIVE[0], self.manager.lines())
+        self.assertIn("STATUS=following", self.manager.lines())
+
+    def test_between_sessions(self) -> None:
+        self.patch(schedule, "FIRST_DELAY", 60.0)
+        follower = self.follower()
+        follower.note_connected(True)
+        error = ServerError("gone", "57P01")
+        with mock.patch.object(follower.session, "run", side_effect=error):
+            self.follow_for(follower, WITHIN)
+        self.assertIn("STATUS=waiting to connect again", self.manager.lines())
+
+    def test_while_the_store_is_opened(self) -> None:
+        with open(self.store + ".says", "w", encoding="ascii") as file:
+            file.write("slow 2.0")
+        with self.watched():
+            self.run_until(self.follower(), lambda: self.server.sessions == 1)
+        self.assertIn(ALIVE[1], self.manager.lines())
+
+    def test_while_a_store_waits_that_others_have(self) -> None:
+        follower = self.follower()
+        self.patch(filter_life, "OPENED_AFTER", (60.0,))
+        with open(self.store + ".says", "w", encoding="ascii") as file:
+            file.write("status 12 pgsub: the store is in use")
+        follower.life.filter.words[0:1] = ["/bin/sh", "-c", "exit 12", "sh"]
+        self.follow_for(follower, WITHIN)
+
+    def test_while_the_store_is_copied(self) -> None:
+        parts = [1] * 40 + [0]
+
+        def copied(*_: int) -> int:
+            time.sleep(0.05)
+            return parts.pop(0)
+
+        self.patch(snapshot, "copied", copied)
+        follower = self.follower()
+        with mock.patch.object(follower.snapshots, "finish"), self.watched():
+            follower.snapshots.path, follower.snapshots.asked = self.folder + "/into", True
+            self.run_until(follower, lambda: not parts)
+        self.assertIn("STATUS=copying the store", self.manager.lines())
+
+    def test_where_the_loop_stands_nothing_is_told(self) -> None:
+        follower = self.follower()
+        stood = list[float]()
+
+        def stands(*_: object) -> bool:
+            if not stood:
+                stood.append(time.monotonic())
+                time.sleep(1.2 * WITHIN)
+                stood.append(time.monotonic())
+            return False
+
+        self.patch(follower.life.watch, "tend", stands)
+        self.run_until(follower, lambda: len(stood) == 2)
+        self.assertGreater(self.manager.longest_silence(*stood), 1.1 * WITHIN)
+
+
+class FirstRows(Copying):
+    def test_ready_and_signs_of_life(self) -> None:
+        """The copy may take hours: its login counts, and its waits tell that they are some."""
+        manager = Manager(self.folder + "/notify")
+        self.addCleanup(manager.close)
+        copier = self.copier()
+        self.progress.notifier = Notifier(manager.address, WITHIN)
+        began = time.monotonic()
+        real = copier.wait_for
+
+        def wait_for(has_come: object, *more: object) -> None:
+            until = time.monotonic() + 0.6
+            real(lambda: time.monotonic() > until and has_come(), *more)  # type: ignore[operator, arg-type]
+
+        with mock.patch.object(copier, "wait_for", wait_for):
+            copier.run()
+        ended = time.monotonic()
+        manager.close()
+        self.assertIn("READY=1", manager.lines())
+        self.assertGreater(ended - began, WITHIN / 2)
+        self.assertLess(manager.longest_silence(began, ended), WITHIN / 2)
+
+
+if __name__ == "__main__":
+    unittest.main()
