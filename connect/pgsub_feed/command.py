@@ -10,19 +10,18 @@ import signal
 import sys
 from collections.abc import Callable, Iterator, Sequence
 
-from pgsub_connect.cli import Start, guarded, stop_by_signals
-from pgsub_connect.commands.words import TellVersion, lsn
-from pgsub_connect.drift.remembered import Relation
-from pgsub_connect.errors import Stopped
-from pgsub_connect.server.connection import Check
-
 from . import log
+from .arguments import TellVersion, lsn
+from .errors import Stopped
 from .formats.bulk import Bulk
 from .formats.lines import FORMATS, Format
+from .interruption import Check
+from .program import Start, guarded, stop_by_signals
 from .reader.commits import Commit
 from .reader.polling import Poll
 from .reader.segments import Reader
 from .reader.selection import Chosen
+from .relation import Relation
 from .undo.transaction import undo
 
 # Control characters that JSON leaves as they are: terminals take them for commands.

@@ -783,7 +783,7 @@ BUGS = (
     ),
     Bug(
         "files of others go with what killed processes left",
-        "pgsub_connect/store/at_rest.py",
+        "pgsub_feed/files.py",
         r'OWN = r"\.pgsub-',
         r'OWN = r"\.(?:pgsub-)?',
         ("test_resting",),

@@ -19,7 +19,7 @@ from pgsub_connect.copy import table_reader
 from pgsub_connect.copy.copier import CHANGED, Copier, Tries, altered_tables, create_slot
 from pgsub_connect.copy.messages import InsertHeads, begin, commit, frame, inserts, relation
 from pgsub_connect.drift.remembered import Remembered
-from pgsub_connect.errors import Passing, ServerError, Stopped, Unfit, UsageError
+from pgsub_connect.errors import ServerError
 from pgsub_connect.follow.filter import Filter, FilterEnded
 from pgsub_connect.server import publication_setup
 from pgsub_connect.server import waits as waits_module
@@ -30,6 +30,7 @@ from pgsub_connect.status.progress import Progress
 from pgsub_connect.store import checkpoint as known_of
 from pgsub_connect.store.checkpoint import Checkpoint
 from pgsub_connect.store.snapshot import part_of
+from pgsub_feed.errors import Passing, Stopped, Unfit, UsageError
 from tests.fake_server import FakeServer, Quiet, Row
 from tests.row_filter import Store, Subscriber
 from tests.vectors import PGSUB, a_catalog, a_table

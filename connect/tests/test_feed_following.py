@@ -18,13 +18,13 @@ from unittest import mock
 
 from feed_text import About, Column, Line, entry_text
 
-from pgsub_connect.cli import Start, stop_by_signals
 from pgsub_connect.commands import tables as tables_module
 from pgsub_connect.commands import wait
 from pgsub_connect.commands.options import Options
-from pgsub_connect.errors import Passing, Unfit
-from pgsub_connect.server.connection import never
+from pgsub_feed.errors import Passing, Unfit
 from pgsub_feed.faults import Damaged
+from pgsub_feed.interruption import never
+from pgsub_feed.program import Start, stop_by_signals
 from pgsub_feed.reader.commits import Commit
 from pgsub_feed.reader.polling import Poll
 from pgsub_feed.tables.file import Rows

@@ -14,8 +14,8 @@ from feed_text import Cell, Column, Definition, Line
 from pgsub_connect.commands.options import Options
 from pgsub_connect.commands.tables import Tables
 from pgsub_connect.drift.remembered import Remembered
-from pgsub_connect.server.connection import never
 from pgsub_connect.store.export import run as export
+from pgsub_feed.interruption import never
 from pgsub_feed.tables.file import Rows
 
 from .feeds import delete, insert, table, truncate, update

@@ -13,16 +13,16 @@ from unittest import mock
 
 from feed_text import Cell, Column, Line
 
-from pgsub_connect.cli import FILE, UNFIT, USAGE, main
+from pgsub_connect.cli import main
 from pgsub_connect.commands import tables as tables_module
 from pgsub_connect.commands import wait
 from pgsub_connect.commands.options import Options
 from pgsub_connect.commands.wait import Awaited
-from pgsub_connect.errors import FileError, Passing, Unfit
 from pgsub_connect.follow.retention import Limits, retire
-from pgsub_connect.server.connection import Check, never
 from pgsub_connect.store.export import run as export
-from pgsub_connect.store.snapshot import copy
+from pgsub_feed.errors import FILE, UNFIT, USAGE, FileError, Passing, Unfit
+from pgsub_feed.files import copy
+from pgsub_feed.interruption import Check, never
 from pgsub_feed.reader.positions import Noted
 from pgsub_feed.reader.segments import segments
 from pgsub_feed.tables import first_rows

@@ -17,8 +17,7 @@ from feed_text import Column, lsn_text
 
 from pgsub_connect.commands.options import Options
 from pgsub_connect.commands.words import arguments
-from pgsub_connect.drift.remembered import Remembered, replace_file
-from pgsub_connect.errors import FileError, Unfit
+from pgsub_connect.drift.remembered import Remembered
 from pgsub_connect.follow import feed as feed_module
 from pgsub_connect.follow import tables_process
 from pgsub_connect.follow.feed import Feeding, Keeper, Reached
@@ -27,6 +26,8 @@ from pgsub_connect.follow.follower import Follower
 from pgsub_connect.follow.tables_process import Beside, words_of
 from pgsub_connect.status.metrics import metrics_text
 from pgsub_connect.status.progress import Progress
+from pgsub_feed.errors import FileError, Unfit
+from pgsub_feed.files import replace_file
 from pgsub_feed.reader.positions import Noted, make_folder
 from pgsub_feed.reader.segments import CONFIRMED, Reader, read_confirmed, segments
 

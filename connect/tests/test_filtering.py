@@ -10,7 +10,7 @@ import unittest
 from pathlib import Path
 from unittest import mock
 
-from pgsub_connect.errors import FilterFault, Stopped
+from pgsub_connect.errors import FilterFault
 from pgsub_connect.follow import filter as filter_module
 from pgsub_connect.follow.filter import (
     COPY_DONE,
@@ -28,6 +28,7 @@ from pgsub_connect.follow.filter import (
     missing_of,
     without_received,
 )
+from pgsub_feed.errors import Stopped
 
 from .fake_server import Quiet
 from .vectors import begin, commit, delete, insert, keepalive

@@ -17,7 +17,7 @@ from pgsub_connect.commands.options import Options
 from pgsub_connect.drift import watch
 from pgsub_connect.drift.findings import About
 from pgsub_connect.drift.remembered import Remembered
-from pgsub_connect.errors import FilterFault, Passing, ServerError, Unconnected, Unfit
+from pgsub_connect.errors import FilterFault, ServerError, Unconnected
 from pgsub_connect.follow import follower as follower_module
 from pgsub_connect.follow import statuses
 from pgsub_connect.follow.awake import Awake
@@ -32,6 +32,7 @@ from pgsub_connect.store import snapshot
 from pgsub_connect.store.at_rest import read_request
 from pgsub_connect.store.checkpoint import Checkpoint
 from pgsub_connect.store.snapshot import Snapshots
+from pgsub_feed.errors import Passing, Unfit
 from pgsub_feed.texts import lsn_text, parse_lsn
 
 from .fake_server import FakeServer, Quiet, Row

@@ -14,16 +14,17 @@ from unittest import mock
 from pgsub_connect.add import addable, adder
 from pgsub_connect.commands import verify
 from pgsub_connect.commands.options import Options
-from pgsub_connect.errors import Delayed, Passing, ServerError, Stopped, Unrepaired
+from pgsub_connect.errors import Delayed, ServerError, Unrepaired
 from pgsub_connect.follow import follower, gate
 from pgsub_connect.follow.filter import flushed
 from pgsub_connect.follow.gate import Gating, Making, is_shared, too_large_to_copy
 from pgsub_connect.follow.hold import Hold
-from pgsub_connect.server.connection import never
 from pgsub_connect.status.progress import Progress
 from pgsub_connect.store.at_rest import read_request
 from pgsub_connect.store.snapshot import Snapshots
 from pgsub_connect.verify.meeting_point import Request
+from pgsub_feed.errors import Passing, Stopped
+from pgsub_feed.interruption import never
 from pgsub_feed.texts import lsn_text
 
 from .adding_case import OTHER

@@ -19,10 +19,10 @@ from feed_text import About, Column, Line, Writer
 
 from pgsub_connect.commands import sink as sink_module
 from pgsub_connect.commands.options import Options
-from pgsub_connect.errors import EngineError, FileError, Passing, Stopped, Unfit, UsageError
 from pgsub_connect.follow.retention import Limits, retire
-from pgsub_connect.server.connection import never
 from pgsub_connect.store.export import run as export
+from pgsub_feed.errors import EngineError, FileError, Passing, Stopped, Unfit, UsageError
+from pgsub_feed.interruption import never
 from pgsub_feed.reader.commits import Commit
 from pgsub_feed.reader.polling import Poll
 from pgsub_feed.reader.positions import Noted
@@ -31,7 +31,7 @@ from pgsub_feed.sinks.reached import Trail
 from pgsub_feed.sinks.redis_calls import Connection, Said, packed_command, raised
 from pgsub_feed.sinks.redis_disk import Disk
 from pgsub_feed.sinks.redis_engine import Redis
-from pgsub_feed.tables.first_rows import opened
+from pgsub_feed.tables.sqlite_files import opened
 
 from .fake_redis import FakeCalls, Stream
 from .feeds import ID, NAME, STOCK, delete, insert, table, truncate, update

@@ -4,9 +4,9 @@ from __future__ import annotations
 
 from typing import Protocol
 
-from ..drift.remembered import Relation
+from pgsub_feed.relation import Column, Relation, Shape
+
 from ..follow.gate import CURE, TABLE
-from ..server.catalog import Column, Shape
 from ..server.publications import Column as TableColumn
 from ..server.publications import Table
 

@@ -9,8 +9,10 @@ import time
 from typing import TYPE_CHECKING
 
 from pgsub_feed import log
+from pgsub_feed.arguments import plain_name
+from pgsub_feed.errors import Passing, Stopped, UsageError
 from pgsub_feed.faults import Damaged
-from pgsub_feed.interruption import at_most
+from pgsub_feed.interruption import Check, at_most
 from pgsub_feed.ownership import readable_by, readable_text
 from pgsub_feed.reader.commits import Commit
 from pgsub_feed.reader.polling import Poll
@@ -22,10 +24,6 @@ from pgsub_feed.sinks.first_rows import base_of
 from pgsub_feed.sinks.redis_engine import Redis
 from pgsub_feed.tables.first_rows import keeping
 from pgsub_feed.texts import lsn_text
-
-from ..errors import Passing, Stopped, UsageError
-from ..server.connection import Check
-from .tables import plain_name
 
 if TYPE_CHECKING:
     from .options import Options

@@ -11,7 +11,10 @@ import time
 from typing import TYPE_CHECKING
 
 from pgsub_feed import log
+from pgsub_feed.arguments import plain_name
+from pgsub_feed.errors import FileError, Passing, Stopped, Unfit
 from pgsub_feed.faults import Damaged
+from pgsub_feed.interruption import Check
 from pgsub_feed.reader.commits import Commit
 from pgsub_feed.reader.polling import Poll
 from pgsub_feed.reader.positions import Noted
@@ -21,13 +24,11 @@ from pgsub_feed.tables.file import Rows
 from pgsub_feed.tables.first_rows import check_file, keeping, make
 from pgsub_feed.tables.rewind import walk
 from pgsub_feed.tables.set_aside import cure, shown_asides, store_at
+from pgsub_feed.tables.sqlite_files import OLDEST
 from pgsub_feed.tables.user_sql import Init
 from pgsub_feed.texts import lsn_text
 
-from ..errors import FileError, Passing, Stopped, Unfit
-from ..server.connection import Check
 from ..server.publication_setup import names_of
-from ..store.export import OLDEST
 
 if TYPE_CHECKING:
     from .options import Options
@@ -46,13 +47,6 @@ MOST, LONGEST = 20000, 0.5
 LEFT = 1
 # What SQLite says of a file that only for now can't be written.
 PASSING = ("is locked", "is full")
-
-
-def plain_name(text: str) -> str:
-    # (what ends so is a file that is being written)
-    if not text or text.startswith(".") or text.endswith(".new") or os.sep in text:
-        raise argparse.ArgumentTypeError(f"{text!r} is no name for a file")
-    return text
 
 
 def add_options(parser: argparse.ArgumentParser) -> None:

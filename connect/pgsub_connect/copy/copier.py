@@ -32,18 +32,21 @@ from collections.abc import Callable
 from typing import TYPE_CHECKING
 
 from pgsub_feed import log
+from pgsub_feed.errors import FileError, Passing, Stopped, Unfit
+from pgsub_feed.files import meant, sync_folder
+from pgsub_feed.interruption import Check, never
 from pgsub_feed.ownership import set_mode
 from pgsub_feed.texts import counted, identifier, literal, lsn_text, parse_lsn
 
 from ..commands.check import require, require_reading
 from ..drift.differences import PUBLICATION, root_of
 from ..drift.findings import About
-from ..errors import FileError, Passing, ServerError, Stopped, Unfit, understood
+from ..errors import ServerError, understood
 from ..follow import too_large
 from ..follow.filter import Filter, FilterEnded
 from ..server import transport
 from ..server.catalog import Catalog, read_catalog
-from ..server.connection import QUICK, Check, Connection, never
+from ..server.connection import QUICK, Connection
 from ..server.lost_slot import IDLE, idle_limit
 from ..server.publication_setup import REFUSED, Look, Maker, Wanted, has_publication
 from ..server.publications import (
@@ -58,7 +61,7 @@ from ..server.session import Server, identify, is_lost, settle, settle_for_slot,
 from ..server.waits import Waiting, lock_text
 from ..store import checkpoint as known_of
 from ..store.at_rest import hold
-from ..store.snapshot import COPYING, meant, sync_folder
+from ..store.snapshot import COPYING
 from .messages import begin, commit, frame
 from .table_reader import LOCK_TIMEOUT, Left, Part, Readers, take_snapshot
 

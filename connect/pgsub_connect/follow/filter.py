@@ -16,12 +16,13 @@ import subprocess
 from collections.abc import Sequence
 from typing import NamedTuple
 
-from pgsub_feed import log
+from pgsub_feed import errors, log
+from pgsub_feed.errors import Failure, Passing
+from pgsub_feed.interruption import Check, never
 from pgsub_feed.texts import parse_lsn
 
 from .. import version
-from ..errors import FilterFault, Passing
-from ..server.connection import Check, never
+from ..errors import FilterFault
 from .awake import Awake
 
 # A status: CopyData, 34 bytes of payload that begin with `r`, and written, flushed, applied, clock
@@ -54,7 +55,7 @@ MISSING = re.compile(
 KEPT = ("PATH", "LANG", "LC_ALL", "LC_MESSAGES", "TMPDIR", "TZ", "HOME")
 
 
-class FilterEnded(Exception):
+class FilterEnded(Failure):
     """The filter ended: with a status above 0 by a fault, below 0 by a signal."""
 
     def __init__(self, status: int, said: str) -> None:
@@ -71,6 +72,14 @@ class FilterEnded(Exception):
         """Whether the same would come of another try. A disk that is full, or too little memory,
         may pass."""
         return self.status > 0 and self.status not in (*PASSING, MISSED)
+
+    def exit_status(self) -> int:
+        if not self.is_rejection():
+            return errors.PASSING
+        return self.status if self.status in (errors.USAGE, errors.FILE) else errors.REJECTED
+
+    def told(self) -> str:
+        return f"stopped: {self}"
 
     def is_of_stream(self) -> bool:
         """Whether what was rejected is something that came, and not the words or the store."""

@@ -11,12 +11,14 @@ from __future__ import annotations
 from typing import TYPE_CHECKING
 
 from pgsub_feed import log
+from pgsub_feed.errors import Unfit
+from pgsub_feed.interruption import Check
 from pgsub_feed.texts import lsn_text
 
 from ..drift.watch import Watch
-from ..errors import ServerError, Unfit
+from ..errors import ServerError
 from ..server import transport
-from ..server.connection import Check, Connection
+from ..server.connection import Connection
 from ..server.session import Server, is_same_database, left_at, settle, slot_position
 from ..store import checkpoint as known_of
 from ..store.checkpoint import Checkpoint, check_gap

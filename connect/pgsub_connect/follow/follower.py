@@ -14,6 +14,7 @@ from collections.abc import Sequence
 from typing import TYPE_CHECKING
 
 from pgsub_feed import log
+from pgsub_feed.errors import FileError, Passing, Stopped, Unfit
 from pgsub_feed.texts import counted, identifier, lsn_text, replication_literal
 
 from ..add.adder import Adder
@@ -23,17 +24,7 @@ from ..drift.findings import NOTHING, About
 from ..drift.missed_rows import Misses
 from ..drift.remembered import Remembered
 from ..drift.watch import Watch
-from ..errors import (
-    LOGIN,
-    FileError,
-    FilterFault,
-    Passing,
-    Renewed,
-    ServerError,
-    Stopped,
-    Unconnected,
-    Unfit,
-)
+from ..errors import LOGIN, FilterFault, Renewed, ServerError, Unconnected
 from ..server.connection import COPY_BOTH, Connection
 from ..server.lost_slot import Repeats, lost_error
 from ..server.publications import with_cure

@@ -17,10 +17,10 @@ import struct
 import time
 from collections.abc import Callable, Sequence
 
+from pgsub_feed.relation import Column, Relation, Shape
 from pgsub_feed.texts import counted, lsn_text
 
-from ..drift.remembered import Relation, Remembered
-from ..server.catalog import Column, Shape
+from ..drift.remembered import Remembered
 from ..status.progress import Progress
 
 BEGIN, COMMIT, RELATION, TRUNCATE = b"BCRT"

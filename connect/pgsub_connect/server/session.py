@@ -6,9 +6,10 @@ import dataclasses
 import re
 
 from pgsub_feed import log
+from pgsub_feed.errors import Unfit
 from pgsub_feed.texts import literal, parse_lsn
 
-from ..errors import IN_USE, ServerError, Unfit, understood
+from ..errors import IN_USE, ServerError, understood
 from .connection import QUICK, Connection
 
 # The text of values depends on these; they are those of PostgreSQL's own subscriptions, and all

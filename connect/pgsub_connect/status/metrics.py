@@ -6,7 +6,8 @@ from __future__ import annotations
 from collections.abc import Iterator, Mapping
 from typing import NamedTuple
 
-from .. import VERSION
+from pgsub_feed.version import VERSION
+
 from .progress import STATES, Progress
 
 GAUGE, COUNTER = "gauge", "counter"

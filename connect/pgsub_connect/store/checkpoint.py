@@ -44,11 +44,11 @@ import time
 from typing import Any
 
 from pgsub_feed import log
+from pgsub_feed.errors import FileError, Passing, Unfit
+from pgsub_feed.interruption import Check, never
 from pgsub_feed.json_texts import GREATEST
 from pgsub_feed.texts import lsn_text
 
-from ..errors import FileError, Passing, Unfit
-from ..server.connection import Check, never
 from .checkpoint_lines import COPIED as COPIED
 from .checkpoint_lines import COPYING as COPYING
 from .checkpoint_lines import FOLLOWING as FOLLOWING

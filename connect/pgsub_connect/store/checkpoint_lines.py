@@ -27,6 +27,7 @@ import re
 import zlib
 from typing import Any, NamedTuple
 
+from pgsub_feed.errors import FileError
 from pgsub_feed.json_texts import (
     Unreadable,
     flag_of,
@@ -38,8 +39,6 @@ from pgsub_feed.json_texts import (
     text_of,
     whole_of,
 )
-
-from ..errors import FileError
 
 VERSION, SIZE, OLD_SIZE = 2, 4096, 512
 TEXT = json.JSONEncoder(separators=(",", ":"))

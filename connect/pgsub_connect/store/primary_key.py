@@ -13,7 +13,7 @@ from pgsub_feed import log
 from ..server.catalog import Table
 
 if TYPE_CHECKING:
-    from ..drift.remembered import Relation
+    from pgsub_feed.relation import Relation
 
 # The replica identities that may be another key, or none.
 OTHER = ("f", "i")

@@ -19,12 +19,11 @@ import re
 from collections.abc import Callable, Iterable, Iterator
 from typing import Any
 
-from pgsub_connect.drift.remembered import Relation
-from pgsub_connect.errors import Unfit
-
 from .. import log
+from ..errors import Unfit
 from ..reader.commits import UNSENT, Cell, Change, Commit, Head, Missed, TableLine, Unsent
 from ..reader.segments import Reader
+from ..relation import Relation
 from ..tables.table import Valued
 from ..tables.values import BOOL, BYTEA
 

@@ -5,8 +5,7 @@ from __future__ import annotations
 import dataclasses
 from typing import NamedTuple
 
-from pgsub_connect.drift.remembered import Relation
-
+from ..relation import Relation
 from ..texts import lsn_text
 
 
@@ -18,6 +17,9 @@ class Unsent:
 
 
 UNSENT = Unsent()
+# The xid of a commit that the follower has made of an added or repaired table's rows:
+# FrozenTransactionId.
+XID = 2
 # A text, a binary value, or null.
 Cell = str | bytes | None
 Cells = list[Cell]

@@ -7,10 +7,9 @@ import json
 from collections.abc import Sequence
 from typing import Optional
 
-from pgsub_connect.drift.remembered import Relation
-
 from ..formats.lines import old_cells
 from ..reader.commits import Cell, Cells, Change, Missed, Unsent
+from ..relation import Relation
 
 # The op of a row that was there before the first commit.
 BASE = "r"

@@ -9,18 +9,17 @@ import sqlite3
 from collections.abc import Iterator
 from typing import TYPE_CHECKING
 
-from pgsub_connect.drift.remembered import Relation
-from pgsub_connect.errors import FileError, Unfit
-from pgsub_connect.server.connection import Check
-from pgsub_connect.store.at_rest import own_name
 from pgsub_connect.store.export import run as export
-from pgsub_connect.store.file import is_export
-from pgsub_connect.store.snapshot import remove
 
+from ..errors import FileError, Unfit
+from ..files import own_name, remove
+from ..interruption import Check
 from ..reader.commits import Cells
+from ..relation import Relation
 from ..tables.file import unlisted
-from ..tables.first_rows import check_begin, opened
+from ..tables.first_rows import check_begin
 from ..tables.names import POSITION, TABLES, names_of, told_columns
+from ..tables.sqlite_files import is_export, opened
 from ..texts import identifier, parse_lsn
 
 if TYPE_CHECKING:

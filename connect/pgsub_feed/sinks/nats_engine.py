@@ -14,11 +14,10 @@ import time
 from collections.abc import Iterable, Iterator
 from typing import Any
 
-from pgsub_connect.errors import Passing, Stopped, TooLarge, Unfit
-from pgsub_connect.server.connection import Check
-
 from .. import log
+from ..errors import Passing, Stopped, TooLarge, Unfit
 from ..faults import Damaged
+from ..interruption import Check
 from ..reader.commits import Commit, TableLine
 from ..tables.names import names_of
 from ..texts import lsn_text, shortened

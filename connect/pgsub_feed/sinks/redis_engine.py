@@ -23,10 +23,8 @@ import time
 from collections.abc import Iterable, Iterator, Sequence
 from typing import Any, Optional, Protocol
 
-from pgsub_connect.errors import EngineError, Passing, Stopped, Unfit
-from pgsub_connect.server.connection import Check, never
-
-from ..interruption import at_most
+from ..errors import EngineError, Passing, Stopped, Unfit
+from ..interruption import Check, at_most, never
 from ..json_texts import list_of, parsed, text_of
 from ..reader.commits import Cells, Change, Commit, Missed, TableLine
 from ..texts import lsn_text, parse_lsn, shortened

@@ -12,13 +12,12 @@ import functools
 import json
 from typing import Any, Protocol
 
-from pgsub_connect.drift.remembered import Relation
-from pgsub_connect.errors import Unfit
-
 from .. import log
+from ..errors import Unfit
 from ..formats.keys import key_of, table_text
 from ..json_texts import object_of, oid_of, parsed, text_of
 from ..reader.lines import read_relation
+from ..relation import Relation
 from ..tables.file import relation_text
 from ..tables.names import names_of
 

@@ -15,12 +15,11 @@ import sqlite3
 from collections.abc import Iterable, Sequence
 from typing import NamedTuple, cast
 
-from pgsub_connect.store.export import Bound
-from pgsub_connect.verify.digests import FIRST_WORD, SECOND_WORD, Field, hash_of, text_of, words_of
-
 from ..reader.commits import Cells, Change
 from .printed import Fields
+from .row_texts import FIRST_WORD, SECOND_WORD, Field, hash_of, text_of, words_of
 from .table import Kept, Valued
+from .target import Bound
 
 DIGESTS = "pgsub_digests"
 # The version of a file with digests.

@@ -19,14 +19,11 @@ from __future__ import annotations
 import json
 import sqlite3
 
-from pgsub_connect.drift.remembered import Relation
-from pgsub_connect.errors import FileError, Passing, Unfit
-from pgsub_connect.server.catalog import Column, Shape
-from pgsub_connect.store.export import NONE, key_index
-
 from .. import log
+from ..errors import FileError, Passing, Unfit
 from ..reader.commits import Head
 from ..reader.lines import read_relation
+from ..relation import Column, Relation, Shape
 from ..texts import identifier, lsn_text, parse_lsn
 from .digests import FORMAT as WITH_DIGESTS
 from .digests import SCHEMA as DIGESTS_SCHEMA
@@ -36,6 +33,7 @@ from .primary_keys import Keys, inherited, primary_in
 from .reshape import LOOSE, carry, loosen, sources
 from .set_aside import CANT_KEEP, Asides, Unkept, is_of_table, nested, reason
 from .table import IS_MINUS_ZERO, Kept, is_minus_zero, rows_index
+from .target import NONE, key_index
 from .user_sql import Init
 
 APPLICATION, FORMAT = 0x70677374, 1

@@ -7,44 +7,26 @@ import dataclasses
 import json
 import os
 import sqlite3
-import urllib.parse
 from collections.abc import Iterable, Iterator
 from typing import TYPE_CHECKING
 
-from pgsub_connect.errors import FileError, Passing, Unfit
-from pgsub_connect.server.connection import Check
-from pgsub_connect.store.at_rest import is_followed, own_name
+from pgsub_connect.store.at_rest import is_followed
 from pgsub_connect.store.export import run as export
-from pgsub_connect.store.file import APPLICATION_AT, MAGIC, is_export
-from pgsub_connect.store.placing import placed
-from pgsub_connect.store.snapshot import copy, remove
 
+from ..errors import FileError, Passing, Unfit
+from ..files import copy, own_name, placed, remove
+from ..interruption import Check
 from ..ownership import real
 from ..reader.polling import Poll
 from ..reader.positions import Noted
 from ..reader.segments import Reader, read_confirmed, segments
 from ..texts import identifier, lsn_text, parse_lsn
-from .file import APPLICATION, FEED, MORE, RELATIONS, SCHEMA, path_bytes
+from .file import FEED, MORE, RELATIONS, SCHEMA, path_bytes
 from .names import POSITION, TABLES, names_of
+from .sqlite_files import is_export, is_tables, opened
 
 if TYPE_CHECKING:
     from pgsub_connect.commands.options import Options
-
-
-def is_tables(path: str) -> bool:
-    """Whether a file is one of tables that follow a feed."""
-    with open(path, "rb") as file:
-        head = file.read(100)
-    return (
-        head.startswith(MAGIC)
-        and int.from_bytes(head[APPLICATION_AT : APPLICATION_AT + 4], "big") == APPLICATION
-    )
-
-
-def opened(path: str) -> sqlite3.Connection:
-    """Opens a file of tables for reading."""
-    name = f"file:{urllib.parse.quote(os.fsencode(os.path.abspath(path)))}?mode=ro"
-    return sqlite3.connect(name, uri=True, timeout=10.0, isolation_level=None)
 
 
 def check_file(path: str) -> None:

@@ -10,12 +10,13 @@ from __future__ import annotations
 import os
 from collections.abc import Sequence
 
-from pgsub_connect.drift.remembered import Relation, Remembered
-from pgsub_connect.errors import FileError
+from pgsub_connect.drift.remembered import Remembered
 from pgsub_connect.server.catalog import Table
 from pgsub_connect.store.primary_key import OTHER, primary_key
 
 from .. import log
+from ..errors import FileError
+from ..relation import Relation
 from .names import name_columns
 from .table import Kept
 

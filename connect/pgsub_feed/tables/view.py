@@ -14,25 +14,25 @@ import os
 import sqlite3
 from collections.abc import Collection, Iterable, Iterator
 
-from pgsub_connect.drift.remembered import Relation
-from pgsub_connect.errors import FileError, Passing
-from pgsub_connect.server.catalog import Column
-from pgsub_connect.server.connection import Check
 from pgsub_connect.server.publications import Table
-from pgsub_connect.verify.digests import Fields as Texts
-from pgsub_connect.verify.digests import Plan, Summing, Sums, text_of
+from pgsub_connect.verify.digests import Plan, Summing, Sums
 from pgsub_connect.verify.sides import ROWS, Row
 
+from ..errors import FileError, Passing
+from ..interruption import Check
 from ..reader.commits import Head
 from ..reader.lines import read_relation
 from ..reader.trail import Image, Trail
+from ..relation import Column, Relation
 from ..texts import identifier, parse_lsn
 from .digests import Digest, read_digests
 from .file import FEED, RELATIONS, unlisted
-from .first_rows import is_tables, opened
 from .names import POSITION, TABLES, name_columns, names_of
 from .printed import Fields
+from .row_texts import Fields as Texts
+from .row_texts import text_of
 from .set_aside import Aside, read_asides
+from .sqlite_files import is_tables, opened
 from .table import Valued
 
 

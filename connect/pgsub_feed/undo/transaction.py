@@ -9,17 +9,16 @@ from __future__ import annotations
 
 from collections.abc import Callable, Iterable, Iterator
 
-from pgsub_connect.add.replacement import XID
-from pgsub_connect.drift.remembered import Relation
-from pgsub_connect.errors import Unfit
-from pgsub_connect.server.connection import Check
 from pgsub_connect.server.session import SETTINGS
 
 from .. import log
-from ..reader.commits import Cell, Change, Commit, Missed, TableLine
+from ..errors import Unfit
+from ..interruption import Check
+from ..reader.commits import XID, Cell, Change, Commit, Missed, TableLine
 from ..reader.polling import Poll
 from ..reader.segments import Reader
 from ..reader.selection import Chosen
+from ..relation import Relation
 from ..tables.file import full_name
 from ..texts import identifier, literal, lsn_text
 from . import restore_sql
