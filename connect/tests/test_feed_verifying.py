@@ -181,7 +181,7 @@ class Server(VerifyCase):
             truncate(table(9, "else")),
         )
         self.run_it()
-        with mock.patch("pgsub_feed.tables.view.View.texts") as texts:
+        with mock.patch("pgsub_connect.verify.view.View.texts") as texts:
             self.equal(digests=True)
         self.assertEqual(texts.called, False)
         self.server.tables[1][3] = ["3", "other"]

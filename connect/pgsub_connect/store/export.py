@@ -21,6 +21,7 @@ from pgsub_feed.files import placed
 from pgsub_feed.interruption import Check
 from pgsub_feed.relation import Relation
 from pgsub_feed.tables.names import OLD, POSITION, TABLES, name_tables, names_of
+from pgsub_feed.tables.primary_keys import primary_key
 from pgsub_feed.tables.sqlite_files import EXPORT as APPLICATION
 from pgsub_feed.tables.sqlite_files import OLDEST, is_export
 from pgsub_feed.tables.target import NONE, Bound, Target, key_index, unlike_reason, with_columns
@@ -31,7 +32,6 @@ from ..drift.remembered import Remembered
 from .at_rest import at_rest, failed
 from .file import check_store, choose, opened, read_position, read_relations
 from .placing import check_into
-from .primary_key import primary_key
 
 if TYPE_CHECKING:
     from ..commands.options import Options
@@ -72,7 +72,8 @@ class Export:
         stored = read_relations(self.store)
         relations = named(choose(stored, remembered, position), self.names)
         tables = remembered.catalog.tables if remembered.catalog else {}
-        keys = {it.oid: primary_key(tables.get(it.oid), it) for it in relations}
+        known = {oid: it.primary for oid, it in tables.items()}
+        keys = {it.oid: primary_key(known.get(it.oid, ()), it) for it in relations}
         self.begin(position, relations, keys)
         self.copy_rows(stored)
         self.into.execute("COMMIT")

@@ -38,7 +38,6 @@ from pgsub_feed.relation import Relation
 from pgsub_feed.tables.file import full_name
 from pgsub_feed.tables.set_aside import cure, store_at
 from pgsub_feed.tables.sqlite_files import is_tables
-from pgsub_feed.tables.view import View, check_tables
 from pgsub_feed.texts import counted, lsn_text
 
 from ..commands.drop import read_known
@@ -61,6 +60,7 @@ from ..store.checkpoint import FOLLOWING, Known
 from .digests import Plan, Sums, chunks_for
 from .meeting_point import Source, chosen
 from .sides import Difference, Sides, differing
+from .view import View, check_tables
 
 if TYPE_CHECKING:
     from ..commands.options import Options

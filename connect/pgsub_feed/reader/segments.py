@@ -199,6 +199,11 @@ class Reader:
                 )
         self.offset, self.last, self.at = cursor.offset, cursor.at, cursor.at
 
+    def go_back(self, at: int) -> None:
+        """Goes back to an LSN, where a commit ends."""
+        self.close()
+        self.at = at
+
     def next(self) -> Commit | None:
         """The next commit, None where there is none yet. What it has, `parts` reads.
 

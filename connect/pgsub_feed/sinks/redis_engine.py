@@ -27,8 +27,9 @@ from ..errors import EngineError, Passing, Stopped, Unfit
 from ..interruption import Check, at_most, never
 from ..json_texts import list_of, parsed, text_of
 from ..reader.commits import Cells, Change, Commit, Missed, TableLine
+from ..reader.following import Read
 from ..texts import lsn_text, parse_lsn, shortened
-from .engine import Read, Wanted
+from .engine import Wanted
 from .first_rows import Base
 from .redis_calls import Calls, Command, Said, raised, understood
 from .redis_disk import Disk

@@ -29,14 +29,15 @@ from .digests import FORMAT as WITH_DIGESTS
 from .digests import SCHEMA as DIGESTS_SCHEMA
 from .digests import Digests, has_digests
 from .names import OLD, POSITION, TABLES, distinct_name, folded, names_of, told_columns
-from .primary_keys import Keys, inherited, primary_in
+from .primary_keys import Keys, Known, inherited, primary_in
 from .reshape import LOOSE, carry, loosen, sources
 from .set_aside import CANT_KEEP, Asides, Unkept, is_of_table, nested, reason
+from .sqlite_files import FOLLOWING
 from .table import IS_MINUS_ZERO, Kept, is_minus_zero, rows_index
 from .target import NONE, key_index
 from .user_sql import Init
 
-APPLICATION, FORMAT = 0x70677374, 1
+FORMAT = 1
 RELATIONS, FEED = "pgsub_relations", "pgsub_feed"
 # What the name of an older table begins with whose name another one got.
 OLDER = OLD + " "
@@ -52,7 +53,7 @@ SCHEMA = (
 MORE = (
     f"CREATE TABLE {RELATIONS} (oid INTEGER PRIMARY KEY, name TEXT, definition TEXT) STRICT",
     f"CREATE TABLE {FEED} (folder TEXT NOT NULL, system TEXT, database TEXT, slot TEXT, chosen TEXT NOT NULL) STRICT",
-    f"PRAGMA application_id = {APPLICATION}",
+    f"PRAGMA application_id = {FOLLOWING}",
     f"PRAGMA user_version = {FORMAT}",
 )
 
@@ -96,8 +97,8 @@ class Rows:
     """The file, open for writing. All that is done to it is in a transaction, which `settle`
     commits with an LSN."""
 
-    def __init__(self, path: str, init: Init | None = None, store: str = "") -> None:
-        self.path, self.init, self.keys = path, init, Keys(store)
+    def __init__(self, path: str, init: Init | None = None, known: Known | None = None) -> None:
+        self.path, self.init, self.keys = path, init, Keys(known)
         self.db = sqlite3.connect(path, timeout=BUSY, isolation_level=None, cached_statements=2000)
         self.asides = Asides(self.db, path)
         try:
@@ -429,6 +430,13 @@ class Rows:
             f"INSERT OR REPLACE INTO {RELATIONS} VALUES (?, ?, ?)",
             (kept.oid, kept.name, relation_text(relation)),
         )
+
+    def run_init(self) -> None:
+        """Runs it in a transaction of its own."""
+        self.begin()
+        self.is_init_due = True
+        self.initialize()
+        self.settle(self.at)
 
     def initialize(self) -> None:
         """Runs what the user wants to have run after a table was made or altered."""

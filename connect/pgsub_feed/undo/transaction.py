@@ -9,8 +9,6 @@ from __future__ import annotations
 
 from collections.abc import Callable, Iterable, Iterator
 
-from pgsub_connect.server.session import SETTINGS
-
 from .. import log
 from ..errors import Unfit
 from ..interruption import Check
@@ -20,25 +18,14 @@ from ..reader.segments import Reader
 from ..reader.selection import Chosen
 from ..relation import Relation
 from ..tables.file import full_name
-from ..texts import identifier, literal, lsn_text
+from ..texts import PRINTING, identifier, literal, lsn_text
 from . import restore_sql
 from .net import Changed, Net, Row
 
-# On these it depends how a value is printed.
-PRINTED = (
-    "search_path",
-    "datestyle",
-    "intervalstyle",
-    "extra_float_digits",
-    "bytea_output",
-    "timezone",
-    "lc_monetary",
-    "quote_all_identifiers",
-    "xmlbinary",
-)
-# On the others how a constant is read; and rows that a policy hides are an error.
+# On these it depends how a value is printed and a constant is read; and rows that a policy hides
+# are an error.
 SETTLED = {
-    **{name: SETTINGS[name] for name in PRINTED},
+    **PRINTING,
     "xmloption": "content",
     "array_nulls": "on",
     "row_security": "off",
