@@ -68,6 +68,18 @@ def arguments(words: Sequence[str]) -> Options:
         formatter_class=argparse.RawDescriptionHelpFormatter,
         allow_abbrev=False,
     )
+    add_options(parser)
+    options = Options(**vars(parser.parse_args(words)))
+    if options.undo and (options.follow or options.begin is not None or options.end is not None):
+        parser.error("--undo has its own LSNs, and doesn't follow")
+    if options.table and options.format == "lines" and not options.undo:
+        parser.error("the lines of a commit are printed whole: --table needs another format")
+    if options.truncated is not None and options.format != "bulk":
+        parser.error("--truncated is for --format bulk")
+    return options
+
+
+def add_options(parser: argparse.ArgumentParser) -> None:
     add = parser.add_argument
     add("--feed", metavar="FOLDER", required=True, help="the feed")
     add(
@@ -112,14 +124,6 @@ def arguments(words: Sequence[str]) -> Options:
         default=argparse.SUPPRESS,
         help="show the version, and the commit of a checkout",
     )
-    options = Options(**vars(parser.parse_args(words)))
-    if options.undo and (options.follow or options.begin is not None or options.end is not None):
-        parser.error("--undo has its own LSNs, and doesn't follow")
-    if options.table and options.format == "lines" and not options.undo:
-        parser.error("the lines of a commit are printed whole: --table needs another format")
-    if options.truncated is not None and options.format != "bulk":
-        parser.error("--truncated is for --format bulk")
-    return options
 
 
 def form_of(options: Options, is_chosen: Callable[[Relation], bool]) -> Format | Bulk:

@@ -13,8 +13,8 @@ from pgsub_feed.arguments import duration
 from pgsub_feed.errors import FileError, Passing, Stopped
 from pgsub_feed.interruption import Check
 from pgsub_feed.reader.segments import Reader, read_confirmed
-from pgsub_feed.tables.file import read_folder
 from pgsub_feed.tables.names import POSITION
+from pgsub_feed.tables.schema import read_folder
 from pgsub_feed.tables.sqlite_files import is_tables, opened
 from pgsub_feed.texts import lsn_text, parse_lsn
 

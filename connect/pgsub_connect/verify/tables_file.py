@@ -35,7 +35,7 @@ from pgsub_feed.reader.commits import Head
 from pgsub_feed.reader.segments import read_source
 from pgsub_feed.reader.trail import Trail
 from pgsub_feed.relation import Relation
-from pgsub_feed.tables.file import full_name
+from pgsub_feed.tables.schema import full_name
 from pgsub_feed.tables.set_aside import cure, store_at
 from pgsub_feed.tables.sqlite_files import is_tables
 from pgsub_feed.texts import counted, lsn_text

@@ -21,11 +21,11 @@ from pgsub_feed.reader.lines import read_relation
 from pgsub_feed.reader.trail import Image, Trail
 from pgsub_feed.relation import Column, Relation
 from pgsub_feed.tables.digests import Digest, read_digests
-from pgsub_feed.tables.file import FEED, RELATIONS, unlisted
 from pgsub_feed.tables.names import POSITION, TABLES, name_columns, names_of
 from pgsub_feed.tables.printed import Fields
 from pgsub_feed.tables.row_texts import Fields as Texts
 from pgsub_feed.tables.row_texts import text_of
+from pgsub_feed.tables.schema import FEED, RELATIONS, unlisted
 from pgsub_feed.tables.set_aside import Aside, read_asides
 from pgsub_feed.tables.sqlite_files import is_tables, opened
 from pgsub_feed.tables.table import Valued

@@ -103,5 +103,12 @@ class Missed(NamedTuple):
     old: list[Cell | Unsent] | None
     new: list[Cell | Unsent] | None
 
+    def old_cells(self) -> list[Cell | Unsent] | None:
+        """The old tuple; of a key, the columns that aren't in it weren't sent."""
+        if self.old is None or self.kind != "K":
+            return self.old
+        pairs = zip(self.relation.shape.columns, self.old, strict=True)
+        return [cell if column.key else UNSENT for column, cell in pairs]
+
 
 Part = TableLine | Change | Missed

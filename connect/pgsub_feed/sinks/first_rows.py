@@ -13,9 +13,9 @@ from ..interruption import Check
 from ..reader.commits import Cells
 from ..reader.reading import Reading
 from ..relation import Relation
-from ..tables.file import unlisted
 from ..tables.first_rows import check_begin
 from ..tables.names import POSITION, TABLES, names_of, told_columns
+from ..tables.schema import unlisted
 from ..tables.sqlite_files import is_export, opened
 from ..texts import identifier, parse_lsn
 

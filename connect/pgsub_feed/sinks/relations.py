@@ -18,8 +18,8 @@ from ..formats.keys import key_of, table_text
 from ..json_texts import object_of, oid_of, parsed, text_of
 from ..reader.lines import read_relation
 from ..relation import Relation
-from ..tables.file import relation_text
 from ..tables.names import names_of
+from ..tables.schema import relation_text
 
 ASIDE = "pgsub:old:"
 # A table whose name is what the engine's own keys begin with.

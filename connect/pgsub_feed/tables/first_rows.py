@@ -18,8 +18,8 @@ from ..reader.positions import Noted
 from ..reader.reading import Reading
 from ..reader.segments import Reader, read_confirmed, segments
 from ..texts import identifier, lsn_text, parse_lsn
-from .file import FEED, MORE, RELATIONS, SCHEMA, path_bytes
 from .names import POSITION, TABLES, names_of
+from .schema import FEED, MORE, RELATIONS, SCHEMA, path_bytes
 from .sqlite_files import is_export, is_tables, opened
 
 

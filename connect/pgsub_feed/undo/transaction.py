@@ -17,7 +17,7 @@ from ..reader.polling import Poll
 from ..reader.segments import Reader
 from ..reader.selection import Chosen
 from ..relation import Relation
-from ..tables.file import full_name
+from ..tables.schema import full_name
 from ..texts import PRINTING, identifier, literal, lsn_text
 from . import restore_sql
 from .net import Changed, Net, Row
