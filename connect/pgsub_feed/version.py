@@ -15,6 +15,7 @@ from . import log
 VERSION = "0.1.0"
 NAME = "BUILD"
 HERE = os.path.dirname(os.path.abspath(__file__))
+TOP = os.path.dirname(os.path.dirname(HERE))
 
 
 def read_build(folder: str) -> dict[str, str]:
@@ -35,9 +36,11 @@ def version() -> str:
     """The version, and of which build this is, or which commit where it is a checkout."""
     if OWN:
         return f"{log.PROGRAM} {OWN.get('version')} (commit {OWN.get('commit')}, {OWN.get('kit')})"
+    if not os.path.isdir(os.path.join(TOP, "crates")):
+        return f"{log.PROGRAM} {VERSION}"
     try:
         done = subprocess.run(
-            ["git", "-C", HERE, "describe", "--always", "--dirty"],
+            ["git", "-C", TOP, "describe", "--always", "--dirty"],
             capture_output=True,
             check=True,
             timeout=5,

@@ -13,6 +13,8 @@ from pathlib import Path
 
 from built import PROGRAM, TOP
 
+from .wheel import make_wheel
+
 SCRIPTS = Path(__file__).resolve().parent / "debian"
 VERSION = re.compile(r'^VERSION = "(.*)"$', re.M)
 GLIBC = re.compile(rb"GLIBC_(\d+)\.(\d+)")
@@ -62,7 +64,7 @@ class Build:
             run(TOP / "pgsub", "--is-current")
         form = ("--date=format-local:%Y%m%d%H%M%S", "--format=%cd %h")
         when, name = run("git", "-C", TOP, "log", "-1", *form, env={**os.environ, "TZ": "UTC0"}).split()
-        first = VERSION.search((TOP / "connect/pgsub_connect/__init__.py").read_text())
+        first = VERSION.search((TOP / "connect/pgsub_feed/version.py").read_text())
         assert first
         time = int(os.environ.get("SOURCE_DATE_EPOCH") or run("git", "-C", TOP, "log", "-1", "--format=%ct"))
         return cls(program, f"{first[1]}+{when}.g{name}", time)
@@ -78,10 +80,10 @@ def make_pages(build: Build, folder: Path) -> None:
     run(*words, env={**os.environ, "SOURCE_DATE_EPOCH": str(build.time)})
 
 
-def install(build: Build, prefix: str, pages: Path, room: Path) -> None:
+def install(build: Build, prefix: str, pages: Path, room: Path, *more: str) -> None:
     """Installs below a folder."""
     words = [TOP / "install", prefix, "--destdir", room, "--program", build.program, "--version", build.version, "--pages", pages]
-    run(*words, stderr=subprocess.DEVNULL)
+    run(*words, *more, stderr=subprocess.DEVNULL)
 
 
 def settle_times(folder: Path, time: int) -> None:
@@ -102,7 +104,7 @@ def maintainer() -> str:
 
 
 def make_deb(build: Build, pages: Path, room: Path, out: Path) -> Path:
-    install(build, "/usr", pages, room)
+    install(build, "/usr", pages, room, "--python", "/usr/lib/python3/dist-packages")
     texts = dict(line.split(" ", 1) for line in (room / "usr/lib/pgsub/BUILD").read_text().splitlines())
     size = sum(it.lstat().st_size for it in room.rglob("*") if not it.is_dir())
     folder = room / "DEBIAN"
@@ -154,13 +156,14 @@ def digest(path: Path, kind: str = "sha256") -> str:
 
 
 def make_packages(build: Build, out: Path) -> list[Path]:
-    """Makes both packages and their sums."""
+    """Makes the packages and their sums."""
     with tempfile.TemporaryDirectory(prefix="pgsub-package-") as folder:
-        pages, deb, tar = (Path(folder) / it for it in ("pages", "deb", "tar"))
-        for it in (pages, deb, tar):
+        pages, deb, tar, wheel = (Path(folder) / it for it in ("pages", "deb", "tar", "wheel"))
+        for it in (pages, deb, tar, wheel):
             it.mkdir()
         make_pages(build, pages)
         made = [make_deb(build, pages, deb, out), make_tar(build, pages, tar, out)]
+        made.append(make_wheel(TOP / "connect/pgsub_feed", build.version, build.time, wheel, out))
     sums = out / "SHA256SUMS"
     sums.write_text(lines_of(made))
     return [*made, sums]
