@@ -15,5 +15,3 @@ program's statuses back.
 | the command line | `commands` |
 | the decoder as a library, which nothing else here uses | `embedded` |
 """
-
-VERSION = "0.1.0"

@@ -2,16 +2,15 @@
 
 from __future__ import annotations
 
-import errno
 import os
 import signal
 import sys
-import traceback
 from collections.abc import Callable, Sequence
-from typing import Any, Protocol
+from typing import Any
 
-from pgsub_feed import log
-from pgsub_feed.interruption import interrupt
+from pgsub_feed.errors import Stopped, Unfit
+from pgsub_feed.interruption import Check
+from pgsub_feed.program import Start, guarded, stop_by_signals
 
 from .commands import add
 from .commands import check as check_module
@@ -25,57 +24,22 @@ from .commands.record import Aside, Recorder, Recording
 from .commands.words import arguments, settle_options
 from .copy.copier import Copier, create_slot, maker_of
 from .drift.remembered import Remembered, print_names
-from .errors import (
-    EngineError,
-    FileError,
-    FilterFault,
-    NoSlot,
-    Passing,
-    ServerError,
-    Stopped,
-    TooLarge,
-    Unfit,
-    UsageError,
-)
+from .errors import MISSED
 from .follow.feed import Feeding
 from .follow.follower import Follower
 from .follow.server_watch import Asker
 from .server import transport
-from .server.connection import Check
 from .server.followed_publications import require_published
 from .status.files import Reporter
 from .status.notify import notifier_of
 from .status.progress import Progress
-from .store import checkpoint as known_of
 from .store import export
 from .store.checkpoint import Checkpoint
+from .store.checkpoint_lines import FOLLOWING
 from .store.placing import check_meant
 from .store.snapshot import Snapshots, part_of
 from .stream.filter import Filter
-from .stream.filter_end import FilterEnded
 from .verify import tables_file as tables_verifying
-
-REJECTED, USAGE, FILE, SERVER, UNFIT, BUG, PASSING, NO_SLOT, MISSED = 1, 2, 3, 4, 5, 6, 7, 8, 9
-
-
-class Worker(Protocol):
-    """What ends when it is asked to."""
-
-    stop_asked: bool
-
-
-def stop_by_signals(*workers: Worker) -> None:
-    """Lets a first signal ask for the end, and a second one end at once."""
-
-    def ask(number: int, _: object) -> None:
-        for worker in workers:
-            if worker.stop_asked:
-                os._exit(128 + number)
-            worker.stop_asked = True
-        interrupt()
-
-    for number in (signal.SIGINT, signal.SIGTERM):
-        signal.signal(number, ask)
 
 
 def snapshot_by_signal(snapshots: Snapshots) -> None:
@@ -90,16 +54,6 @@ def make_filter(options: Options, checkpoint: Checkpoint, path: str) -> Filter:
     words += ["--max-buffered", str(options.max_buffered), "--max-frame", str(options.max_frame)]
     words += ["--cache", str(options.cache)] if options.cache else []
     return Filter(words, (checkpoint.file,), options.proto, options.mode)
-
-
-class Start:
-    """Asked to end before there is anything else to ask."""
-
-    stop_asked = False
-
-    def check(self) -> None:
-        if self.stop_asked:
-            raise Stopped
 
 
 def follow(options: Options) -> int:
@@ -189,7 +143,7 @@ def begin(
     known = checkpoint.known
     if options.create and not options.no_copy:
         return copier.run()
-    if known.phase == known_of.FOLLOWING and not options.accepts("gap"):
+    if known.phase == FOLLOWING and not options.accepts("gap"):
         raise Unfit(
             f"{options.store} is gone, and the slot {known.slot} went on: remove {checkpoint.path} to begin anew"
         )
@@ -273,59 +227,6 @@ def main(words: Sequence[str]) -> int:
         return int(RUNS[options.command](options) or 0)
 
     return guarded(call)
-
-
-def guarded(call: Callable[[], int]) -> int:
-    """The exit status of what is called, or of the error that it raises, which is told."""
-    try:
-        return call()
-    except Stopped:
-        return 0
-    except FilterEnded as ended:
-        log.error(f"stopped: {ended}")
-        return status_of(ended)
-    except ServerError as error:
-        log.error(str(error))
-        return SERVER if error.is_lasting() else PASSING
-    except tuple(STATUSES) as error:
-        log.error(str(error))
-        return next(status for kind, status in STATUSES.items() if isinstance(error, kind))
-    except OSError as error:
-        log.error(f"{error.filename or 'a file'}: {error.strerror or error}")
-        return PASSING if error.errno in PASSING_ERRORS else FILE
-    except Exception:  # noqa: BLE001
-        log.error(f"a bug: {traceback.format_exc().rstrip()}")
-        return BUG
-
-
-def status_of(ended: FilterEnded) -> int:
-    """The status with which the connector ends because of its filter."""
-    if not ended.is_rejection():
-        return PASSING
-    return ended.status if ended.status in (USAGE, FILE) else REJECTED
-
-
-STATUSES: dict[type[Exception], int] = {
-    Unfit: UNFIT,
-    FileError: FILE,
-    FilterFault: FILE,
-    Passing: PASSING,
-    NoSlot: NO_SLOT,
-    UsageError: USAGE,
-    EngineError: SERVER,
-    TooLarge: REJECTED,
-}
-PASSING_ERRORS = (
-    errno.ENOSPC,
-    errno.EDQUOT,
-    errno.ENOMEM,
-    errno.EAGAIN,
-    errno.EMFILE,
-    errno.ENFILE,
-    errno.ESTALE,
-    errno.ETIMEDOUT,
-    errno.EHOSTDOWN,
-)
 
 
 def run() -> None:

@@ -6,23 +6,11 @@ import contextlib
 import struct
 from collections.abc import Iterator
 
+from pgsub_feed.errors import FILE, PASSING, SERVER, Failure, Passing
 from pgsub_feed.texts import shortened
 
-
-class Stopped(Exception):
-    """The end was asked for by a signal."""
-
-
-class Unfit(Exception):
-    """The store and the slot don't fit together: going on could lose changes."""
-
-
-class FileError(Exception):
-    """A file beside the store can't be used."""
-
-
-class Passing(Exception):
-    """Something is in the way only for now: a later start may do."""
+# Exit statuses beside those of pgsub_feed.
+NO_SLOT, MISSED = 8, 9
 
 
 class Delayed(Passing):
@@ -30,29 +18,20 @@ class Delayed(Passing):
     less."""
 
 
-class NoSlot(Exception):
+class NoSlot(Failure):
     """The server didn't make a slot in time: nothing was compared."""
+
+    STATUS = NO_SLOT
 
 
 class Unrepaired(Exception):
     """The follower doesn't pass on what would repair the copy, and wouldn't at another try."""
 
 
-class UsageError(Exception):
-    """Words of the command line ask for what the server's version doesn't have."""
-
-
-class EngineError(Exception):
-    """The engine that a sink writes to rejected a command, or returned what isn't of its protocol:
-    another try ends in the same way."""
-
-
-class TooLarge(Exception):
-    """A change is larger than the engine takes."""
-
-
-class FilterFault(Exception):
+class FilterFault(Failure):
     """The filter wrote what isn't a status, or can't be started."""
+
+    STATUS = FILE
 
 
 # The classes and codes of errors that another try doesn't mend: the feature, the login, the
@@ -62,7 +41,7 @@ LASTING = ("0A", LOGIN, "3D", "42", "55000", "22023")
 IN_USE = "55006"
 
 
-class ServerError(Exception):
+class ServerError(Failure):
     """The server can't be reached, rejected a command or broke the session off."""
 
     def __init__(self, text: str, sqlstate: str = "") -> None:
@@ -72,6 +51,9 @@ class ServerError(Exception):
     def is_lasting(self) -> bool:
         """Whether another try would end in the same way."""
         return self.sqlstate.startswith(LASTING)
+
+    def exit_status(self) -> int:
+        return SERVER if self.is_lasting() else PASSING
 
 
 class Renewed(ServerError):

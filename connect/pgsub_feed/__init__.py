@@ -1,1 +1,35 @@
-"""Reads a feed of commits, and what follows one: `reader`, `tables`, `formats`, `undo`, `sinks`."""
+"""Reads a feed of commits: `read` gives them to a program of one's own, with what is in `changes`.
+
+`reader` has a feed's folder, lines and commits, `relation` and `python_values` what is in them;
+`tables` keeps tables of SQLite that follow a feed, `sinks` Redis and NATS, and `formats` and `undo`
+are texts of commits, which `command` prints. `errors` says why something ends.
+"""
+
+from .changes import Change, Commit, Delete, Insert, Missed, Row, Truncate, Update
+from .consumer import read
+from .errors import FileError, Passing, Unfit
+from .faults import Damaged
+from .python_values import python_value
+from .relation import Column, Relation
+from .texts import lsn_text, parse_lsn
+
+__all__ = [
+    "Change",
+    "Column",
+    "Commit",
+    "Damaged",
+    "Delete",
+    "FileError",
+    "Insert",
+    "Missed",
+    "Passing",
+    "Relation",
+    "Row",
+    "Truncate",
+    "Unfit",
+    "Update",
+    "lsn_text",
+    "parse_lsn",
+    "python_value",
+    "read",
+]

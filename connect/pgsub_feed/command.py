@@ -10,19 +10,18 @@ import signal
 import sys
 from collections.abc import Callable, Iterator, Sequence
 
-from pgsub_connect.cli import Start, guarded, stop_by_signals
-from pgsub_connect.commands.words import TellVersion, lsn
-from pgsub_connect.drift.remembered import Relation
-from pgsub_connect.errors import Stopped
-from pgsub_connect.server.connection import Check
-
 from . import log
+from .arguments import TellVersion, lsn
+from .errors import Stopped
 from .formats.bulk import Bulk
 from .formats.lines import FORMATS, Format
+from .interruption import Check
+from .program import Start, guarded, stop_by_signals
 from .reader.commits import Commit
 from .reader.polling import Poll
 from .reader.segments import Reader
 from .reader.selection import Chosen
+from .relation import Relation
 from .undo.transaction import undo
 
 # Control characters that JSON leaves as they are: terminals take them for commands.
@@ -69,6 +68,18 @@ def arguments(words: Sequence[str]) -> Options:
         formatter_class=argparse.RawDescriptionHelpFormatter,
         allow_abbrev=False,
     )
+    add_options(parser)
+    options = Options(**vars(parser.parse_args(words)))
+    if options.undo and (options.follow or options.begin is not None or options.end is not None):
+        parser.error("--undo has its own LSNs, and doesn't follow")
+    if options.table and options.format == "lines" and not options.undo:
+        parser.error("the lines of a commit are printed whole: --table needs another format")
+    if options.truncated is not None and options.format != "bulk":
+        parser.error("--truncated is for --format bulk")
+    return options
+
+
+def add_options(parser: argparse.ArgumentParser) -> None:
     add = parser.add_argument
     add("--feed", metavar="FOLDER", required=True, help="the feed")
     add(
@@ -113,14 +124,6 @@ def arguments(words: Sequence[str]) -> Options:
         default=argparse.SUPPRESS,
         help="show the version, and the commit of a checkout",
     )
-    options = Options(**vars(parser.parse_args(words)))
-    if options.undo and (options.follow or options.begin is not None or options.end is not None):
-        parser.error("--undo has its own LSNs, and doesn't follow")
-    if options.table and options.format == "lines" and not options.undo:
-        parser.error("the lines of a commit are printed whole: --table needs another format")
-    if options.truncated is not None and options.format != "bulk":
-        parser.error("--truncated is for --format bulk")
-    return options
 
 
 def form_of(options: Options, is_chosen: Callable[[Relation], bool]) -> Format | Bulk:

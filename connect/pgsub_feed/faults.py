@@ -2,7 +2,7 @@
 
 from __future__ import annotations
 
-from pgsub_connect.errors import FileError
+from .errors import FileError
 
 NAMES = {
     1: "NotAFeed",

@@ -10,10 +10,17 @@ from __future__ import annotations
 import contextlib
 import signal
 import threading
-from collections.abc import Iterator
+from collections.abc import Callable, Iterator
 
-from pgsub_connect.errors import Stopped
-from pgsub_connect.server.connection import Check
+from .errors import Stopped
+
+# What is called again and again while something is waited for or written: it raises Stopped, or
+# another error, where that is to end.
+Check = Callable[[], None]
+
+
+def never() -> None:
+    """Asks for no end."""
 
 
 class Calls:

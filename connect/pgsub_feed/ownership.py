@@ -11,7 +11,7 @@ import contextlib
 import os
 import stat
 
-from pgsub_connect.errors import FileError
+from .errors import FileError
 
 # How many links a path may have, as in Linux.
 LINKS = 40

@@ -1,9 +1,23 @@
-"""LSNs, SQL names, and texts of the command line."""
+"""LSNs, SQL names, the text of values, and texts of the command line."""
 
 from __future__ import annotations
 
 # How many characters of a text of somebody else are kept, wherever it is shown.
 LONGEST = 2000
+# The settings of a session on which the text of a value depends: those of PostgreSQL's own
+# subscriptions, and all else on which a type's output depends, so that equal values have equal
+# texts in every session.
+PRINTING = {
+    "search_path": "",
+    "datestyle": "ISO",
+    "intervalstyle": "postgres",
+    "extra_float_digits": "3",
+    "bytea_output": "hex",
+    "timezone": "UTC",
+    "lc_monetary": "C",
+    "quote_all_identifiers": "off",
+    "xmlbinary": "base64",
+}
 
 
 def parse_lsn(text: str) -> int:

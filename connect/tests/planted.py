@@ -253,7 +253,7 @@ BUGS = (
     ),
     Bug(
         "null and the empty text are equal",
-        "pgsub_connect/verify/digests.py",
+        "pgsub_feed/tables/row_texts.py",
         'b"n" if it is None else',
         'b"0:" if it is None else',
         ("test_digests", "test_verifying"),
@@ -736,7 +736,7 @@ BUGS = (
     ),
     Bug(
         "the digests aren't compared with the rows",
-        "pgsub_feed/tables/view.py",
+        "pgsub_connect/verify/view.py",
         "self.digests[oid] != summing",
         "() == summing",
         ("test_feed_verifying",),
@@ -785,7 +785,7 @@ BUGS = (
     ),
     Bug(
         "files of others go with what killed processes left",
-        "pgsub_connect/store/at_rest.py",
+        "pgsub_feed/files.py",
         r'OWN = r"\.pgsub-',
         r'OWN = r"\.(?:pgsub-)?',
         ("test_resting",),

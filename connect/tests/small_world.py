@@ -14,11 +14,12 @@ import time
 from collections.abc import Callable, Iterator
 
 from pgsub_connect.copy.messages import relation as relation_body
-from pgsub_connect.server.catalog import Column as CatalogColumn
-from pgsub_connect.server.catalog import Part, Shape
+from pgsub_connect.server.catalog import Part
 from pgsub_connect.server.catalog import Table as CatalogTable
-from pgsub_connect.server.connection import Check
 from pgsub_connect.server.publications import Column, Table
+from pgsub_feed.interruption import Check
+from pgsub_feed.relation import Column as CatalogColumn
+from pgsub_feed.relation import Shape
 from pgsub_feed.texts import parse_lsn
 
 from .fake_server import FakeServer

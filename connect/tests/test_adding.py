@@ -13,8 +13,9 @@ from pgsub_connect.add.adder import Adder
 from pgsub_connect.add.replacement import Rows
 from pgsub_connect.drift.findings import About
 from pgsub_connect.drift.remembered import Remembered
-from pgsub_connect.errors import NoSlot, Passing, ServerError, Stopped
+from pgsub_connect.errors import NoSlot, ServerError
 from pgsub_connect.store.checkpoint import Checkpoint
+from pgsub_feed.errors import Passing, Stopped
 
 from .adding_case import OTHER, THIRD, Case, Run, T
 from .row_filter import Store

@@ -8,10 +8,11 @@ import tempfile
 import unittest
 from unittest import mock
 
-from pgsub_connect import version as version_module
-from pgsub_connect.commands.words import version
-from pgsub_connect.errors import Passing
 from pgsub_connect.stream.filter import Filter
+from pgsub_connect.version import check_program
+from pgsub_feed import version as version_module
+from pgsub_feed.errors import Passing
+from pgsub_feed.version import version
 
 FAKE = os.path.join(os.path.dirname(os.path.abspath(__file__)), "fake_filter.py")
 TEXT = "version 0.1.0+1\ncommit abc\nkit a-kit logic 1\nprogram 0123456789abcdef\n"
@@ -44,7 +45,7 @@ class Case(unittest.TestCase):
         self.assertEqual(version_module.OWN, {})
         self.child.start()
         self.write("version 9\n")
-        version_module.check_program(self.program)
+        check_program(self.program)
 
     def test_the_same(self) -> None:
         self.own()
@@ -79,9 +80,9 @@ class Case(unittest.TestCase):
         self.own()
         os.mkdir(self.folder + "/bin")
         os.symlink(self.program, self.folder + "/bin/pgsub")
-        version_module.check_program(self.folder + "/bin/pgsub")
+        check_program(self.folder + "/bin/pgsub")
         with mock.patch.dict(os.environ, {"PATH": self.folder + "/bin"}):
-            version_module.check_program("pgsub")
+            check_program("pgsub")
 
 
 if __name__ == "__main__":

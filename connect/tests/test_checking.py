@@ -13,7 +13,7 @@ from pgsub_connect.commands import check
 from pgsub_connect.commands.check import ERROR, OK, WARNING, Purpose, Result, results
 from pgsub_connect.commands.options import Options
 from pgsub_connect.commands.words import arguments
-from pgsub_connect.errors import ServerError, UsageError
+from pgsub_connect.errors import ServerError
 from pgsub_connect.server import preflight
 from pgsub_connect.server.preflight import (
     Facts,
@@ -27,6 +27,7 @@ from pgsub_connect.server.preflight import (
 )
 from pgsub_connect.server.publication_setup import Wanted
 from pgsub_connect.server.transport import Protection
+from pgsub_feed.errors import UsageError
 
 from .fake_server import FakeServer, connection_to
 

@@ -16,11 +16,11 @@ import pgsub_connect
 from pgsub_connect.cli import follow
 from pgsub_connect.commands.options import Options
 from pgsub_connect.commands.words import arguments, settle_options
-from pgsub_connect.drift.remembered import replace_file
-from pgsub_connect.errors import FileError, UsageError
 from pgsub_connect.store.checkpoint import Checkpoint
 from pgsub_connect.store.placing import check_meant
 from pgsub_feed.command import arguments as feed_arguments
+from pgsub_feed.errors import FileError, UsageError
+from pgsub_feed.files import replace_file
 
 from .fake_server import Quiet
 

@@ -19,18 +19,20 @@ from pgsub_connect.copy import table_reader
 from pgsub_connect.copy.copier import CHANGED, Copier, Tries, altered_tables, create_slot
 from pgsub_connect.copy.messages import InsertHeads, begin, commit, frame, inserts, relation
 from pgsub_connect.drift.remembered import Remembered
-from pgsub_connect.errors import Passing, ServerError, Stopped, Unfit, UsageError
+from pgsub_connect.errors import ServerError
 from pgsub_connect.server import publication_setup
 from pgsub_connect.server import waits as waits_module
 from pgsub_connect.server.catalog import Catalog, Partition
 from pgsub_connect.server.catalog import Table as CatalogTable
 from pgsub_connect.server.publications import Column, Table
 from pgsub_connect.status.progress import Progress
-from pgsub_connect.store import checkpoint as known_of
+from pgsub_connect.store import checkpoint_lines
 from pgsub_connect.store.checkpoint import Checkpoint
-from pgsub_connect.store.snapshot import part_of
+from pgsub_connect.store.checkpoint_lines import COPIED, SLOT
+from pgsub_connect.store.snapshot import COPYING, part_of
 from pgsub_connect.stream.filter import Filter
 from pgsub_connect.stream.filter_end import FilterEnded
+from pgsub_feed.errors import Passing, Stopped, Unfit, UsageError
 
 from .fake_server import FakeServer, Quiet, Row
 from .row_filter import Store, Subscriber
@@ -256,7 +258,7 @@ class Sent(Copying):
             (self.progress.copy.rows, self.progress.copy.total_rows, self.progress.copy.table),
             (2, 3, None),
         )
-        self.assertEqual(self.checkpoint.known.phase, known_of.COPIED)
+        self.assertEqual(self.checkpoint.known.phase, COPIED)
         self.assertEqual(self.checkpoint.known.position, POINT)
         self.assertTrue(os.path.exists(self.store))
         self.assertEqual(self.server.opened, self.server.closed)
@@ -328,7 +330,7 @@ class Linked(Copying):
         copier = self.copier()
         self.slots = [["pgoutput", "t", "f", str(POINT)]]
         self.checkpoint.write(
-            True, phase=known_of.COPIED, system="77", slot="pgsub", confirmed=POINT, position=POINT
+            True, phase=COPIED, system="77", slot="pgsub", confirmed=POINT, position=POINT
         )
         for suffix in (".copying", "-wal"):
             with open(f"{self.far}/shop.db{suffix}", "wb"):
@@ -423,7 +425,7 @@ class Order(Copying):
                 self.copier().run()
                 self.assertEqual(self.later(), {16385: ""})
                 self.assertEqual(
-                    (self.server.told("COPY ("), self.checkpoint.known.phase), ([], known_of.COPIED)
+                    (self.server.told("COPY ("), self.checkpoint.known.phase), ([], COPIED)
                 )
 
     def test_what_is_gone_in_the_midst_of_rows_is_lasting(self) -> None:
@@ -685,7 +687,7 @@ class Ends(Copying):
         ) as raised:
             self.copier().run()
         self.assertTrue(raised.exception.is_lasting())
-        self.assertEqual((self.slots, self.checkpoint.known.phase), ([], known_of.COPYING))
+        self.assertEqual((self.slots, self.checkpoint.known.phase), ([], checkpoint_lines.COPYING))
         self.assertEqual(
             (len(self.server.told('DROP PUBLICATION "pgsub"')), self.server.opened),
             (1, self.server.closed),
@@ -755,7 +757,7 @@ class Ends(Copying):
             self.server.index("pg_copy_logical_replication_slot"),
             self.server.index("SELECT s.wal_status"),
         )
-        self.assertEqual(self.checkpoint.known.phase, known_of.COPIED)
+        self.assertEqual(self.checkpoint.known.phase, COPIED)
 
     def test_a_slot_that_is_there(self) -> None:
         self.slots = [["pgoutput", "t", "f", "5"]]
@@ -776,7 +778,7 @@ class Ends(Copying):
         copier = self.copier(failover=True)
         self.slots = [["pgoutput", "t", "f", str(POINT)]]
         self.checkpoint.write(
-            True, phase=known_of.COPIED, system="77", slot="pgsub", confirmed=POINT, position=POINT
+            True, phase=COPIED, system="77", slot="pgsub", confirmed=POINT, position=POINT
         )
         self.patch(FakeFilter, "start", lambda *_: POINT)
         with open(self.store + ".copying", "wb"):
@@ -840,7 +842,7 @@ class Kept(Copying):
             self.copier(jobs=1).run()
         self.assertEqual(
             (self.checkpoint.known.phase, Remembered(self.store).copied),
-            (known_of.SLOT, {16385: 2}),
+            (SLOT, {16385: 2}),
         )
         self.assertEqual((self.server.told("DROP PUB"), len(self.slots)), ([], 1))
         os.close(self.checkpoint.file)
@@ -852,9 +854,7 @@ class Kept(Copying):
         self.position = 2
         self.copier().run()
         self.assertEqual(self.filter.sent, frame(2, begin(2)) + frame(2, commit(2, POINT)))
-        self.assertEqual(
-            (self.later(), self.checkpoint.known.phase), ({16390: ""}, known_of.COPIED)
-        )
+        self.assertEqual((self.later(), self.checkpoint.known.phase), ({16390: ""}, COPIED))
         self.assertEqual(
             (self.server.told("COPY ("), self.server.told("CREATE"), self.made()),
             ([], [], {"pgsub": 777}),
@@ -955,7 +955,7 @@ class Kept(Copying):
         self.cut()
         self.position = POINT
         self.copier().run()
-        self.assertEqual((self.filter.sent, self.checkpoint.known.phase), (b"", known_of.COPIED))
+        self.assertEqual((self.filter.sent, self.checkpoint.known.phase), (b"", COPIED))
 
     def test_it_begins_anew_where_the_slot_is_lost(self) -> None:
         self.cut()

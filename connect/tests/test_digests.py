@@ -7,17 +7,15 @@ import unittest
 from pgsub_connect.server.publications import Column, Table
 from pgsub_connect.verify.digests import (
     MOST_CHUNKS,
-    Field,
     NotText,
     Plan,
     Queries,
     Summing,
     Sums,
     chunks_for,
-    fields_in,
     fields_of,
-    text_of,
 )
+from pgsub_feed.tables.row_texts import Field, fields_in, text_of
 from pgsub_feed.tables.values import Malformed
 
 from .stores import Cell, spelled

@@ -10,8 +10,9 @@ from unittest import mock
 from pgsub_connect.commands import drop
 from pgsub_connect.commands.drop import Dropper, ask_terminal, files_of
 from pgsub_connect.commands.options import Options
-from pgsub_connect.errors import FileError, Passing, ServerError, Unfit
+from pgsub_connect.errors import ServerError
 from pgsub_connect.store.checkpoint import Checkpoint
+from pgsub_feed.errors import FileError, Passing, Unfit
 
 from .fake_server import FakeServer, Quiet, Row
 

@@ -14,13 +14,14 @@ from collections.abc import Sequence
 from typing import Any
 from unittest import mock
 
-from pgsub_connect.cli import FILE, UNFIT, USAGE, main
+from pgsub_connect.cli import main
 from pgsub_connect.commands.options import Options
-from pgsub_connect.drift.remembered import Relation, Remembered
-from pgsub_connect.errors import FileError, Passing, Stopped, Unfit, UsageError
-from pgsub_connect.server.connection import never
+from pgsub_connect.drift.remembered import Remembered
 from pgsub_connect.store import export as export_module
 from pgsub_connect.store.export import run
+from pgsub_feed.errors import FILE, UNFIT, USAGE, FileError, Passing, Stopped, Unfit, UsageError
+from pgsub_feed.interruption import never
+from pgsub_feed.relation import Relation
 
 from .stores import StoreCase, spelled
 from .vectors import ID, NAME, a_catalog, a_shape, a_table, logged

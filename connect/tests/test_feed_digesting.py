@@ -10,8 +10,8 @@ from typing import Any
 from feed_text import Column, Definition, Line
 
 from pgsub_connect.commands import tables
-from pgsub_connect.errors import FileError
-from pgsub_connect.server.connection import never
+from pgsub_feed.errors import FileError
+from pgsub_feed.interruption import never
 from pgsub_feed.reader.segments import Reader
 from pgsub_feed.tables.applier import Applier
 from pgsub_feed.tables.digests import Digest, read_digests

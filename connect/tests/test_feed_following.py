@@ -18,13 +18,14 @@ from unittest import mock
 
 from feed_text import About, Column, Line, entry_text
 
-from pgsub_connect.cli import Start, stop_by_signals
 from pgsub_connect.commands import tables as tables_module
 from pgsub_connect.commands import wait
 from pgsub_connect.commands.options import Options
-from pgsub_connect.errors import Passing, Unfit
-from pgsub_connect.server.connection import never
+from pgsub_feed.errors import Passing, Unfit
 from pgsub_feed.faults import Damaged
+from pgsub_feed.interruption import never
+from pgsub_feed.program import Start, stop_by_signals
+from pgsub_feed.reader import following
 from pgsub_feed.reader.commits import Commit
 from pgsub_feed.reader.polling import Poll
 from pgsub_feed.tables.file import Rows
@@ -223,7 +224,7 @@ class Following(FollowingCase):
         self.feed.commit(0x100, [insert("1", "a", of=KEYED)])
         self.feed.commit(0x200, [insert("2", "b", of=KEYED)], About(0x1FF, 2, 0))
         self.options.once, self.options.at = True, 0x200
-        look, settle = Poll.next, tables_module.Tables.settle
+        look, settle = Poll.next, following.Following.settle
 
         def look_before(poll: Poll) -> Commit | None:
             commit = look(poll)
@@ -231,12 +232,12 @@ class Following(FollowingCase):
                 self.feed.confirm(0x200)
             return commit
 
-        def settle_before(tables: tables_module.Tables) -> None:
-            settle(tables)
+        def settle_before(it: following.Following) -> None:
+            settle(it)
             self.feed.confirm(0x200)
 
         with logged(), mock.patch.object(
-            tables_module.Tables, "settle", settle_before
+            following.Following, "settle", settle_before
         ), self.assertRaisesRegex(Passing, "has reached 0/100, and 0/200 not"):
             tables_module.run(self.options, never)
         self.feed.confirm(0x100)

@@ -12,11 +12,14 @@ from unittest import mock
 from feed_text import Cell, Column, Definition, Line
 
 from pgsub_connect.commands.options import Options
-from pgsub_connect.commands.tables import Tables
 from pgsub_connect.drift.remembered import Remembered
-from pgsub_connect.server.connection import never
 from pgsub_connect.store.export import run as export
+from pgsub_connect.store.known_keys import KnownKeys
+from pgsub_feed.interruption import never
+from pgsub_feed.reader.following import Following
+from pgsub_feed.reader.reading import Reading
 from pgsub_feed.tables.file import Rows
+from pgsub_feed.tables.following import Tables
 
 from .feeds import delete, insert, table, truncate, update
 from .stores import Store
@@ -115,7 +118,7 @@ class Made(KeysCase):
         """Another account keeps the tables, say."""
         self.look("id")
         denied = PermissionError(13, "Permission denied")
-        with mock.patch("pgsub_feed.tables.primary_keys.stamp_of", side_effect=denied):
+        with mock.patch("pgsub_connect.store.known_keys.stamp_of", side_effect=denied):
             self.take(put("1", "a"))
             told = self.run_it()
         self.assertRegex("".join(told), f"copy.tables: Permission denied: {ALONE}")
@@ -274,14 +277,14 @@ class Later(KeysCase):
         """Takes one more commit in a run that goes on."""
         self.take(*lines)
         with logged() as told:
-            Tables(self.options(), rows, never).follow()
+            Following(Reading(str(self.path), follows=False), Tables(rows, never), never).follow()
         return told
 
     def test_a_table_that_the_store_didnt_know_yet(self) -> None:
         """The feed was faster than the look: the key comes with the first commit after that."""
         self.look(oid=9)
         self.run_it()
-        rows = Rows(self.into, store=self.store)
+        rows = Rows(self.into, known=KnownKeys(self.store))
         with contextlib.closing(rows.db):
             self.follow(rows, put("1", "a"), change(["1", "a"], ["2", "a"]))
             self.follow(rows, put("3", "a"))
@@ -298,7 +301,7 @@ class Later(KeysCase):
     def test_a_key_that_didnt_fit_yet(self) -> None:
         self.look("more")
         self.run_it()
-        rows = Rows(self.into, store=self.store)
+        rows = Rows(self.into, known=KnownKeys(self.store))
         with contextlib.closing(rows.db):
             told = self.follow(rows, put("1", "a"))
             self.assertRegex(told[0], "the stream doesn't have more of the primary key")
@@ -310,7 +313,7 @@ class Later(KeysCase):
     def test_rows_that_dont_fit_it(self) -> None:
         self.look(oid=9)
         self.run_it()
-        rows = Rows(self.into, store=self.store)
+        rows = Rows(self.into, known=KnownKeys(self.store))
         with contextlib.closing(rows.db):
             self.follow(rows, put("1", "a"), put("1", "a"))
             self.look("id")

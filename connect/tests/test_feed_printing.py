@@ -12,8 +12,8 @@ from unittest import mock
 
 from feed_text import UNSENT, About, Column, Line
 
-from pgsub_connect.cli import UNFIT, USAGE
 from pgsub_feed.command import main
+from pgsub_feed.errors import UNFIT, USAGE
 from pgsub_feed.formats.keys import index_text
 
 from .feeds import ID, STOCK, FeedCase, delete, insert, table, truncate, update

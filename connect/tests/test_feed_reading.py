@@ -13,9 +13,9 @@ from feed_text import UNSENT, About, Column, Line, closing_line, segment_head
 from hypothesis import given, settings
 from hypothesis import strategies as st
 
-from pgsub_connect.errors import FileError, Unfit
-from pgsub_connect.server.connection import never
+from pgsub_feed.errors import FileError, Unfit
 from pgsub_feed.faults import Damaged
+from pgsub_feed.interruption import never
 from pgsub_feed.reader import commits
 from pgsub_feed.reader.commits import Change, Missed, Part, TableLine
 from pgsub_feed.reader.lines import oid, parsed

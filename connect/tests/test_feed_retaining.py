@@ -6,8 +6,8 @@ from __future__ import annotations
 import os
 from unittest import mock
 
-from pgsub_connect.errors import FileError
 from pgsub_connect.follow.retention import Limits, feed_bytes, read_readers, retire
+from pgsub_feed.errors import FileError
 from pgsub_feed.reader.positions import Noted
 from pgsub_feed.reader.segments import segments
 

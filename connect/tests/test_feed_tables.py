@@ -13,20 +13,21 @@ from unittest import mock
 
 from feed_text import Cell, Column, Line
 
-from pgsub_connect.cli import FILE, UNFIT, USAGE, main
+from pgsub_connect.cli import main
+from pgsub_connect.commands import beside
 from pgsub_connect.commands import tables as tables_module
 from pgsub_connect.commands import wait
 from pgsub_connect.commands.options import Options
 from pgsub_connect.commands.wait import Awaited
-from pgsub_connect.errors import FileError, Passing, Unfit
 from pgsub_connect.follow.retention import Limits, retire
-from pgsub_connect.server.connection import Check, never
 from pgsub_connect.store.export import run as export
-from pgsub_connect.store.snapshot import copy
+from pgsub_connect.verify.view import View
+from pgsub_feed.errors import FILE, UNFIT, USAGE, FileError, Passing, Unfit
+from pgsub_feed.files import copy
+from pgsub_feed.interruption import Check, never
 from pgsub_feed.reader.positions import Noted
 from pgsub_feed.reader.segments import segments
 from pgsub_feed.tables import first_rows
-from pgsub_feed.tables.view import View
 
 from .feeds import ID, NAME, STOCK, FeedCase, delete, insert, table, truncate, update
 from .stores import Store
@@ -726,8 +727,12 @@ class Beginning(TablesCase):
             copy(*words)
             go_on()
 
-        patched = ("copy", copy_slowly) if "base" in more else ("export", export_slowly)
-        with mock.patch("pgsub_connect.store.export.log"), mock.patch.object(first_rows, *patched):
+        patched: Any = (
+            mock.patch.object(first_rows, "copy", copy_slowly)
+            if "base" in more
+            else mock.patch.object(beside, "export", export_slowly)
+        )
+        with mock.patch("pgsub_connect.store.export.log"), patched:
             self.run_it(reader="rows", **more)
         self.assertEqual(
             (self.rows("SELECT * FROM stock"), self.rows("SELECT lsn FROM pgsub_position")),
@@ -737,7 +742,7 @@ class Beginning(TablesCase):
         return [base for base, _ in segments(str(self.path))]
 
     def test_what_a_new_reader_needs_stays(self) -> None:
-        with mock.patch.object(first_rows, "is_followed", lambda _: True):
+        with mock.patch.object(beside, "is_followed", lambda _: True):
             self.assertEqual(
                 self.beside_another_reader(store=self.store(0x300)), [0x300, 0x400, 0x500]
             )
@@ -766,8 +771,8 @@ class Beginning(TablesCase):
             retire(str(self.path), Limits(), self.at, 0.0)
             return status
 
-        with mock.patch.object(first_rows, "is_followed", lambda _: True), mock.patch.object(
-            first_rows, "export", export_slowly
+        with mock.patch.object(beside, "is_followed", lambda _: True), mock.patch.object(
+            beside, "export", export_slowly
         ):
             self.run_it(reader="rows", store=self.store(0x300, "b"), at=0x100)
         self.assertEqual(

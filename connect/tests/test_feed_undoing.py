@@ -7,8 +7,8 @@ from collections.abc import Sequence
 
 from feed_text import About, Column, Definition, Line, lsn_text
 
-from pgsub_connect.add.replacement import XID
-from pgsub_connect.cli import UNFIT
+from pgsub_feed.errors import UNFIT
+from pgsub_feed.reader.commits import XID
 from pgsub_feed.undo import restore_sql
 
 from .feeds import ID, NAME, STOCK, delete, insert, table, truncate, update

@@ -19,11 +19,11 @@ from feed_text import Column as TextColumn
 from pgsub_connect.commands import tables
 from pgsub_connect.commands.options import Options
 from pgsub_connect.commands.words import arguments
-from pgsub_connect.errors import FileError, Passing, Stopped, Unfit
-from pgsub_connect.server.connection import never
 from pgsub_connect.server.publications import Column, Table
 from pgsub_connect.verify import tables_file
 from pgsub_connect.verify.meeting_point import chosen
+from pgsub_feed.errors import FileError, Passing, Stopped, Unfit
+from pgsub_feed.interruption import never
 from pgsub_feed.reader.trail import Gone, Trail
 
 from .fake_server import connection_to
@@ -181,7 +181,7 @@ class Server(VerifyCase):
             truncate(table(9, "else")),
         )
         self.run_it()
-        with mock.patch("pgsub_feed.tables.view.View.texts") as texts:
+        with mock.patch("pgsub_connect.verify.view.View.texts") as texts:
             self.equal(digests=True)
         self.assertEqual(texts.called, False)
         self.server.tables[1][3] = ["3", "other"]

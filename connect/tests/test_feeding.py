@@ -17,8 +17,7 @@ from feed_text import Column, lsn_text
 
 from pgsub_connect.commands.options import Options
 from pgsub_connect.commands.words import arguments
-from pgsub_connect.drift.remembered import Remembered, replace_file
-from pgsub_connect.errors import FileError, Unfit
+from pgsub_connect.drift.remembered import Remembered
 from pgsub_connect.follow import feed as feed_module
 from pgsub_connect.follow import tables_process
 from pgsub_connect.follow.feed import Feeding, Keeper
@@ -29,6 +28,8 @@ from pgsub_connect.status.progress import Progress
 from pgsub_connect.status.status_file import status_fields
 from pgsub_connect.stream.filter_end import FilterEnded
 from pgsub_connect.stream.statuses import Reached
+from pgsub_feed.errors import FileError, Unfit
+from pgsub_feed.files import replace_file
 from pgsub_feed.reader.positions import Noted, make_folder
 from pgsub_feed.reader.segments import CONFIRMED, Reader, read_confirmed, segments
 

@@ -10,7 +10,7 @@ import unittest
 from pathlib import Path
 from unittest import mock
 
-from pgsub_connect.errors import FilterFault, Stopped
+from pgsub_connect.errors import FilterFault
 from pgsub_connect.stream import filter as filter_module
 from pgsub_connect.stream.filter import Filter
 from pgsub_connect.stream.filter_end import MISSED, FilterEnded, Missing, missing_of
@@ -24,6 +24,7 @@ from pgsub_connect.stream.frames import (
     header,
     without_received,
 )
+from pgsub_feed.errors import Stopped
 
 from .fake_server import Quiet
 from .vectors import begin, commit, delete, insert, keepalive

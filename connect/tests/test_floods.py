@@ -12,11 +12,12 @@ from unittest import mock
 
 from server_messages import described, row
 
-from pgsub_connect.errors import ServerError, Stopped, WrongAnswer
+from pgsub_connect.errors import ServerError, WrongAnswer
 from pgsub_connect.server import connection as connection_module
 from pgsub_connect.server import notices
 from pgsub_connect.server import rows as rows_module
 from pgsub_connect.server.connection import Connection
+from pgsub_feed.errors import Stopped
 from tests import small_server
 
 from .small_server import SmallServer, answered, error, message

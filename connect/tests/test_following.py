@@ -17,7 +17,7 @@ from pgsub_connect.commands.options import Options
 from pgsub_connect.drift import watch
 from pgsub_connect.drift.findings import About
 from pgsub_connect.drift.remembered import Remembered
-from pgsub_connect.errors import FilterFault, Passing, ServerError, Unconnected, Unfit
+from pgsub_connect.errors import FilterFault, ServerError, Unconnected
 from pgsub_connect.follow import filter_life
 from pgsub_connect.follow import follower as follower_module
 from pgsub_connect.follow import schedule
@@ -38,6 +38,7 @@ from pgsub_connect.stream.awake import Awake
 from pgsub_connect.stream.filter import Filter
 from pgsub_connect.stream.filter_end import FilterEnded
 from pgsub_connect.stream.frames import flushed
+from pgsub_feed.errors import Passing, Unfit
 from pgsub_feed.texts import lsn_text, parse_lsn
 
 from .fake_server import FakeServer, Quiet, Row

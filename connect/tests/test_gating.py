@@ -14,9 +14,8 @@ from unittest import mock
 from pgsub_connect.add import addable, adder
 from pgsub_connect.commands import verify
 from pgsub_connect.commands.options import Options
-from pgsub_connect.errors import Delayed, Passing, ServerError, Stopped, Unrepaired
+from pgsub_connect.errors import Delayed, ServerError, Unrepaired
 from pgsub_connect.follow import schedule
-from pgsub_connect.server.connection import never
 from pgsub_connect.status.progress import Progress
 from pgsub_connect.store.at_rest import read_request
 from pgsub_connect.store.snapshot import Snapshots
@@ -25,6 +24,8 @@ from pgsub_connect.stream.frames import flushed
 from pgsub_connect.stream.gate import Gating, Making, is_shared, too_large_to_copy
 from pgsub_connect.stream.hold import Hold
 from pgsub_connect.verify.meeting_point import Request
+from pgsub_feed.errors import Passing, Stopped
+from pgsub_feed.interruption import never
 from pgsub_feed.texts import lsn_text
 
 from .adding_case import OTHER

@@ -14,16 +14,18 @@ from collections.abc import Callable, Iterator
 from unittest import mock
 
 from pgsub_connect.commands.options import Options
-from pgsub_connect.errors import ServerError, Stopped
+from pgsub_connect.errors import ServerError
 from pgsub_connect.follow.ending import Ending
 from pgsub_connect.follow.requests import Requests as Asked
-from pgsub_connect.server.connection import never
 from pgsub_connect.status.progress import Progress
 from pgsub_connect.store import snapshot
 from pgsub_connect.store.at_rest import read_request
 from pgsub_connect.store.snapshot import Snapshots
 from pgsub_connect.stream.hold import Hold, count_below
 from pgsub_connect.stream.statuses import Confirming
+from pgsub_feed import files
+from pgsub_feed.errors import Stopped
+from pgsub_feed.interruption import never
 
 from .stores import StoreCase
 from .vectors import (
@@ -263,7 +265,7 @@ class Requests(StoreCase):
     def cut(self, error: Exception, **more: object) -> str | None:
         """Begins a copy that was asked for, in which an error comes. What the request says then of
         an error."""
-        with contextlib.ExitStack() as going, mock.patch.object(snapshot, "CHUNK", 4096):
+        with contextlib.ExitStack() as going, mock.patch.object(files, "CHUNK", 4096):
             if more:
                 going.enter_context(self.asked(**more))
                 self.assertFalse(self.snapshots.is_due(0x130))
@@ -297,9 +299,7 @@ class Requests(StoreCase):
         self.snapshots.path, self.snapshots.asked = self.copy, True
         for error, again in ((ServerError("lost"), True), (Stopped(), False)):
             self.assertTrue(self.snapshots.is_due(0x130))
-            with mock.patch.object(snapshot, "CHUNK", 4096), self.assertRaises(
-                type(error)
-            ), logged():
+            with mock.patch.object(files, "CHUNK", 4096), self.assertRaises(type(error)), logged():
                 self.snapshots.take(0x130, mock.Mock(side_effect=[None, error]))
             self.assertEqual(os.listdir(self.folder), ["copy.db"])
             self.assertEqual(self.snapshots.is_due(0x130), again)

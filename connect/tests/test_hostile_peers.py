@@ -6,7 +6,7 @@ import contextlib
 import json
 from unittest import mock
 
-from pgsub_connect.errors import EngineError, Passing, TooLarge, Unfit
+from pgsub_feed.errors import EngineError, Passing, TooLarge, Unfit
 from pgsub_feed.sinks.relations import Relations
 
 from .fake_nats import FakeNats

@@ -10,16 +10,16 @@ from collections.abc import Callable
 from typing import Any
 from unittest import mock
 
-from pgsub_connect.cli import BUG, FILE, main
+from pgsub_connect.cli import main
 from pgsub_connect.commands.drop import made_publications, read_remembered
 from pgsub_connect.drift.remembered import Remembered
-from pgsub_connect.errors import FileError
-from pgsub_connect.server.connection import never
 from pgsub_connect.store import snapshot
 from pgsub_connect.store.at_rest import read_request
 from pgsub_connect.store.checkpoint import Checkpoint
 from pgsub_connect.store.snapshot import Snapshots
 from pgsub_feed import json_texts
+from pgsub_feed.errors import BUG, FILE, FileError
+from pgsub_feed.interruption import never
 from pgsub_feed.json_texts import Unreadable, parsed
 
 from .fake_server import Quiet

@@ -13,8 +13,7 @@ from unittest import mock
 from pgsub_connect.commands.options import Options
 from pgsub_connect.commands.verify import meet
 from pgsub_connect.copy.copier import CHANGED
-from pgsub_connect.errors import NoSlot, Passing, ServerError, Stopped, Unfit
-from pgsub_connect.server.connection import Check, never
+from pgsub_connect.errors import NoSlot, ServerError
 from pgsub_connect.server.publications import Table
 from pgsub_connect.store.checkpoint_lines import FOLLOWING, Known
 from pgsub_connect.store.snapshot import Snapshots, position_in
@@ -22,6 +21,8 @@ from pgsub_connect.stream.hold import write_request
 from pgsub_connect.verify import meeting_point
 from pgsub_connect.verify.meeting_point import Request, Source
 from pgsub_connect.verify.unchanged import ALTERED, LOCKED, MOVED
+from pgsub_feed.errors import Passing, Stopped, Unfit
+from pgsub_feed.interruption import Check, never
 
 from .fake_server import FakeServer, Quiet, Row
 from .stores import StoreCase

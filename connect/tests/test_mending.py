@@ -17,13 +17,14 @@ from hypothesis import given, settings
 from hypothesis import strategies as st
 
 from pgsub_connect.copy.messages import relation
-from pgsub_connect.server.connection import never
 from pgsub_connect.server.publications import Column, Table
 from pgsub_connect.verify import sides
-from pgsub_connect.verify.digests import Plan, Queries, text_of
+from pgsub_connect.verify.digests import Plan, Queries
 from pgsub_connect.verify.meeting_point import Source
 from pgsub_connect.verify.repair_rows import Changes, Mender, NoChange, changes_of
 from pgsub_connect.verify.sides import Copy, Sides
+from pgsub_feed.interruption import never
+from pgsub_feed.tables.row_texts import text_of
 
 from .drawn import ANY
 from .fake_server import connection_to

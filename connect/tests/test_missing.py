@@ -12,12 +12,11 @@ from pathlib import Path
 from unittest import mock
 
 from pgsub_connect import cli
-from pgsub_connect.cli import MISSED, UNFIT
 from pgsub_connect.commands.options import Options
 from pgsub_connect.commands.words import ENDS, KINDS
 from pgsub_connect.drift.missed_rows import Misses, texts_of
 from pgsub_connect.drift.remembered import Remembered
-from pgsub_connect.errors import Passing, ServerError, Unfit
+from pgsub_connect.errors import MISSED, ServerError
 from pgsub_connect.follow.follower import Follower
 from pgsub_connect.server.connection import Connection
 from pgsub_connect.status.findings import Counted
@@ -29,6 +28,7 @@ from pgsub_connect.stream.awake import Awake
 from pgsub_connect.stream.filter_end import FilterEnded, Missing
 from pgsub_connect.stream.filter_input import FilterInput
 from pgsub_connect.stream.frames import flushed
+from pgsub_feed.errors import UNFIT, Passing, Unfit
 
 from .test_following import FAKE, Case
 from .vectors import a_catalog, a_table, begin, commit, delete, insert, keepalive

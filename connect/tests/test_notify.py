@@ -17,7 +17,7 @@ from pgsub_connect.follow import filter_life, schedule
 from pgsub_connect.follow.follower import Follower
 from pgsub_connect.status.notify import LONGER, Notifier, notifier_of
 from pgsub_connect.status.progress import ENDING, STATES, Progress
-from pgsub_connect.store import snapshot
+from pgsub_feed import files
 
 from .test_copying import Copying
 from .test_following import Case
@@ -201,7 +201,7 @@ class Following(Case):
             time.sleep(0.05)
             return parts.pop(0)
 
-        self.patch(snapshot, "copied", copied)
+        self.patch(files, "copied", copied)
         follower = self.follower()
         with mock.patch.object(follower.snapshots, "finish"), self.watched():
             follower.snapshots.path, follower.snapshots.asked = self.folder + "/into", True

@@ -14,14 +14,14 @@ from unittest import mock
 
 from pgsub_connect.commands.add import noted
 from pgsub_connect.commands.options import Options
-from pgsub_connect.drift.remembered import Remembered, replace_file
-from pgsub_connect.errors import FileError
-from pgsub_connect.server.connection import never
+from pgsub_connect.drift.remembered import Remembered
 from pgsub_connect.store import at_rest, export
-from pgsub_connect.store.placing import placed
-from pgsub_connect.store.snapshot import Snapshots, meant
+from pgsub_connect.store.snapshot import Snapshots
 from pgsub_connect.verify.repair_rows import Changes
 from pgsub_feed import ownership
+from pgsub_feed.errors import FileError
+from pgsub_feed.files import meant, placed, replace_file
+from pgsub_feed.interruption import never
 from pgsub_feed.reader import positions
 from pgsub_feed.tables import first_rows
 

@@ -12,7 +12,7 @@ from unittest import mock
 
 from psycopg import pq
 
-from pgsub_connect.errors import ServerError, Stopped, Unconnected
+from pgsub_connect.errors import ServerError, Unconnected
 from pgsub_connect.server import connection as connection_module
 from pgsub_connect.server.connection import (
     COPY_BOTH,
@@ -23,6 +23,8 @@ from pgsub_connect.server.connection import (
     parameters,
 )
 from pgsub_connect.server.libpq import LIBPQ
+from pgsub_feed.errors import Stopped
+from pgsub_feed.interruption import never
 from tests import small_server
 
 from .fake_server import FakeServer, Quiet
@@ -64,9 +66,7 @@ class Case(Quiet):
         self.addCleanup(server.close)
         return server
 
-    def connect(
-        self, dsn: str = "", check: object = connection_module.never, limit: float = 10.0
-    ) -> Connection:
+    def connect(self, dsn: str = "", check: object = never, limit: float = 10.0) -> Connection:
         with mock.patch.object(connection_module, "CONNECT_LIMIT", limit):
             connection = Connection(dsn or self.server.dsn(), check=check)  # type: ignore[arg-type]
         self.addCleanup(connection.close)
@@ -126,7 +126,7 @@ class Connects(Case):
         with mock.patch.object(connection_module, "CONNECT_LIMIT", 2.0), self.assertRaises(Stopped):
             self.connect(check=StopsLater(3))
         connection = Connection.__new__(Connection)
-        connection.check, connection.limit = connection_module.never, 0.1
+        connection.check, connection.limit = never, 0.1
         with self.assertRaisesRegex(ServerError, "no answer within"):
             connection.connect_to(parameters(self.server.dsn()))
 
@@ -234,7 +234,7 @@ class Connects(Case):
         dsn = "host=localhost,nowhere.invalid port=5444,5445 target_session_attrs=prefer-standby"
         settings = parameters(dsn)
         self.assertEqual(
-            (hosts_of(settings), addresses_of(settings, connection_module.never)),
+            (hosts_of(settings), addresses_of(settings, never)),
             ([settings], [settings]),
         )
 
@@ -245,7 +245,7 @@ class Connects(Case):
         self.addCleanup(ended.set)
         found = [(0, 0, 0, "", (address, 0)) for address in ("::1", "127.0.0.1", "::1")]
         with mock.patch("socket.getaddrinfo", return_value=found):
-            attempts = addresses_of(settings, connection_module.never)
+            attempts = addresses_of(settings, never)
         self.assertEqual(
             [(it["host"], it["hostaddr"]) for it in attempts],
             [("db.example", "::1"), ("db.example", "127.0.0.1")],
@@ -258,16 +258,14 @@ class Connects(Case):
             "service=shop",
             "",
         ):
-            self.assertEqual(
-                addresses_of(parameters(text), connection_module.never), [parameters(text)]
-            )
+            self.assertEqual(addresses_of(parameters(text), never), [parameters(text)])
         with mock.patch(
             "socket.getaddrinfo", side_effect=socket.gaierror(-2, "Name or service not known")
         ):
             with self.assertRaisesRegex(
                 ServerError, "db.example can't be looked up: Name or service"
             ) as raised:
-                addresses_of(settings, connection_module.never)
+                addresses_of(settings, never)
         self.assertFalse(raised.exception.is_lasting())
         began = time.monotonic()
         with mock.patch("socket.getaddrinfo", side_effect=lambda *_, **__: [][: ended.wait(20)]):
@@ -276,7 +274,7 @@ class Connects(Case):
             with mock.patch.object(connection_module, "CONNECT_LIMIT", 0.1), self.assertRaisesRegex(
                 ServerError, "no answer within"
             ):
-                addresses_of(settings, connection_module.never)
+                addresses_of(settings, never)
         self.assertLess(time.monotonic() - began, 2.0)
 
     def test_limits_of_connecting(self) -> None:

@@ -7,7 +7,7 @@ import re
 import unittest
 from unittest import mock
 
-from pgsub_connect.errors import ServerError, Stopped
+from pgsub_connect.errors import ServerError
 from pgsub_connect.server import publication_setup
 from pgsub_connect.server.publication_setup import (
     Maker,
@@ -25,6 +25,7 @@ from pgsub_connect.server.publications import (
     united,
     with_cure,
 )
+from pgsub_feed.errors import Stopped
 
 from .fake_server import FakeServer, Quiet, Row, connection_to
 

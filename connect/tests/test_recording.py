@@ -11,10 +11,10 @@ from unittest import mock
 from pgsub_connect import cli
 from pgsub_connect.commands.options import Options
 from pgsub_connect.commands.record import Recorder, Recording
-from pgsub_connect.errors import FileError, UsageError
 from pgsub_connect.server import transport
 from pgsub_connect.server.connection import Connection
 from pgsub_connect.stream.frames import COPY_DONE, flushed
+from pgsub_feed.errors import FileError, UsageError
 
 from .fake_server import FakeServer, Quiet
 from .small_server import SmallServer

@@ -21,11 +21,12 @@ from pgsub_connect.commands.refresh import CHANGED, EXTRA, MISSING, OTHER, Told,
 from pgsub_connect.commands.words import arguments
 from pgsub_connect.drift.findings import NOTHING, About
 from pgsub_connect.drift.remembered import Remembered
-from pgsub_connect.errors import FileError, Passing, ServerError, Stopped, Unfit
+from pgsub_connect.errors import ServerError
 from pgsub_connect.server.catalog import Catalog, Part, Partition
-from pgsub_connect.server.connection import Check, never
 from pgsub_connect.store import at_rest, snapshot
 from pgsub_connect.store.snapshot import Snapshots
+from pgsub_feed.errors import FileError, Passing, Stopped, Unfit
+from pgsub_feed.interruption import Check, never
 
 from .fake_server import FakeServer, Quiet
 from .small_world import table

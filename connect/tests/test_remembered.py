@@ -13,9 +13,10 @@ import unittest
 from unittest import mock
 
 from pgsub_connect.drift.findings import MOST, NOTHING, About, Found
-from pgsub_connect.drift.remembered import Relation, Remembered, print_names
-from pgsub_connect.errors import FileError, Passing
+from pgsub_connect.drift.remembered import Remembered, print_names
 from pgsub_connect.server.catalog import Part, Partition
+from pgsub_feed.errors import FileError, Passing
+from pgsub_feed.relation import Relation
 
 from .vectors import ID, NAME, PGSUB, a_catalog, a_shape, a_table
 

@@ -13,8 +13,10 @@ from collections.abc import Callable
 from unittest import mock
 
 from pgsub_connect.drift import remembered as module
-from pgsub_connect.drift.remembered import Relation, Remembered
-from pgsub_connect.errors import FileError, Passing
+from pgsub_connect.drift.remembered import Remembered
+from pgsub_feed.errors import FileError, Passing
+from pgsub_feed.files import replace_file
+from pgsub_feed.relation import Relation
 
 from .vectors import ID, NAME, Described, a_catalog, a_shape, a_table
 
@@ -182,12 +184,12 @@ class Costs(Case):
             tables = (a_table(oid, f"t{oid}") for oid in range(1, count + 1))
             self.remembered.begin(a_catalog(*tables))
             self.remembered.save()
-            replace, append, total = module.replace_file, module.append, 0
+            append, total = module.append, 0
 
             def replaced(path: str, content: bytes, mode: int = 0o600) -> int:
                 nonlocal total
                 total += len(content)
-                return replace(path, content, mode)
+                return replace_file(path, content, mode)
 
             def appended(path: str, content: bytes, inode: int, length: int) -> bool:
                 nonlocal total

@@ -12,21 +12,23 @@ import unittest
 from collections.abc import Callable, Iterator
 from unittest import mock
 
-from pgsub_connect.add.replacement import XID
 from pgsub_connect.copy.messages import relation as relation_body
 from pgsub_connect.drift.findings import About
 from pgsub_connect.drift.remembered import Remembered
 from pgsub_connect.drift.watch import Watch
-from pgsub_connect.errors import Passing, Unrepaired
+from pgsub_connect.errors import Unrepaired
 from pgsub_connect.follow.repair import Repairing, Unusable, messages_in
-from pgsub_connect.server.connection import never
 from pgsub_connect.server.publications import Table
 from pgsub_connect.store import snapshot
 from pgsub_connect.store.snapshot import Snapshots
 from pgsub_connect.stream.hold import Hold
-from pgsub_connect.verify.digests import Plan, text_of
+from pgsub_connect.verify.digests import Plan
 from pgsub_connect.verify.meeting_point import Request
 from pgsub_connect.verify.repair_rows import Changes, changes_of
+from pgsub_feed.errors import Passing
+from pgsub_feed.interruption import never
+from pgsub_feed.reader.commits import XID
+from pgsub_feed.tables.row_texts import text_of
 
 from .adding_case import OTHER, THIRD, Case, Run, T
 from .row_filter import Store

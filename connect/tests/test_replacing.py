@@ -8,11 +8,12 @@ import struct
 import unittest
 from collections.abc import Iterator
 
-from pgsub_connect.add.replacement import XID, Leaving, Rows, payload_of
+from pgsub_connect.add.replacement import Leaving, Rows, payload_of
 from pgsub_connect.copy.messages import NULL
 from pgsub_connect.errors import ServerError
 from pgsub_connect.server.publications import Column, Table
 from pgsub_connect.stream.messages import final_lsn
+from pgsub_feed.reader.commits import XID
 
 from .row_filter import Fault, Store, Subscriber, number, read_tuple, spelled
 from .vectors import (

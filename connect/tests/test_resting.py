@@ -18,15 +18,16 @@ import unittest
 from collections.abc import Iterator
 from unittest import mock
 
-from pgsub_connect.cli import FILE, PASSING, USAGE, main
+from pgsub_connect.cli import main
 from pgsub_connect.commands import snapshot
 from pgsub_connect.commands.options import Options
-from pgsub_connect.errors import FileError, Passing, Stopped
-from pgsub_connect.server.connection import never
 from pgsub_connect.store import at_rest as at_rest_module
 from pgsub_connect.store import export
-from pgsub_connect.store.at_rest import at_rest, own_name
+from pgsub_connect.store.at_rest import at_rest
 from pgsub_connect.store.snapshot import Snapshots
+from pgsub_feed.errors import FILE, PASSING, USAGE, FileError, Passing, Stopped
+from pgsub_feed.files import own_name
+from pgsub_feed.interruption import never
 
 from .stores import StoreCase
 from .vectors import logged
@@ -179,7 +180,7 @@ class Held(Case):
         open(self.path + "-wal", "wb").write(b"x")
         for command in ("export", "snapshot"):
             with logged() as told, mock.patch(
-                "pgsub_connect.store.snapshot.copied",
+                "pgsub_feed.files.copied",
                 side_effect=OSError(errno.ENOSPC, "No space left on device"),
             ):
                 self.assertEqual(

@@ -13,10 +13,10 @@ from unittest import mock
 from feed_text import Line
 
 from pgsub_connect.commands.options import Options
-from pgsub_connect.errors import EngineError, FileError, Passing, TooLarge, Unfit, UsageError
-from pgsub_connect.server.connection import never
 from pgsub_connect.store.export import run as export
+from pgsub_feed.errors import EngineError, FileError, Passing, TooLarge, Unfit, UsageError
 from pgsub_feed.formats.keys import subject
+from pgsub_feed.interruption import never
 from pgsub_feed.sinks.connecting import is_loopback
 from pgsub_feed.sinks.nats_messages import read_id
 from pgsub_feed.sinks.nats_wire import Wire, header_bytes, read_headers

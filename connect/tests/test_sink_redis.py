@@ -19,11 +19,12 @@ from feed_text import About, Column, Line, Writer
 
 from pgsub_connect.commands import sink as sink_module
 from pgsub_connect.commands.options import Options
-from pgsub_connect.errors import EngineError, FileError, Passing, Stopped, Unfit, UsageError
 from pgsub_connect.follow.retention import Limits, retire
-from pgsub_connect.server.connection import never
 from pgsub_connect.store.export import run as export
+from pgsub_feed.errors import EngineError, FileError, Passing, Stopped, Unfit, UsageError
+from pgsub_feed.interruption import never
 from pgsub_feed.reader.commits import Commit
+from pgsub_feed.reader.following import Following
 from pgsub_feed.reader.polling import Poll
 from pgsub_feed.reader.positions import Noted
 from pgsub_feed.sinks.first_rows import Base
@@ -31,7 +32,7 @@ from pgsub_feed.sinks.reached import Trail
 from pgsub_feed.sinks.redis_calls import Connection, Said, packed_command, raised
 from pgsub_feed.sinks.redis_disk import Disk
 from pgsub_feed.sinks.redis_engine import Redis
-from pgsub_feed.tables.first_rows import opened
+from pgsub_feed.tables.sqlite_files import opened
 
 from .fake_redis import FakeCalls, Stream
 from .feeds import ID, NAME, STOCK, delete, insert, table, truncate, update
@@ -69,7 +70,7 @@ class Changes(RedisCase):
     def test_many_commits_at_once(self) -> None:
         for number in range(50):
             self.take(insert(str(number), "a"), *([delete(str(number - 1), "a")] if number else []))
-        with mock.patch("pgsub_connect.commands.sink.LONGEST", 100.0):
+        with mock.patch("pgsub_feed.reader.following.LONGEST", 100.0):
             self.run_it()
         self.assertEqual((self.server.rows(), self.server.at()), (stock(("49", "a")), "0/3200"))
         # (one begins, and one has all)
@@ -658,7 +659,7 @@ class Ends(RedisCase):
         """Then that isn't the last one: what the feed has up to the LSN may have come since."""
         self.take(insert("1", "a"))
         self.feed.commit(0x200, [insert("2", "b")], About(0x1FF, 2, 0))
-        look, settle = Poll.next, sink_module.Sink.settle
+        look, settle = Poll.next, Following.settle
 
         def look_before(poll: Poll) -> Commit | None:
             commit = look(poll)
@@ -666,11 +667,11 @@ class Ends(RedisCase):
                 self.feed.confirm(0x200)
             return commit
 
-        def settle_before(sink: sink_module.Sink) -> None:
-            settle(sink)
+        def settle_before(following: Following) -> None:
+            settle(following)
             self.feed.confirm(0x200)
 
-        with mock.patch.object(sink_module.Sink, "settle", settle_before):
+        with mock.patch.object(Following, "settle", settle_before):
             self.fails(Passing, "the feed has reached 0/100, and 0/200 not yet", until=0x200)
         self.feed.confirm(0x100)
         with mock.patch.object(Poll, "next", look_before):

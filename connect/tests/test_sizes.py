@@ -4,11 +4,11 @@ from __future__ import annotations
 
 import unittest
 
-from pgsub_connect.cli import REJECTED, status_of
 from pgsub_connect.commands.options import Options
 from pgsub_connect.stream.filter_end import FRAME_TOO_LARGE, MEMORY, SPOOL_FULL, FilterEnded
 from pgsub_connect.stream.memory_limit import LONGEST_FRAME
 from pgsub_connect.stream.too_large import LEAST, KilledTwice, Kills, text_of
+from pgsub_feed.errors import REJECTED
 
 from .test_passing import Case, Source
 from .vectors import begin, commit, insert, logged
@@ -25,7 +25,7 @@ class Killed(unittest.TestCase):
         text = str(raised.exception)
         for part in ("signal 9", "transaction 7", str(5 * LEAST), "--max-buffered", "memory"):
             self.assertIn(part, text)
-        self.assertEqual(status_of(raised.exception), REJECTED)
+        self.assertEqual(raised.exception.exit_status(), REJECTED)
 
     def test_in_two(self) -> None:
         kills = Kills()

@@ -7,11 +7,12 @@ import os
 import unittest
 from unittest import mock
 
-from pgsub_connect.errors import ServerError, Unconnected, Unfit
+from pgsub_connect.errors import ServerError, Unconnected
 from pgsub_connect.server import connection as connection_module
 from pgsub_connect.server import transport
 from pgsub_connect.server.connection import Connection, parameters
 from pgsub_connect.server.transport import Protection, Trust
+from pgsub_feed.errors import Unfit
 
 from .fake_server import FakeServer, Quiet
 from .small_server import SmallServer, make_certificate

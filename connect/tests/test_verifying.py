@@ -16,13 +16,15 @@ from pgsub_connect.commands import add as add_module
 from pgsub_connect.commands import verify
 from pgsub_connect.commands.options import Options
 from pgsub_connect.commands.verify import Verifier
-from pgsub_connect.errors import FileError, NoSlot, Passing, Stopped, Unfit, Unrepaired
-from pgsub_connect.server.connection import never
+from pgsub_connect.errors import NoSlot, Unrepaired
 from pgsub_connect.server.publications import Column, Table
 from pgsub_connect.store.checkpoint_lines import FOLLOWING, Known
-from pgsub_connect.verify.digests import NotText, Plan, Summing, fields_of, text_of
+from pgsub_connect.verify.digests import NotText, Plan, Summing, fields_of
 from pgsub_connect.verify.meeting_point import Source
 from pgsub_connect.verify.sides import Copy, Sides
+from pgsub_feed.errors import FileError, Passing, Stopped, Unfit
+from pgsub_feed.interruption import never
+from pgsub_feed.tables.row_texts import text_of
 from pgsub_feed.tables.values import Malformed
 
 from .fake_server import FakeServer, connection_to

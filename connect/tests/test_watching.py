@@ -11,14 +11,16 @@ from pgsub_connect import cli
 from pgsub_connect.commands.options import Options
 from pgsub_connect.commands.words import arguments, settle_options
 from pgsub_connect.drift import watch as watch_module
-from pgsub_connect.drift.remembered import Relation, Remembered
+from pgsub_connect.drift.remembered import Remembered
 from pgsub_connect.drift.watch import Watch
-from pgsub_connect.errors import ServerError, Unfit
+from pgsub_connect.errors import ServerError
 from pgsub_connect.server.catalog import Catalog
-from pgsub_connect.server.connection import never
 from pgsub_connect.status.progress import Progress
 from pgsub_connect.status.status_file import status_fields
 from pgsub_connect.store.checkpoint import Checkpoint
+from pgsub_feed.errors import FILE, Unfit
+from pgsub_feed.interruption import never
+from pgsub_feed.relation import Relation
 
 from .fake_server import FakeServer, connection_to
 from .vectors import ID, NAME, PGSUB, a_catalog, a_shape, a_table, logged
@@ -330,7 +332,7 @@ class Words(Case):
             '{"schema": "public", "table": "t", "oid": 1, "since": "0/64", "before": []}'
         )
         with logged() as lines:
-            self.assertEqual(cli.main(["names", "--store", self.store + "x"]), cli.FILE)
+            self.assertEqual(cli.main(["names", "--store", self.store + "x"]), FILE)
         self.assertIn("no such file", lines[0])
 
 

@@ -15,23 +15,29 @@ from collections.abc import Callable
 from unittest import mock
 
 from pgsub_connect import cli
-from pgsub_connect.cli import BUG, FILE, PASSING, REJECTED, SERVER, UNFIT, USAGE, main
+from pgsub_connect.cli import main
 from pgsub_connect.commands.drop import ask_terminal
 from pgsub_connect.commands.options import Options
 from pgsub_connect.commands.words import arguments, parsers_of_commands, settle_options
-from pgsub_connect.errors import (
-    FileError,
-    FilterFault,
-    Passing,
-    ServerError,
-    Stopped,
-    Unfit,
-    UsageError,
-)
+from pgsub_connect.errors import FilterFault, ServerError
 from pgsub_connect.server import followed_publications
 from pgsub_connect.server.followed_publications import require_published
 from pgsub_connect.stream.filter_end import FilterEnded
 from pgsub_connect.stream.too_large import KilledTwice
+from pgsub_feed.errors import (
+    BUG,
+    FILE,
+    PASSING,
+    REJECTED,
+    SERVER,
+    UNFIT,
+    USAGE,
+    FileError,
+    Passing,
+    Stopped,
+    Unfit,
+    UsageError,
+)
 
 from .fake_server import FakeServer, Quiet, Row
 

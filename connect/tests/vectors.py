@@ -7,7 +7,8 @@ import struct
 from collections.abc import Iterator, Sequence
 from unittest import mock
 
-from pgsub_connect.server.catalog import Catalog, Column, Part, Partition, Publication, Shape, Table
+from pgsub_connect.server.catalog import Catalog, Part, Partition, Publication, Table
+from pgsub_feed.relation import Column, Shape
 
 from .fake_server import with_level
 

@@ -16,6 +16,7 @@ from pathlib import Path
 from built import PROGRAM, TOP
 
 from .linked import Unlicensed, copyright_text, kit_folder, linked
+from .wheel import make_wheel
 
 SCRIPTS = Path(__file__).resolve().parent / "debian"
 OVERRIDES = Path(__file__).resolve().parent / "lintian-overrides"
@@ -97,7 +98,7 @@ class Build:
 
 def version_of_sources() -> str:
     """The version that the connector has."""
-    first = VERSION.search((TOP / "connect/pgsub_connect/__init__.py").read_text())
+    first = VERSION.search((TOP / "connect/pgsub_feed/version.py").read_text())
     assert first
     return first[1]
 
@@ -121,12 +122,12 @@ def make_pages(build: Build, folder: Path) -> None:
     run(*words, env={**os.environ, "SOURCE_DATE_EPOCH": str(build.time)})
 
 
-def install(build: Build, prefix: str, pages: Path, room: Path) -> None:
+def install(build: Build, prefix: str, pages: Path, room: Path, *more: str) -> None:
     """Installs below a folder. The program is without its table of symbols."""
     stripped = pages / "pgsub"
     run("strip", "--strip-unneeded", "-o", stripped, build.program)
     words = [TOP / "install", prefix, "--destdir", room, "--program", stripped, "--version", build.version, "--pages", pages]
-    run(*words, stderr=subprocess.DEVNULL)
+    run(*words, *more, stderr=subprocess.DEVNULL)
 
 
 def settle_times(folder: Path, time: int) -> None:
@@ -176,7 +177,7 @@ def write_control(build: Build, room: Path, folder: Path) -> None:
 
 
 def make_deb(build: Build, pages: Path, room: Path, out: Path) -> Path:
-    install(build, "/usr", pages, room)
+    install(build, "/usr", pages, room, "--python", "/usr/lib/python3/dist-packages")
     (room / "etc/pgsub").mkdir(parents=True)
     # (files with passwords lie there, which systemd reads as root)
     (room / "etc/pgsub").chmod(0o700)
@@ -216,13 +217,14 @@ def digest(path: Path, kind: str = "sha256") -> str:
 
 
 def make_packages(build: Build, out: Path) -> list[Path]:
-    """Makes both packages and their sums."""
+    """Makes the packages and their sums."""
     with tempfile.TemporaryDirectory(prefix="pgsub-package-") as folder:
-        pages, deb, tar = (Path(folder) / it for it in ("pages", "deb", "tar"))
-        for it in (pages, deb, tar):
+        pages, deb, tar, wheel = (Path(folder) / it for it in ("pages", "deb", "tar", "wheel"))
+        for it in (pages, deb, tar, wheel):
             it.mkdir()
         make_pages(build, pages)
         made = [make_deb(build, pages, deb, out), make_tar(build, pages, tar, out)]
+        made.append(make_wheel(TOP / "connect/pgsub_feed", build.version, build.time, wheel, out))
     sums = out / "SHA256SUMS"
     sums.write_text(lines_of(made))
     return [*made, sums]

@@ -1,6 +1,7 @@
 """What ./install puts where. The program is a script in its place, so nothing is built."""
 
 import os
+import shutil
 import subprocess
 import tempfile
 import unittest
@@ -58,7 +59,7 @@ class Case(unittest.TestCase):
         self.assertLessEqual({f"share/man/man1/{it}.1.gz" for it in ("pgsub", "pgsub-dump", "pgsub-connect-follow", "pgsub-feed")}, pages)
         found -= pages
         packages = [TOP / "connect" / name for name in ("pgsub_connect", "pgsub_feed")]
-        copied = {f"lib/pgsub/{it.relative_to(TOP / 'connect')}" for package in packages for it in package.rglob("*.py")}
+        copied = {f"lib/pgsub/{it.relative_to(TOP / 'connect')}" for package in packages for it in package.rglob("*") if it.name == "py.typed" or it.suffix == ".py"}
         copied |= {f"share/doc/pgsub/{it.relative_to(TOP)}" for folder in ("docs", "examples") for it in (TOP / folder).rglob("*") if it.is_file()}
         self.assertTrue(copied <= found)
         self.assertEqual(
@@ -66,7 +67,7 @@ class Case(unittest.TestCase):
             {
                 "bin/pgsub", "bin/pgsub-connect", "bin/pgsub-feed", "lib/pgsub/pgsub", "lib/pgsub/pgsub-connect", "lib/pgsub/BUILD",
                 "lib/pgsub/pgsub-feed",
-                "lib/pgsub/pgsub_connect/BUILD", "lib/systemd/system/pgsub@.service", "lib/systemd/system/pgsub-account@.service",
+                "lib/pgsub/pgsub_feed/BUILD", "lib/systemd/system/pgsub@.service", "lib/systemd/system/pgsub-account@.service",
                 "share/doc/pgsub/alerts.yml", "share/doc/pgsub/README.md", "share/doc/pgsub/CHANGELOG.md",
                 "share/doc/pgsub/SECURITY.md", "share/doc/pgsub/KITS", "share/doc/pgsub/first.pgx", "share/doc/pgsub/LICENSE",
                 "share/doc/pgsub/LICENSE-MIT", "share/doc/pgsub/LICENSE-APACHE",
@@ -89,6 +90,19 @@ class Case(unittest.TestCase):
         subprocess.run([str(TOP / "install"), *words], check=True, capture_output=True, cwd=self.room)
         kits = [it for it in (TOP / "KITS").read_text().splitlines() if not it.startswith("#")]
         self.assertIn(f"\nkit {';'.join(kits)}\n", (self.room / "silent-root/opt/here/lib/pgsub/BUILD").read_text())
+
+    def test_where_python_finds_it(self) -> None:
+        """The package that reads feeds; the connector has it by a link."""
+        folder = self.root / "lib/python3/dist-packages"
+        self.addCleanup(self.install)
+        self.addCleanup(shutil.rmtree, folder.parent)
+        self.install("--python", "/opt/here/lib/python3/dist-packages")
+        code = "from pgsub_feed import version; print(version.__file__, version.OWN['version'])"
+        words = ["/usr/bin/python3", "-S", "-c", code]
+        found = subprocess.run(words, env={"PYTHONPATH": str(folder)}, capture_output=True, text=True, check=True).stdout
+        self.assertEqual(found, f"{folder}/pgsub_feed/version.py 1.2+3\n")
+        self.assertEqual(os.readlink(self.root / "lib/pgsub/pgsub_feed"), "../python3/dist-packages/pgsub_feed")
+        self.assertIn("1.2+3", self.run_it("--version").stdout)
 
     def test_links_of_the_documents(self) -> None:
         tree = checks.Tree(self.root / "share/doc/pgsub")

@@ -4,8 +4,8 @@ from __future__ import annotations
 
 from typing import Protocol
 
-from ..drift.remembered import Relation
-from ..server.catalog import Column, Shape
+from pgsub_feed.relation import Column, Relation, Shape
+
 from ..server.publications import Column as TableColumn
 from ..server.publications import Table
 from ..stream.gate import CURE, TABLE

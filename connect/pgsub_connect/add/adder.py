@@ -26,6 +26,7 @@ import time
 from typing import TYPE_CHECKING, Any
 
 from pgsub_feed import log
+from pgsub_feed.errors import Passing, Stopped, Unfit
 from pgsub_feed.texts import counted, lsn_text
 
 from ..copy.copier import PASSING
@@ -33,7 +34,7 @@ from ..copy.table_reader import BLOCK, GONE
 from ..drift.differences import PUBLICATION
 from ..drift.findings import About
 from ..drift.remembered import Remembered
-from ..errors import NoSlot, Passing, Renewed, ServerError, Stopped, Unconnected, Unfit
+from ..errors import NoSlot, Renewed, ServerError, Unconnected
 from ..server.publications import Table, sizes_of
 from ..stream.gate import MOST as LONGEST_WAIT
 from ..stream.gate import WAITED, Making

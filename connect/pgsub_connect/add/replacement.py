@@ -87,13 +87,13 @@ from __future__ import annotations
 import struct
 from collections.abc import Sequence
 
+from pgsub_feed.reader.commits import XID
+
 from ..copy.messages import InsertHeads, begin, commit, frame, inserts, relation
 from ..errors import ServerError
 from ..server.publications import Table
 from ..stream.messages import BEGIN, CHANGES, COMMIT, RELATION, START, TRUNCATE, final_lsn
 
-# FrozenTransactionId.
-XID = 2
 # What CopyData and XLogData add to a message, and what the filter adds where it buffers one, in
 # bytes.
 AROUND, BUFFERED = 30, 8

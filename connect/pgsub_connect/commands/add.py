@@ -16,24 +16,18 @@ from types import MappingProxyType
 from typing import TYPE_CHECKING
 
 from pgsub_feed import log
+from pgsub_feed.errors import Passing, Stopped
+from pgsub_feed.files import own_name, remove, remove_files
+from pgsub_feed.interruption import Check
 from pgsub_feed.texts import counted
 
 from ..drift.remembered import Remembered
-from ..errors import Passing, ServerError, Stopped
-from ..server.connection import Check, Connection
+from ..errors import ServerError
+from ..server.connection import Connection
 from ..server.publication_setup import names_of
 from ..server.publications import Table, published_tables
 from ..server.session import settle
-from ..store.at_rest import (
-    LOOK,
-    check_there,
-    is_followed,
-    own_name,
-    put_request,
-    read_request,
-    remove_files,
-)
-from ..store.snapshot import remove
+from ..store.at_rest import LOOK, check_there, is_followed, put_request, read_request
 from ..verify.meeting_point import chosen
 from .drop import locked, read_known
 

@@ -9,11 +9,13 @@ import sys
 from collections.abc import Callable, Iterator
 from typing import TYPE_CHECKING
 
+from pgsub_feed.errors import UsageError
+from pgsub_feed.interruption import Check, never
 from pgsub_feed.log import escaped
 from pgsub_feed.texts import counted
 
-from ..errors import ServerError, UsageError
-from ..server.connection import Check, Connection, never
+from ..errors import ServerError
+from ..server.connection import Connection
 from ..server.preflight import Facts, all_facts, role_facts, server_facts, tables_facts
 from ..server.publication_setup import REFUSED, Wanted, inserts_of, keyless_text, members, names_of
 from ..server.transport import CURE, OWN

@@ -13,19 +13,20 @@ from collections.abc import Callable, Iterator
 from typing import TYPE_CHECKING, Any
 
 from pgsub_feed import log
+from pgsub_feed.errors import FileError, Passing, Unfit
+from pgsub_feed.files import OF_FILE, meant, own_files
+from pgsub_feed.interruption import Check, never
 from pgsub_feed.json_texts import Unreadable, object_of, open_plain, whole_of
 from pgsub_feed.texts import identifier, literal
 
 from ..drift.remembered_lines import read_lines
-from ..errors import FileError, Passing, Unfit, understood
-from ..server.connection import TICK, Check, Connection, never
+from ..errors import understood
+from ..server.connection import TICK, Connection
 from ..server.publication_setup import inserts_of, oid_of, other_slots
 from ..server.session import Server, database_oid, is_same_database, settle
-from ..store.at_rest import own_files
 from ..store.checkpoint import has_name
 from ..store.checkpoint_lines import Known, read_file
 from ..store.placing import OF_COPY, OF_STORE
-from ..store.snapshot import OF_FILE, meant
 
 if TYPE_CHECKING:
     from .options import Options

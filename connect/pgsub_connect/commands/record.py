@@ -12,9 +12,9 @@ import time
 from typing import TYPE_CHECKING
 
 from pgsub_feed import log
+from pgsub_feed.errors import FileError, Stopped, UsageError
 from pgsub_feed.texts import counted, identifier, lsn_text, replication_literal
 
-from ..errors import FileError, Stopped, UsageError
 from ..server.connection import COPY_BOTH, Connection
 from ..server.session import (
     STREAMS,

@@ -18,14 +18,15 @@ import json
 from typing import TYPE_CHECKING, NamedTuple
 
 from pgsub_feed import log
+from pgsub_feed.errors import FileError
+from pgsub_feed.interruption import Check
 from pgsub_feed.texts import counted
 
 from ..drift.differences import PUBLICATION, VALUES
 from ..drift.doubts import resolved
 from ..drift.remembered import Remembered
-from ..errors import FileError
 from ..server.catalog import Catalog, read_catalog
-from ..server.connection import Check, Connection
+from ..server.connection import Connection
 from ..server.publication_setup import names_of
 from ..server.session import settle
 from ..store.at_rest import check_there

@@ -4,28 +4,21 @@ from __future__ import annotations
 
 import argparse
 import contextlib
-import os
-import time
 from typing import TYPE_CHECKING
 
 from pgsub_feed import log
-from pgsub_feed.faults import Damaged
-from pgsub_feed.interruption import at_most
+from pgsub_feed.arguments import plain_name
+from pgsub_feed.errors import UsageError
+from pgsub_feed.interruption import Check
 from pgsub_feed.ownership import readable_by, readable_text
-from pgsub_feed.reader.commits import Commit
-from pgsub_feed.reader.polling import Poll
-from pgsub_feed.reader.positions import Noted
-from pgsub_feed.reader.segments import Reader, read_confirmed, segments
+from pgsub_feed.reader.reading import Reading
 from pgsub_feed.sinks import nats_engine, redis_calls, redis_hashes, redis_streams
-from pgsub_feed.sinks.engine import Engine, Wanted
-from pgsub_feed.sinks.first_rows import base_of
+from pgsub_feed.sinks.engine import Engine
+from pgsub_feed.sinks.following import keep
 from pgsub_feed.sinks.redis_engine import Redis
-from pgsub_feed.tables.first_rows import keeping
 from pgsub_feed.texts import lsn_text
 
-from ..errors import Passing, Stopped, UsageError
-from ..server.connection import Check
-from .tables import plain_name
+from .beside import StoreBeside
 
 if TYPE_CHECKING:
     from .options import Options
@@ -53,9 +46,6 @@ NATS: subjects are STREAM.schema.table, and STREAM.commit for the last message o
 completed. --table goes by the names that tables have just then. With --reader, an LSN counts after 150 seconds, once the server has synced
 it.
 """
-# How long commits wait for others that come to be written together, and what was taken may take
-# once the end was asked for, in seconds.
-LONGEST, GRACE = 0.5, 0.7
 SCHEMES = {"redis": "redis", "rediss": "redis", "unix": "redis", "nats": "nats", "tls": "nats"}
 
 
@@ -142,126 +132,6 @@ def add_options(parser: argparse.ArgumentParser) -> None:
     whole("--once", dest="once", action="store_true", help="end once all that is there is written")
 
 
-class Sink:
-    """Follows a feed into an engine that is open."""
-
-    def __init__(self, options: Options, engine: Engine, check: Check) -> None:
-        self.options, self.engine = options, engine
-        self.reader = Reader(options.feed, engine.at)
-        self.poll = Poll(self.reader, not options.once, check)
-        self.noted = (
-            Noted(options.feed, options.reader, None, options.mode) if options.reader else None
-        )
-        if self.noted and not os.path.exists(self.noted.path):
-            # (so that nothing goes before that is known to be on a disk, not even of what is
-            # written already)
-            self.noted.note(
-                min([engine.at, *(base for base, _ in segments(options.feed)[:1])]), is_last=True
-            )
-        self.check = check
-        # since when commits wait to be settled
-        self.begun: float | None = None
-        # whether all up to the LSN at which to end was confirmed before the feed was looked at last
-        self.is_confirmed = False
-
-    def follow(self) -> None:
-        """Takes commit after commit, up to the end that was asked for."""
-        self.note()
-        while not self.is_at_end(commit := self.poll.next()):
-            if commit:
-                self.check()
-                self.take(commit)
-            else:
-                self.settle()
-                self.engine.look()
-                self.note()
-                self.poll.rest()
-        self.settle()
-        self.check_reached(commit)
-
-    def is_at_end(self, commit: Commit | None) -> bool:
-        if commit is None:
-            return self.options.once and not self.looks_again()
-        return isinstance(self.options.until, int) and commit.end > self.options.until
-
-    def looks_again(self) -> bool:
-        """Whether all up to the LSN at which to end was confirmed since the feed was looked at:
-        some of it may have come since."""
-        until, was_confirmed = self.options.until, self.is_confirmed
-        self.is_confirmed = (
-            was_confirmed
-            or isinstance(until, int)
-            and (read_confirmed(self.options.feed) or 0) >= until
-        )
-        return self.is_confirmed and not was_confirmed
-
-    def check_reached(self, above: Commit | None) -> None:
-        """Rejects an end below the LSN at which to end, where the feed may still get commits up to
-        it."""
-        until, at = self.options.until, self.engine.at
-        if not isinstance(until, int) or above or at >= until or self.is_confirmed:
-            return
-        raise Passing(
-            f"{self.options.feed}: the feed has reached {lsn_text(at)}, and {lsn_text(until)} not yet"
-        )
-
-    def take(self, commit: Commit) -> None:
-        """Takes a commit. Where its lines can't be read nothing is kept of what isn't settled."""
-        self.begun = time.monotonic() if self.begun is None else self.begun
-        try:
-            self.engine.take(commit, lambda: self.reader.parts(commit))
-        except Stopped:
-            # (a part of it may wait)
-            self.engine.forget()
-            raise
-        except Damaged as damaged:
-            self.engine.forget()
-            self.begun = None
-            self.poll.bear(damaged, commit.end)
-            self.reader.at = self.engine.at
-            self.poll.rest()
-            return
-        if time.monotonic() - self.begun > LONGEST:
-            self.settle()
-
-    def settle(self) -> None:
-        self.engine.settle()
-        self.begun = None
-        self.note()
-
-    def note(self, is_last: bool = False) -> None:
-        """Notes what the engine's disk has."""
-        if self.noted and (at := self.engine.safe()) is not None:
-            self.noted.note(at, is_last)
-
-    def finish(self) -> None:
-        self.reader.close()
-        self.note(is_last=True)
-
-
-def wanted_of(options: Options, check: Check) -> Wanted:
-    """What is to be kept: waits for the feed's first segment."""
-    with contextlib.closing(Reader(options.feed)) as reader:
-        poll = Poll(reader, not options.once, check)
-        while poll.next() is None and reader.head is None and not options.once:
-            poll.rest()
-        if reader.head is None:
-            raise Passing(f"{options.feed}: the feed has no segment yet")
-        return Wanted(
-            reader.head,
-            tuple(sorted(set(options.table))),
-            lambda at: check_after(options, at, check),
-        )
-
-
-def check_after(options: Options, at: int, check: Check) -> None:
-    """Rejects a feed that lacks commits after an LSN, as one that was begun anew does."""
-    with contextlib.closing(Reader(options.feed, at)) as reader:
-        poll = Poll(reader, not options.once, check)
-        while poll.next() is None and poll.wrong is not None:
-            poll.rest()
-
-
 def engine_of(options: Options, check: Check) -> Engine:
     kind = scheme(options.url)
     if kind == "nats":
@@ -276,47 +146,17 @@ def engine_of(options: Options, check: Check) -> Engine:
     return Redis(calls, redis_hashes.Hashes(calls, check), check)
 
 
-def keep(options: Options, engine: Engine, check: Check) -> None:
-    """Keeps what a feed has. A signal ends it."""
-    try:
-        follow(options, engine, check)
-    except Stopped:
-        if is_to_end(options):
-            raise Passing("ended before all of it was written") from None
-        raise
-
-
-def is_to_end(options: Options) -> bool:
-    """Whether it ends by itself, once it has what was asked for."""
-    return options.once or isinstance(options.until, int)
-
-
-def follow(options: Options, engine: Engine, check: Check) -> None:
-    wanted = wanted_of(options, check)
-    if options.reader:
-        # (first of all, since another sink that is fine is ended once this one has begun)
-        engine.check_disk()
-    if not engine.open(wanted):
-        with keeping(options), base_of(options, wanted.chosen, check) as base:
-            engine.begin(base)
-    sink = Sink(options, engine, check)
-    if not options.once:
-        log.info(f"{options.feed} is written from {lsn_text(engine.at)} on")
-    try:
-        sink.follow()
-    except Stopped:
-        with contextlib.closing(sink.reader):
-            if not engine.finish(GRACE):
-                # (the next run completes what may be there in part)
-                raise Passing(
-                    "the engine doesn't answer, so it isn't known how much of the last commits is written"
-                ) from None
-            with at_most(GRACE):
-                sink.note(is_last=True)
-        if is_to_end(options):
-            raise
-        return
-    sink.finish()
+def reading_of(options: Options) -> Reading:
+    return Reading(
+        options.feed,
+        tuple(sorted(set(options.table))),
+        follows=not options.once,
+        until=options.until if isinstance(options.until, int) else None,
+        base=options.base,
+        store=StoreBeside(options.store, options.mode) if options.store else None,
+        name=options.reader,
+        mode=options.mode,
+    )
 
 
 def run(options: Options, check: Check) -> int:
@@ -333,6 +173,6 @@ def run(options: Options, check: Check) -> int:
     elif "@" in options.url:
         log.warning("the password on the command line can be read by every account: use --url-file")
     with contextlib.closing(engine_of(options, check)) as engine:
-        keep(options, engine, check)
+        keep(reading_of(options), engine, check)
         log.info(f"all up to {lsn_text(engine.at)} is written")
     return 0

@@ -7,14 +7,15 @@ import sqlite3
 from typing import TYPE_CHECKING
 
 from pgsub_feed import log
+from pgsub_feed.errors import FileError, Passing, Stopped
+from pgsub_feed.files import LOG, copy, placed, remove
+from pgsub_feed.interruption import Check
 from pgsub_feed.texts import lsn_text
 
-from ..errors import FileError, Passing, Stopped
-from ..server.connection import Check
 from ..store.at_rest import at_rest, failed
 from ..store.file import check_store, is_store
-from ..store.placing import check_into, placed
-from ..store.snapshot import LOG, copy, fold, position_in, remove
+from ..store.placing import check_into
+from ..store.snapshot import fold, position_in
 
 if TYPE_CHECKING:
     from .options import Options

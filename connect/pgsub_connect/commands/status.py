@@ -12,6 +12,7 @@ from collections.abc import Callable
 from typing import TYPE_CHECKING, Any
 
 from pgsub_feed import json_texts, log
+from pgsub_feed.arguments import BYTES, SECONDS, duration
 from pgsub_feed.texts import counted, shortened
 
 if TYPE_CHECKING:
@@ -26,11 +27,7 @@ slot, is further behind than --max-lag (or it isn't known how far), has set a ta
 may have made the copy wrong;
 2 for a usage error; 3 where there is no such file, or it isn't a status file."""
 FINE, BAD, NO_FILE = 0, 1, 3
-SECONDS = {"s": 1.0, "min": 60.0, "h": 3600.0, "d": 86400.0}
-BYTES = {"B": 1, "kB": 1 << 10, "MB": 1 << 20, "GB": 1 << 30, "TB": 1 << 40}
 LAG = re.compile(rf"(\d+(?:\.\d+)?)({'|'.join([*SECONDS, *BYTES])})")
-TIME = re.compile(rf"(\d+(?:\.\d+)?)({'|'.join(SECONDS)})?")
-SIZE = re.compile(rf"(\d+)({'|'.join(BYTES)})?")
 # Of which kind the fields are that are looked at.
 KINDS: dict[str, Callable[[Any], object]] = {
     "lag_bytes": json_texts.whole_of,
@@ -63,20 +60,6 @@ def lag_limit(text: str) -> Limit:
         if unit in SECONDS
         else Limit(text, "lag_bytes", number * BYTES[unit])
     )
-
-
-def duration(text: str) -> float:
-    found = TIME.fullmatch(text)
-    if not found:
-        raise argparse.ArgumentTypeError(f"{text!r} is no time, as 30s or 5min")
-    return float(found[1]) * SECONDS[found[2] or "s"]
-
-
-def size(text: str) -> int:
-    found = SIZE.fullmatch(text)
-    if not found or not int(found[1]):
-        raise argparse.ArgumentTypeError(f"{text!r} is no size, as 500MB or 10GB")
-    return int(found[1]) * BYTES[found[2] or "B"]
 
 
 def add_options(parser: argparse.ArgumentParser) -> None:

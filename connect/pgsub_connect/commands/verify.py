@@ -22,19 +22,22 @@ from collections.abc import Callable, Collection, Iterable, Iterator, Mapping
 from typing import TYPE_CHECKING
 
 from pgsub_feed import log
+from pgsub_feed.errors import FileError, Passing, Stopped, Unfit
+from pgsub_feed.interruption import Check
+from pgsub_feed.tables.row_texts import Field, Fields, fields_in
 from pgsub_feed.tables.values import Malformed
 from pgsub_feed.texts import counted, lsn_text
 
 from ..drift.remembered import Remembered
-from ..errors import Delayed, FileError, Passing, Stopped, Unfit, Unrepaired
-from ..server.connection import Check, parameters
+from ..errors import Delayed, Unrepaired
+from ..server.connection import parameters
 from ..server.publication_setup import names_of
 from ..server.publications import Table, sizes_of
 from ..server.session import waits_for
 from ..store.at_rest import check_there, is_followed
 from ..store.checkpoint_lines import Known
 from ..stream.gate import CURE, TABLE
-from ..verify.digests import Field, Fields, NotText, Plan, Sums, fields_in
+from ..verify.digests import NotText, Plan, Sums
 from ..verify.meeting_point import Request, Source
 from ..verify.repair_rows import Changes, Mender
 from ..verify.sides import Copy, Group, Sides

@@ -9,15 +9,14 @@ import sqlite3
 import time
 from typing import TYPE_CHECKING
 
+from pgsub_feed.arguments import duration
+from pgsub_feed.errors import FileError, Passing, Stopped
+from pgsub_feed.interruption import Check
 from pgsub_feed.reader.segments import Reader, read_confirmed
-from pgsub_feed.tables.file import read_folder
-from pgsub_feed.tables.first_rows import is_tables, opened
 from pgsub_feed.tables.names import POSITION
+from pgsub_feed.tables.schema import read_folder
+from pgsub_feed.tables.sqlite_files import is_tables, opened
 from pgsub_feed.texts import lsn_text, parse_lsn
-
-from ..errors import FileError, Passing, Stopped
-from ..server.connection import Check
-from .status import duration
 
 if TYPE_CHECKING:
     from .options import Options

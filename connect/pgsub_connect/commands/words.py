@@ -7,18 +7,16 @@ import dataclasses
 import functools
 import os
 import shutil
-import subprocess
 import sys
 from collections.abc import Callable, Sequence
 
 from pgsub_feed import log
+from pgsub_feed.arguments import TellVersion, duration, lsn, size
+from pgsub_feed.errors import UsageError
 from pgsub_feed.ownership import readable_by, readable_text
-from pgsub_feed.texts import is_utf_8, parse_lsn
+from pgsub_feed.texts import is_utf_8
 
-from .. import VERSION
-from .. import version as version_module
 from ..drift.remembered import Remembered
-from ..errors import UsageError
 from ..server.connection import parameters
 from ..server.name_length import check_lengths
 from ..server.publication_setup import inserts_of
@@ -106,13 +104,6 @@ ENDINGS = {
 TOP = os.path.dirname(os.path.dirname(os.path.dirname(os.path.realpath(__file__))))
 PLAINTEXT = "plaintext"
 KINDS = ("history", "slot", "names", "publication", "values", "missing", "gap", "all", PLAINTEXT)
-
-
-def lsn(text: str) -> int:
-    try:
-        return parse_lsn(text)
-    except ValueError as error:
-        raise argparse.ArgumentTypeError(str(error)) from None
 
 
 def lsn_or_now(text: str) -> int | str:
@@ -338,14 +329,14 @@ def add_feeding(parser: argparse.ArgumentParser) -> None:
     )
     add(
         "--feed-max-bytes",
-        type=status.size,
+        type=size,
         default=0,
         metavar="SIZE",
         help="remove the oldest segments of a feed that gets larger, as 10GB, whoever hasn't read them",
     )
     add(
         "--feed-max-age",
-        type=status.duration,
+        type=duration,
         metavar="TIME",
         help="remove segments that are older, as 7d, and that all readers have read (default: as soon as all readers have, where there are any)",
     )
@@ -920,27 +911,3 @@ def program() -> str:
 
 class AsWritten(argparse.RawDescriptionHelpFormatter):
     """Help whose description keeps its lines."""
-
-
-class TellVersion(argparse.Action):
-    """`--version`."""
-
-    def __call__(self, *_: object) -> None:
-        print(version())
-        raise SystemExit(0)
-
-
-def version() -> str:
-    """The version, and of which build this is, or which commit where it is a checkout."""
-    if version_module.OWN:
-        return f"{log.PROGRAM} {version_module.OWN.get('version')} (commit {version_module.OWN.get('commit')}, {version_module.OWN.get('kit')})"
-    try:
-        done = subprocess.run(
-            ["git", "-C", TOP, "describe", "--always", "--dirty"],
-            capture_output=True,
-            check=True,
-            timeout=5,
-        )
-        return f"{log.PROGRAM} {VERSION} ({done.stdout.decode().strip()})"
-    except (OSError, subprocess.SubprocessError):
-        return f"{log.PROGRAM} {VERSION}"

@@ -32,16 +32,19 @@ from collections.abc import Callable
 from typing import TYPE_CHECKING
 
 from pgsub_feed import log
+from pgsub_feed.errors import FileError, Passing, Stopped, Unfit
+from pgsub_feed.files import meant, sync_folder
+from pgsub_feed.interruption import Check, never
 from pgsub_feed.ownership import set_mode
 from pgsub_feed.texts import counted, identifier, literal, lsn_text, parse_lsn
 
 from ..commands.check import require, require_reading
 from ..drift.differences import PUBLICATION, root_of
 from ..drift.findings import About
-from ..errors import FileError, Passing, ServerError, Stopped, Unfit, understood
+from ..errors import ServerError, understood
 from ..server import transport
 from ..server.catalog import Catalog, read_catalog
-from ..server.connection import QUICK, Check, Connection, never
+from ..server.connection import QUICK, Connection
 from ..server.lost_slot import IDLE, idle_limit
 from ..server.publication_setup import REFUSED, Look, Maker, Wanted, has_publication
 from ..server.publications import (
@@ -54,9 +57,10 @@ from ..server.publications import (
 )
 from ..server.session import Server, identify, is_lost, settle, settle_for_slot, slot_position
 from ..server.waits import Waiting, lock_text
-from ..store import checkpoint as known_of
+from ..store import checkpoint_lines
 from ..store.at_rest import hold
-from ..store.snapshot import COPYING, meant, sync_folder
+from ..store.checkpoint_lines import COPIED, SLOT
+from ..store.snapshot import COPYING
 from ..stream import too_large
 from ..stream.filter import Filter
 from ..stream.filter_end import FilterEnded
@@ -160,9 +164,9 @@ class Copier:
         of it, what was made goes."""
         log_path = self.store + LOG
         if os.path.exists(log_path) and self.checkpoint.known.phase not in (
-            known_of.COPYING,
-            known_of.SLOT,
-            known_of.COPIED,
+            checkpoint_lines.COPYING,
+            SLOT,
+            COPIED,
         ):
             raise Unfit(f"{log_path} is the log of a store that is gone: remove it to begin anew")
         if os.path.exists(self.part):
@@ -179,7 +183,7 @@ class Copier:
 
     def give_up(self, error: BaseException) -> None:
         """Drops what was made, unless the next start can go on with it."""
-        if self.checkpoint.known.phase == known_of.SLOT:
+        if self.checkpoint.known.phase == SLOT:
             is_lasting = (
                 isinstance(error, (FilterEnded, Unfit, FileError))
                 or isinstance(error, ServerError)
@@ -220,7 +224,7 @@ class Copier:
         except (ServerError, Unfit) as error:
             log.warning(f"the slot {slot} was made and not dropped again: {error}")
             return False
-        self.checkpoint.write(True, phase=known_of.COPYING)
+        self.checkpoint.write(True, phase=checkpoint_lines.COPYING)
         return True
 
     def attempted(self, tries: Tries) -> bool:
@@ -305,8 +309,8 @@ class Copier:
             )
             if (
                 not is_ours
-                or known.phase not in (known_of.SLOT, known_of.COPIED)
-                or known.phase == known_of.COPIED
+                or known.phase not in (SLOT, COPIED)
+                or known.phase == COPIED
                 and not self.is_complete(slot_at)
             ):
                 raise Unfit(
@@ -314,9 +318,9 @@ class Copier:
                     " another one, or say --no-copy to begin where it is, without the rows from before"
                 )
             options.publication = self.remembered.publications() or options.publication
-            if known.phase == known_of.SLOT and not self.goes_on(slot_at):
+            if known.phase == SLOT and not self.goes_on(slot_at):
                 drop_slot(replication, options.slot)
-                self.checkpoint.write(True, phase=known_of.COPYING)
+                self.checkpoint.write(True, phase=checkpoint_lines.COPYING)
                 self.maker.made = self.made
                 self.copy_anew(server)
         else:
@@ -338,7 +342,7 @@ class Copier:
             "slot": options.slot,
         }
         self.checkpoint.write(
-            True, phase=known_of.COPYING, encrypted=transport.OWN.was_encrypted, **whose
+            True, phase=checkpoint_lines.COPYING, encrypted=transport.OWN.was_encrypted, **whose
         )
         self.maker.make()
         options.publication = self.maker.publications
@@ -421,7 +425,7 @@ class Copier:
         slot wasn't made."""
         replication, slot = self.replication, self.options.slot
         assert replication is not None
-        self.checkpoint.write(True, phase=known_of.SLOT, confirmed=point, position=point)
+        self.checkpoint.write(True, phase=SLOT, confirmed=point, position=point)
         self.made = self.maker.keep()
         try:
             replication.rows(
@@ -429,7 +433,7 @@ class Copier:
             )
         except ServerError as error:
             if error.sqlstate and not error.sqlstate.startswith(LEFT_OPEN):
-                self.checkpoint.write(True, phase=known_of.COPYING)
+                self.checkpoint.write(True, phase=checkpoint_lines.COPYING)
                 self.maker.made = self.made
             raise
         if slot_position(replication, slot) != point:
@@ -532,7 +536,7 @@ class Copier:
         self.end_part(point)
         self.wait_for(lambda: self.filter.confirmed() == point)
         self.finish_filter()
-        self.checkpoint.write(True, phase=known_of.COPIED, confirmed=point, position=point)
+        self.checkpoint.write(True, phase=COPIED, confirmed=point, position=point)
 
     def goes_on(self, point: int) -> bool:
         """Goes on with the tables that an earlier attempt has stored whole. Returns false where
@@ -568,7 +572,7 @@ class Copier:
         )
         if position == point:
             self.finish_filter()
-            self.checkpoint.write(True, phase=known_of.COPIED, confirmed=point, position=point)
+            self.checkpoint.write(True, phase=COPIED, confirmed=point, position=point)
             return True
         self.later = {it.oid: self.later.get(it.oid, "its copy was interrupted") for it in missing}
         self.name_new(missing, point)

@@ -17,7 +17,9 @@ import re
 from collections.abc import Iterable, Iterator
 from typing import NamedTuple
 
-from ..server.catalog import ACTIONS, Catalog, Part, Partition, Publication, Shape, Table
+from pgsub_feed.relation import Shape
+
+from ..server.catalog import ACTIONS, Catalog, Part, Partition, Publication, Table
 from .findings import NOTHING, About
 
 NAMES, PUBLICATION, VALUES = "names", "publication", "values"

@@ -39,32 +39,19 @@ import os
 from collections.abc import Iterable
 from typing import Any
 
-from pgsub_feed.ownership import succeed
+from pgsub_feed.errors import FileError, Passing
+from pgsub_feed.files import replace_file
+from pgsub_feed.relation import Column, Relation, Shape
 from pgsub_feed.texts import lsn_text, parse_lsn, shortened
 
-from ..errors import FileError, Passing
-from ..server.catalog import Catalog, Column, Part, Partition, Publication, Shape, Table
+from ..server.catalog import Catalog, Part, Partition, Publication, Table
 from .differences import NAMES, differences, gone, shape_differences
 from .findings import NOTHING, About, Found, about_of
 from .remembered_lines import check_said, noted_in, read_lines
 
 FORMAT = 1
-NEW = ".new"
 # How many bytes may follow the first line before the file is replaced, where that line is shorter.
 LEAST = 1 << 16
-
-
-@dataclasses.dataclass(frozen=True)
-class Relation:
-    """A Relation message."""
-
-    oid: int
-    namespace: str
-    name: str
-    shape: Shape
-
-    def text(self) -> str:
-        return f"{self.namespace}.{self.name} ({self.oid})"
 
 
 # One of a change, and the LSN of its commit.
@@ -762,35 +749,6 @@ def append(path: str, content: bytes, inode: int, length: int) -> bool:
             content = content[file.write(content) or 0 :]
         os.fsync(number)
     return True
-
-
-def replace_file(path: str, content: bytes, mode: int = 0o600) -> int:
-    """Replaces a file durably: whoever reads it finds the old or the new one as a whole. Returns
-    the number of its inode."""
-    new = path + NEW
-    try:
-        with contextlib.suppress(FileNotFoundError):
-            os.unlink(new)
-        number = os.open(new, os.O_WRONLY | os.O_CREAT | os.O_EXCL | os.O_CLOEXEC, mode)
-        # (whatever the umask leaves of it)
-        os.fchmod(number, mode)
-        with open(number, "wb") as file:
-            file.write(content)
-            file.flush()
-            succeed(number, path)
-            os.fsync(number)
-            inode = os.fstat(number).st_ino
-        os.replace(new, path)
-        folder = os.open(os.path.dirname(os.path.abspath(path)), os.O_RDONLY | os.O_DIRECTORY)
-        try:
-            os.fsync(folder)
-        finally:
-            os.close(folder)
-    except OSError as error:
-        with contextlib.suppress(OSError):
-            os.unlink(new)
-        raise Passing(f"{path}: {error.strerror}") from None
-    return inode
 
 
 def noted_written(relation: Relation, lsn: int) -> list[Any]:

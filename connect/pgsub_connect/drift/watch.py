@@ -7,10 +7,12 @@ import time
 from typing import TYPE_CHECKING
 
 from pgsub_feed import log
+from pgsub_feed.errors import Passing, Unfit
+from pgsub_feed.interruption import Check
 
-from ..errors import Passing, ServerError, Unfit
+from ..errors import ServerError
 from ..server.catalog import Catalog, read_catalog
-from ..server.connection import QUICK, Check, Connection
+from ..server.connection import QUICK, Connection
 from ..server.session import settle
 from ..status.progress import Progress
 from ..store.checkpoint import MISSING, Checkpoint

@@ -2,7 +2,8 @@
 
 from __future__ import annotations
 
-from ..errors import Stopped
+from pgsub_feed.errors import Stopped
+
 from ..status.progress import Progress
 
 

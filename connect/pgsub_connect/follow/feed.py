@@ -25,14 +25,16 @@ from collections.abc import Callable
 from typing import TYPE_CHECKING
 
 from pgsub_feed import log
+from pgsub_feed.errors import FileError, Passing, Unfit
 from pgsub_feed.faults import Damaged
+from pgsub_feed.files import replace_file
+from pgsub_feed.interruption import Check
 from pgsub_feed.reader.positions import make_folder
 from pgsub_feed.reader.segments import CONFIRMED, Reader, read_confirmed, segments
 from pgsub_feed.texts import counted, lsn_text
 
-from ..drift.remembered import Remembered, replace_file
-from ..errors import FileError, Passing, Unfit
-from ..server.connection import Check, Connection
+from ..drift.remembered import Remembered
+from ..server.connection import Connection
 from ..server.session import identify, settle
 from ..store.at_rest import has_log
 from ..store.checkpoint import Checkpoint

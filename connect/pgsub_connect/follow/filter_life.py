@@ -10,10 +10,11 @@ from collections.abc import Sequence
 from typing import TYPE_CHECKING
 
 from pgsub_feed import log
+from pgsub_feed.errors import FileError, Passing, Stopped
 from pgsub_feed.texts import counted
 
 from ..drift.watch import Watch
-from ..errors import FileError, FilterFault, Passing, Stopped
+from ..errors import FilterFault
 from ..status.progress import Progress
 from ..stream import too_large
 from ..stream.awake import Awake

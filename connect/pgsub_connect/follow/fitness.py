@@ -11,15 +11,17 @@ from __future__ import annotations
 from typing import TYPE_CHECKING
 
 from pgsub_feed import log
+from pgsub_feed.errors import Unfit
+from pgsub_feed.interruption import Check
 from pgsub_feed.texts import lsn_text
 
 from ..drift.watch import Watch
-from ..errors import ServerError, Unfit
+from ..errors import ServerError
 from ..server import transport
-from ..server.connection import Check, Connection
+from ..server.connection import Connection
 from ..server.session import Server, is_same_database, left_at, settle, slot_position
-from ..store import checkpoint as known_of
 from ..store.checkpoint import Checkpoint, check_gap
+from ..store.checkpoint_lines import FOLLOWING, NEW
 
 if TYPE_CHECKING:
     from ..commands.options import Options
@@ -125,9 +127,7 @@ class Fitting:
     def check_start(self, slot_at: int, position: int) -> None:
         """Rejects a gap between store and slot, unless it was said to be wanted."""
         known, options = self.checkpoint.known, self.options
-        if options.accepts("gap") or (
-            known.phase == known_of.NEW and options.no_copy and position == 0
-        ):
+        if options.accepts("gap") or (known.phase == NEW and options.no_copy and position == 0):
             log.warning(
                 f"whatever changed before {lsn_text(slot_at)} and isn't in the store stays missing"
             )
@@ -147,7 +147,7 @@ class Fitting:
         self.checkpoint.write(
             True,
             confirmed=max(confirmed, known.confirmed),
-            phase=known_of.FOLLOWING,
+            phase=FOLLOWING,
             system=server.system,
             timeline=server.timeline,
             started=server.started,

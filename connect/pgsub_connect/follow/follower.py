@@ -6,12 +6,13 @@ import time
 from typing import TYPE_CHECKING
 
 from pgsub_feed import log
+from pgsub_feed.errors import FileError, Passing, Stopped, Unfit
 
 from ..add.adder import Adder
 from ..drift.missed_rows import Misses
 from ..drift.remembered import Remembered
 from ..drift.watch import Watch
-from ..errors import LOGIN, FileError, Passing, Renewed, ServerError, Stopped, Unconnected, Unfit
+from ..errors import LOGIN, Renewed, ServerError, Unconnected
 from ..server.lost_slot import Repeats
 from ..server.publications import with_cure
 from ..status.progress import Progress

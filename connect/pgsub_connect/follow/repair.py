@@ -35,9 +35,10 @@ from collections.abc import Iterator
 from typing import TYPE_CHECKING, Protocol
 
 from pgsub_feed import log
+from pgsub_feed.reader.commits import XID
 from pgsub_feed.texts import counted, lsn_text
 
-from ..add.replacement import XID, payload_of
+from ..add.replacement import payload_of
 from ..copy.messages import begin, commit, frame
 from ..errors import ServerError
 from ..status.progress import Progress

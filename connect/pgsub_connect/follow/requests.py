@@ -6,8 +6,9 @@ from __future__ import annotations
 import contextlib
 from typing import TYPE_CHECKING
 
+from pgsub_feed.errors import Stopped
+
 from ..add.adder import Adder
-from ..errors import Stopped
 from ..store.snapshot import Snapshots
 from ..stream.gate import WAITED, Gating
 from .ending import Ending

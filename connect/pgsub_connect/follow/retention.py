@@ -12,11 +12,10 @@ import contextlib
 import dataclasses
 import os
 
+from pgsub_feed.errors import FileError
 from pgsub_feed.reader.positions import READERS
 from pgsub_feed.reader.segments import segments
 from pgsub_feed.texts import parse_lsn
-
-from ..errors import FileError
 
 
 @dataclasses.dataclass(frozen=True)

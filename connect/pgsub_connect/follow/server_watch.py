@@ -8,9 +8,10 @@ import time
 from typing import TYPE_CHECKING
 
 from pgsub_feed import log
+from pgsub_feed.errors import Stopped, Unfit
 from pgsub_feed.texts import counted, literal, parse_lsn
 
-from ..errors import ServerError, Stopped, Unfit, understood
+from ..errors import ServerError, understood
 from ..server.connection import QUICK, Connection
 from ..server.session import END, exact_end, postmaster_start
 from ..status.progress import Progress

@@ -19,11 +19,11 @@ import time
 from typing import TYPE_CHECKING
 
 from pgsub_feed import log
+from pgsub_feed.errors import FileError, Unfit
 from pgsub_feed.reader.positions import READERS
-from pgsub_feed.tables.first_rows import is_tables, opened
 from pgsub_feed.tables.set_aside import shown_asides
+from pgsub_feed.tables.sqlite_files import is_tables, opened
 
-from ..errors import FileError, Unfit
 from ..status.progress import Progress
 from ..stream.filter import KEPT
 from .retention import read_lsn

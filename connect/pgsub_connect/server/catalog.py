@@ -7,31 +7,13 @@ import dataclasses
 from collections.abc import Iterator
 from typing import NamedTuple
 
+from pgsub_feed.relation import Column, Shape
 from pgsub_feed.texts import literal, parse_lsn
 
 from ..errors import WrongAnswer, understood
 from .connection import QUICK, Connection
 
 ACTIONS = ("insert", "update", "delete", "truncate")
-
-
-class Column(NamedTuple):
-    """A published column. `number` is its attribute number, 0 where a Relation message is all that
-    is known of it."""
-
-    name: str
-    type_oid: int
-    modifier: int
-    key: bool
-    number: int = 0
-
-
-@dataclasses.dataclass(frozen=True)
-class Shape:
-    """What a Relation message says of a table beside its name."""
-
-    identity: str
-    columns: tuple[Column, ...]
 
 
 @dataclasses.dataclass(frozen=True)

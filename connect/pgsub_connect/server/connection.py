@@ -13,13 +13,14 @@ import select
 import socket
 import threading
 import time
-from collections.abc import Callable, Iterator
+from collections.abc import Iterator
 from typing import Any, Protocol
 
 import psycopg
 from psycopg import pq
 from psycopg.conninfo import conninfo_to_dict, make_conninfo
 
+from pgsub_feed.interruption import Check, never
 from pgsub_feed.texts import said_text, shortened
 
 from ..errors import ServerError, Unconnected, WrongAnswer, understood
@@ -83,12 +84,6 @@ MADVISE = typed(
 MOVED, PAGE = 1 << 20, mmap.PAGESIZE
 # A call of libpq that psycopg lacks.
 GSS_IN_USE: Any = getattr(LIBPQ, "PQgssEncInUse", None)
-
-Check = Callable[[], None]
-
-
-def never() -> None:
-    """Asks for no end."""
 
 
 def parameters(dsn: str) -> dict[str, str]:

@@ -5,10 +5,11 @@ from __future__ import annotations
 from typing import TYPE_CHECKING
 
 from pgsub_feed import log
+from pgsub_feed.interruption import Check
 from pgsub_feed.texts import literal
 
 from ..errors import ServerError, understood
-from .connection import Check, Connection
+from .connection import Connection
 from .preflight import source_wanted
 from .publication_setup import REFUSED, Wanted, keyless_of, names_of
 from .session import settle

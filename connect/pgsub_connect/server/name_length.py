@@ -5,7 +5,8 @@ from __future__ import annotations
 
 from typing import TYPE_CHECKING
 
-from ..errors import UsageError
+from pgsub_feed.errors import UsageError
+
 from .publication_setup import inserts_of
 
 if TYPE_CHECKING:

@@ -5,10 +5,11 @@ from __future__ import annotations
 import dataclasses
 import re
 
+from pgsub_feed.interruption import Check
 from pgsub_feed.texts import literal
 
 from ..errors import ServerError, understood
-from .connection import Check, Connection
+from .connection import Connection
 from .publication_setup import (
     Wanted,
     has_publication,

@@ -16,10 +16,12 @@ from types import MappingProxyType
 from typing import NamedTuple
 
 from pgsub_feed import log
+from pgsub_feed.errors import Unfit
+from pgsub_feed.interruption import Check
 from pgsub_feed.texts import counted, identifier, literal
 
-from ..errors import ServerError, Unfit, understood
-from .connection import Check, Connection
+from ..errors import ServerError, understood
+from .connection import Connection
 from .publications import EXACT, FINE, UNIQUE
 from .waits import Waiting, lock_text
 

@@ -6,23 +6,14 @@ import dataclasses
 import re
 
 from pgsub_feed import log
-from pgsub_feed.texts import literal, parse_lsn
+from pgsub_feed.errors import Unfit
+from pgsub_feed.texts import PRINTING, literal, parse_lsn
 
-from ..errors import IN_USE, ServerError, Unfit, understood
+from ..errors import IN_USE, ServerError, understood
 from .connection import QUICK, Connection
 
-# The text of values depends on these; they are those of PostgreSQL's own subscriptions, and all
-# else on which a type's output depends, so that equal values have equal texts in every session.
 SETTINGS = {
-    "search_path": "",
-    "datestyle": "ISO",
-    "intervalstyle": "postgres",
-    "extra_float_digits": "3",
-    "bytea_output": "hex",
-    "timezone": "UTC",
-    "lc_monetary": "C",
-    "quote_all_identifiers": "off",
-    "xmlbinary": "base64",
+    **PRINTING,
     "statement_timeout": "0",
     "lock_timeout": "0",
     "idle_in_transaction_session_timeout": "0",

@@ -19,8 +19,9 @@ from collections.abc import Iterable, Iterator
 from psycopg import pq
 
 from pgsub_feed import log
+from pgsub_feed.errors import Unfit
 
-from ..errors import ServerError, Unconnected, Unfit
+from ..errors import ServerError, Unconnected
 
 # What a connection goes by.
 SOCKET, PLAIN, TLS, GSSAPI = "socket", "plain", "tls", "gssapi"

@@ -7,9 +7,10 @@ import time
 from collections.abc import Callable
 
 from pgsub_feed import log
+from pgsub_feed.interruption import Check
 
 from ..errors import ServerError, understood
-from .connection import Check, Connection
+from .connection import Connection
 
 # After how many seconds it is told first, and again.
 FIRST, AGAIN = 10.0, 60.0

@@ -6,7 +6,8 @@ from __future__ import annotations
 from collections.abc import Iterator, Mapping
 from typing import NamedTuple
 
-from .. import VERSION
+from pgsub_feed.version import VERSION
+
 from .counters import StreamCounters
 from .findings import Counted
 from .progress import STATES, Progress

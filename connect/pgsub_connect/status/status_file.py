@@ -6,8 +6,8 @@ import os
 import time
 
 from pgsub_feed.texts import lsn_text
+from pgsub_feed.version import VERSION
 
-from .. import VERSION
 from ..server import transport
 from .progress import Progress
 

@@ -8,7 +8,6 @@ import errno
 import fcntl
 import json
 import os
-import re
 import sqlite3
 import struct
 import time
@@ -16,13 +15,15 @@ from collections.abc import Iterator
 from typing import Any
 
 from pgsub_feed import log
+from pgsub_feed.errors import FileError, Passing
+from pgsub_feed.files import LOG, copy, own_name, remove, remove_files
+from pgsub_feed.interruption import Check
 from pgsub_feed.json_texts import Unreadable, object_of, parsed, read_plain
 from pgsub_feed.ownership import give, real
+from pgsub_feed.tables.sqlite_files import FULL
 
-from ..errors import FileError, Passing
-from ..server.connection import Check
 from .checkpoint import has_name
-from .snapshot import LOG, NEW, OF_FILE, copy, fold, part_of, remove
+from .snapshot import NEW, fold, part_of
 
 # Where SQLite, and so the program, locks a file: the bytes of its readers.
 SHARED_FIRST, SHARED_SIZE = 0x40000002, 510
@@ -30,14 +31,6 @@ SHARED_FIRST, SHARED_SIZE = 0x40000002, 510
 # after.
 PATIENCE = 300.0
 LOOK = 0.1
-# What SQLite says of a disk that is full.
-FULL = "is full"
-# After how many seconds a file that a killed process has left is removed.
-STALE = 3600.0
-# What a file that a process makes for itself has in its name behind another one's: its id, as
-# nobody else names files. Beside it there may be such a file again, the parts of a request, and
-# what SQLite makes.
-OWN = r"\.pgsub-([0-9]+)(?:(?:\.copied)?\.pgsub-[0-9]+)?(?:\.pgsub-new|\.request|\.changes)?(?:-wal|-shm|-journal)?"
 
 
 @contextlib.contextmanager
@@ -266,42 +259,3 @@ def read_request(path: str) -> dict[str, Any]:
         return object_of(parsed(read_plain(path, follows=False)))
     except (OSError, Unreadable):
         return {}
-
-
-def own_files(path: str) -> re.Pattern[str]:
-    """The names of the files that processes make for themselves beside this one, and of what is
-    made beside those; the first group has the process's id."""
-    return re.compile(re.escape(os.path.basename(path)) + OWN)
-
-
-def own_name(path: str) -> str:
-    """A name for a file of this process alone. What killed processes have left under such a name
-    goes."""
-    pattern = own_files(path)
-    for entry in os.scandir(os.path.dirname(os.path.abspath(path))):
-        found = pattern.fullmatch(entry.name)
-        # (a number may be none of a process)
-        with contextlib.suppress(OSError, OverflowError):
-            if (
-                found
-                and not is_alive(int(found[1]))
-                and time.time() - entry.stat().st_mtime > STALE
-            ):
-                os.unlink(entry.path)
-    return f"{path}.pgsub-{os.getpid()}"
-
-
-def is_alive(process: int) -> bool:
-    try:
-        os.kill(process, 0)
-    except ProcessLookupError:
-        return False
-    except OSError:
-        pass
-    return True
-
-
-def remove_files(path: str) -> None:
-    """Removes a file with what SQLite may have made beside it."""
-    for suffix in OF_FILE:
-        remove(path + suffix)

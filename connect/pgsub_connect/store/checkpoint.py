@@ -44,11 +44,11 @@ import time
 from typing import Any
 
 from pgsub_feed import log
+from pgsub_feed.errors import FileError, Passing, Unfit
+from pgsub_feed.interruption import Check, never
 from pgsub_feed.json_texts import GREATEST
 from pgsub_feed.texts import lsn_text
 
-from ..errors import FileError, Passing, Unfit
-from ..server.connection import Check, never
 from ..status.findings import Counted as Counted
 from .checkpoint_lines import NEW as NEW
 from .checkpoint_lines import SIZE as SIZE

@@ -27,6 +27,7 @@ import re
 import zlib
 from typing import Any, NamedTuple
 
+from pgsub_feed.errors import FileError
 from pgsub_feed.json_texts import (
     Unreadable,
     flag_of,
@@ -39,7 +40,6 @@ from pgsub_feed.json_texts import (
     whole_of,
 )
 
-from ..errors import FileError
 from ..status.findings import Counted
 
 VERSION, SIZE, OLD_SIZE = 2, 4096, 512

@@ -10,32 +10,33 @@
 from __future__ import annotations
 
 import contextlib
-import dataclasses
 import itertools
 import sqlite3
 from collections.abc import Callable, Collection, Iterable, Iterator, Mapping, Sequence
 from typing import TYPE_CHECKING
 
 from pgsub_feed import log
-from pgsub_feed.tables.names import OLD, POSITION, TABLES, name_columns, name_tables, names_of
-from pgsub_feed.tables.values import Malformed, Read, Unlike, Value, kind_of, read_row
+from pgsub_feed.errors import FileError, Passing, Stopped, Unfit
+from pgsub_feed.files import placed
+from pgsub_feed.interruption import Check
+from pgsub_feed.relation import Relation
+from pgsub_feed.tables.names import OLD, POSITION, TABLES, name_tables, names_of
+from pgsub_feed.tables.primary_keys import primary_key
+from pgsub_feed.tables.sqlite_files import EXPORT as APPLICATION
+from pgsub_feed.tables.sqlite_files import OLDEST, is_export
+from pgsub_feed.tables.target import NONE, Bound, Target, key_index, unlike_reason, with_columns
+from pgsub_feed.tables.values import Malformed, Unlike, read_row
 from pgsub_feed.texts import counted, identifier, lsn_text
 
-from ..drift.remembered import Relation, Remembered
-from ..errors import FileError, Passing, Stopped, Unfit
-from ..server.catalog import Column, Shape
-from ..server.connection import Check
+from ..drift.remembered import Remembered
 from .at_rest import at_rest, failed
-from .file import APPLICATION, check_store, choose, is_export, opened, read_position, read_relations
-from .placing import check_into, placed
-from .primary_key import primary_key
+from .file import check_store, choose, opened, read_position, read_relations
+from .placing import check_into
 
 if TYPE_CHECKING:
     from ..commands.options import Options
 
 
-# The first version of SQLite with STRICT tables and columns of type ANY.
-OLDEST = (3, 37, 0)
 # How much of the rows waits for being written, in bytes.
 ROOM = 1 << 20
 # What a row takes beside its bytes.
@@ -43,73 +44,6 @@ ROW = 200
 # How many copies of a row are written, and how many steps SQLite makes, until it is asked whether
 # to end.
 LOT, STEPS = 10000, 1_000_000
-# The column of a table that has none, since SQLite has no such tables.
-NONE = Column("pgsub_none", 25, -1, False)
-
-
-# A value as it is bound.
-Bound = Value | str
-
-
-def with_columns(relation: Relation) -> Relation:
-    """A relation as SQLite can have it: null in one column where the publisher's has none."""
-    if relation.shape.columns:
-        return relation
-    return dataclasses.replace(relation, shape=Shape(relation.shape.identity, (NONE,)))
-
-
-class Target:
-    """A table of the export. `primary`: the columns of its primary key, where its replica identity
-    is another."""
-
-    def __init__(
-        self, name: str, relation: Relation, is_text: bool, primary: Collection[str] = ()
-    ) -> None:
-        self.name, self.relation = name, relation
-        columns = relation.shape.columns
-        self.kinds: list[tuple[str, Read, Read]] = [kind_of(it, is_text) for it in columns]
-        self.columns = [identifier(it) for it in name_columns(it.name for it in columns)]
-        is_keyed = relation.shape.identity in ("d", "i")
-        told = primary or [it.name for it in columns if it.key and is_keyed]
-        self.key = [at for at, it in enumerate(columns) if it.name in told]
-        # whether the key is one of SQLite's
-        self.is_keyed = bool(self.key)
-        self.waiting: list[tuple[list[Bound], int]] = []
-        self.rows = 0
-
-    def text(self) -> str:
-        return self.relation.text()
-
-    def keys(self) -> str:
-        return ", ".join(self.columns[at] for at in self.key)
-
-    def definition(self) -> str:
-        parts = [
-            f"{column} {kind}"
-            for column, (kind, _, _) in zip(self.columns, self.kinds, strict=True)
-        ]
-        parts += [f"PRIMARY KEY ({self.keys()})"] if self.is_keyed else []
-        return f"CREATE TABLE {identifier(self.name)} ({', '.join(parts)}) STRICT"
-
-    def insertion(self) -> str:
-        # (a text comes as its bytes)
-        values = (
-            f"CAST(?{at} AS TEXT)" if kind == "TEXT" else f"?{at}"
-            for at, (kind, _, _) in enumerate(self.kinds, 1)
-        )
-        return f"INSERT INTO {identifier(self.name)} VALUES ({', '.join(values)})"
-
-    def row(self, values: list[Value]) -> list[Bound]:
-        """A row's values as SQLite takes them: what is no number in a column of floats is a
-        text."""
-        kinds = self.kinds
-        return [
-            it.decode() if isinstance(it, bytes) and kinds[at][0] == "ANY" else it
-            for at, it in enumerate(values)
-        ]
-
-    def has_null_key(self, values: list[Bound]) -> bool:
-        return self.is_keyed and any(values[at] is None for at in self.key)
 
 
 class Export:
@@ -139,7 +73,8 @@ class Export:
         stored = read_relations(self.store)
         relations = named(choose(stored, remembered, position), self.names)
         tables = remembered.catalog.tables if remembered.catalog else {}
-        keys = {it.oid: primary_key(tables.get(it.oid), it) for it in relations}
+        known = {oid: it.primary for oid, it in tables.items()}
+        keys = {it.oid: primary_key(known.get(it.oid, ()), it) for it in relations}
         self.begin(position, relations, keys)
         self.copy_rows(stored)
         self.into.execute("COMMIT")
@@ -255,20 +190,6 @@ def named(relations: list[Relation], names: Sequence[str]) -> list[Relation]:
 
 def unlike_text(relation: Relation, unlike: Unlike) -> str:
     return f"{relation.text()}: {unlike_reason(relation, unlike)}"
-
-
-def unlike_reason(relation: Relation, unlike: Unlike) -> str:
-    column = relation.shape.columns[unlike.index].name
-    shown = unlike.value[:100].decode(errors="backslashreplace")
-    return (
-        f"the column {column} has a value that isn't one of its type, {shown!r}: the type was altered,"
-        " and the server doesn't send what it made of the rows"
-    )
-
-
-def key_index(oid: int) -> str:
-    """The name of the index on the key of a table whose key can't be a primary key."""
-    return f"key of table {oid}"
 
 
 def repeated(rows: Iterable[tuple[list[Bound], int]], check: Check) -> Iterator[list[Bound]]:

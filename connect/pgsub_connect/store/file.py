@@ -10,15 +10,14 @@ import sqlite3
 import urllib.parse
 
 from pgsub_feed import log
+from pgsub_feed.errors import FileError
+from pgsub_feed.relation import Relation, Shape
+from pgsub_feed.tables.sqlite_files import is_export
 from pgsub_feed.tables.values import Malformed, read_columns
 
-from ..drift.remembered import Relation, Remembered
-from ..errors import FileError
-from ..server.catalog import Shape
+from ..drift.remembered import Remembered
 
 STORED = {"rel", "held", "pos"}
-# What tells an export from other files: the application of its head, `pgse`.
-MAGIC, APPLICATION, APPLICATION_AT = b"SQLite format 3\0", 0x70677365, 68
 
 
 def read_position(store: sqlite3.Connection) -> int:
@@ -113,15 +112,6 @@ def tables_in(path: str) -> set[str]:
 def is_store(path: str) -> bool:
     """Whether a file has the tables of a store."""
     return tables_in(path) == STORED
-
-
-def is_export(path: str) -> bool:
-    with open(path, "rb") as file:
-        head = file.read(100)
-    return (
-        head.startswith(MAGIC)
-        and int.from_bytes(head[APPLICATION_AT : APPLICATION_AT + 4], "big") == APPLICATION
-    )
 
 
 def check_store(path: str, told: str) -> None:

@@ -5,13 +5,13 @@ from __future__ import annotations
 
 import contextlib
 import os
-from collections.abc import Callable, Iterator, Sequence
+from collections.abc import Callable, Sequence
 
+from pgsub_feed.errors import FileError, UsageError
+from pgsub_feed.files import OF_FILE, meant
 from pgsub_feed.ownership import real
 
-from ..errors import FileError, UsageError
-from .at_rest import own_name, remove_files
-from .snapshot import COPYING, NEW, OF_FILE, meant, remove, sync_folder
+from .snapshot import COPYING, NEW
 
 # What follows a store's name in those of an initial copy's files.
 OF_COPY = (*(COPYING + it for it in OF_FILE), COPYING + NEW)
@@ -83,32 +83,3 @@ def check_into(
         raise FileError(
             f"{option} {into} is there and isn't {what}: remove it, or name another file"
         )
-
-
-@contextlib.contextmanager
-def placed(into: str, mode: int) -> Iterator[str]:
-    """Gives the name of a new empty file, which gets the name `into` and the mode at the end. A
-    link stays, and leads to it. An error leaves nothing of it."""
-    into = meant(into)
-    new = own_name(into)
-    try:
-        remove_files(new)
-        os.close(os.open(new, os.O_WRONLY | os.O_CREAT | os.O_EXCL | os.O_CLOEXEC, 0o600))
-        yield new
-        file = os.open(new, os.O_RDONLY | os.O_NOFOLLOW | os.O_CLOEXEC)
-        try:
-            os.fchmod(file, mode)
-            os.fsync(file)
-        finally:
-            os.close(file)
-        for suffix in OF_FILE[1:]:
-            remove(into + suffix)
-        os.replace(new, into)
-        sync_folder(into)
-    except OSError as error:
-        remove_files(new)
-        error.filename = error.filename or into
-        raise
-    except BaseException:
-        remove_files(new)
-        raise

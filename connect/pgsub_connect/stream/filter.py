@@ -10,9 +10,11 @@ import signal
 import subprocess
 from collections.abc import Sequence
 
+from pgsub_feed.errors import Passing
+from pgsub_feed.interruption import Check, never
+
 from .. import version
-from ..errors import FilterFault, Passing
-from ..server.connection import Check, never
+from ..errors import FilterFault
 from .awake import Awake
 from .filter_end import FilterEnded, Missing
 from .filter_input import PIECE, ROOM, FilterInput

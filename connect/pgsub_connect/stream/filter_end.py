@@ -5,6 +5,8 @@ from __future__ import annotations
 import re
 from typing import NamedTuple
 
+from pgsub_feed import errors
+from pgsub_feed.errors import Failure
 from pgsub_feed.texts import parse_lsn
 
 # The statuses with which a filter ends by itself, but for those of its words (2) and of a file that
@@ -20,7 +22,7 @@ MISSING = re.compile(
 )
 
 
-class FilterEnded(Exception):
+class FilterEnded(Failure):
     """The filter ended: with a status above 0 by a fault, below 0 by a signal."""
 
     def __init__(self, status: int, said: str) -> None:
@@ -37,6 +39,14 @@ class FilterEnded(Exception):
         """Whether the same would come of another try. A disk that is full, or too little memory,
         may pass."""
         return self.status > 0 and self.status not in (*PASSING, MISSED)
+
+    def exit_status(self) -> int:
+        if not self.is_rejection():
+            return errors.PASSING
+        return self.status if self.status in (errors.USAGE, errors.FILE) else errors.REJECTED
+
+    def told(self) -> str:
+        return f"stopped: {self}"
 
     def is_of_stream(self) -> bool:
         """Whether what was rejected is something that came, and not the words or the store."""

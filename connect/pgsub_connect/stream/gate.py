@@ -32,10 +32,12 @@ import time
 from collections.abc import Callable
 from typing import TYPE_CHECKING, Protocol
 
+from pgsub_feed.errors import Passing, Stopped, Unfit
+from pgsub_feed.interruption import Check
 from pgsub_feed.texts import parse_lsn
 
-from ..errors import NoSlot, Passing, ServerError, Stopped, Unfit, understood
-from ..server.connection import QUICK, Check, Connection
+from ..errors import NoSlot, ServerError, understood
+from ..server.connection import QUICK, Connection
 from ..status.progress import Progress
 from .hold import Hold
 

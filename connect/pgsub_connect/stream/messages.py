@@ -8,8 +8,7 @@ from __future__ import annotations
 
 import struct
 
-from ..drift.remembered import Relation
-from ..server.catalog import Column, Shape
+from pgsub_feed.relation import Column, Relation, Shape
 
 BEGIN, COMMIT, RELATION, TRUNCATE = b"BCRT"
 START, STOP, STREAM_COMMIT, ABORT = b"SEcA"

@@ -11,10 +11,18 @@ equal rows are to count twice.
 from __future__ import annotations
 
 import array
-import hashlib
-import struct
-from collections.abc import Iterable, Sequence
+from collections.abc import Sequence
 
+from pgsub_feed.tables.row_texts import (
+    CHUNK_WORD,
+    FIRST_WORD,
+    SECOND_WORD,
+    Field,
+    Fields,
+    hash_of,
+    text_of,
+    words_of,
+)
 from pgsub_feed.tables.values import BINARY, NULL, TEXT, Malformed
 from pgsub_feed.texts import identifier
 
@@ -25,13 +33,6 @@ ROWS, MOST_CHUNKS = 256, 1 << 16
 # The most arguments that are given to a function of the server; it takes 100.
 MOST_ARGUMENTS = 50
 UTF8 = "UTF8"
-# Where the words of a hash are: the chunk's and two that are added up.
-CHUNK_WORD, FIRST_WORD, SECOND_WORD = 4, 0, 1
-words_of = struct.Struct(">iiiii").unpack_from
-
-# A field's value, None for null.
-Field = bytes | None
-Fields = Sequence[Field]
 
 
 class NotText(Exception):
@@ -60,30 +61,6 @@ def fields_of(body: bytes, width: int) -> list[Field]:
     if at != size:
         raise Malformed
     return fields
-
-
-def text_of(fields: Iterable[Field]) -> bytes:
-    """The text of fields that tells them apart."""
-    return b"".join([b"n" if it is None else b"%d:%b" % (len(it), it) for it in fields])
-
-
-def fields_in(text: bytes) -> list[Field]:
-    """The fields of such a text."""
-    at, fields = 0, list[Field]()
-    while at < len(text):
-        if text[at] == NULL:
-            fields.append(None)
-            at += 1
-            continue
-        first = text.index(b":", at) + 1
-        at, length = first, int(text[at : first - 1])
-        fields.append(text[at : at + length])
-        at += length
-    return fields
-
-
-def hash_of(text: bytes) -> bytes:
-    return hashlib.sha256(text).digest()
 
 
 def chunks_for(rows: int) -> int:

@@ -13,28 +13,22 @@ import time
 from collections.abc import Iterable, Mapping
 from typing import TYPE_CHECKING
 
+from pgsub_feed.errors import Passing, Unfit
+from pgsub_feed.files import own_name, remove, remove_files
+from pgsub_feed.interruption import Check
 from pgsub_feed.tables.names import names_of
 from pgsub_feed.texts import lsn_text
 
 from ..copy.copier import CHANGED, SHORT, check_names, create_temporary
 from ..copy.table_reader import GONE, LOCK_TIMEOUT, lock_tables, take_snapshot
 from ..drift.remembered import Remembered
-from ..errors import Delayed, NoSlot, Passing, ServerError, Unfit, Unrepaired
-from ..server.connection import Check, Connection
+from ..errors import Delayed, NoSlot, ServerError, Unrepaired
+from ..server.connection import Connection
 from ..server.publications import Table, published_tables
 from ..server.session import identify, is_same_database, settle
 from ..server.waits import Waiting
-from ..store.at_rest import (
-    LOOK,
-    is_followed,
-    own_name,
-    put_request,
-    read_request,
-    remove_files,
-    wait_for_copy,
-)
+from ..store.at_rest import LOOK, is_followed, put_request, read_request, wait_for_copy
 from ..store.checkpoint_lines import FOLLOWING, Known
-from ..store.snapshot import remove
 from ..stream.hold import CHANGES, write_own_request
 from .unchanged import ALTERED, changed, locked, there
 

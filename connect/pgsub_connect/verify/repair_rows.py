@@ -26,11 +26,12 @@ from collections.abc import Iterator
 
 from pgsub_feed import log
 from pgsub_feed.ownership import give
+from pgsub_feed.tables.row_texts import fields_in
 from pgsub_feed.texts import counted
 
 from ..copy.messages import delete, insert, relation, update
 from ..server.publications import Table
-from .digests import Plan, Sums, fields_in
+from .digests import Plan, Sums
 from .sides import Group, Sides
 
 # A table is copied anew where more than one row in so many differs, but for so few.

@@ -12,15 +12,17 @@ import itertools
 from collections.abc import Iterable, Iterator
 from typing import Protocol
 
+from pgsub_feed.errors import Unfit
+from pgsub_feed.interruption import Check
+from pgsub_feed.relation import Relation
+from pgsub_feed.tables.row_texts import fields_in, text_of
 from pgsub_feed.texts import lsn_text
 
 from ..copy.messages import unescaped
-from ..drift.remembered import Relation
-from ..errors import Unfit, understood
-from ..server.connection import Check
+from ..errors import understood
 from ..server.publications import Table, estimated_rows
 from ..store.file import check_store, opened, read_position, read_relations
-from .digests import Plan, Queries, Summing, Sums, chunks_for, fields_in, fields_of, text_of
+from .digests import Plan, Queries, Summing, Sums, chunks_for, fields_of
 from .meeting_point import Source
 
 # How many bytes of rows are read at a time, and after how many rows it is looked whether the end

@@ -29,13 +29,15 @@ from collections.abc import Callable, Iterator, Sequence
 from typing import TYPE_CHECKING
 
 from pgsub_feed import log
+from pgsub_feed.errors import FileError, Passing, Stopped, Unfit
+from pgsub_feed.interruption import Check
 from pgsub_feed.reader.commits import Head
 from pgsub_feed.reader.segments import read_source
 from pgsub_feed.reader.trail import Trail
-from pgsub_feed.tables.file import full_name
-from pgsub_feed.tables.first_rows import is_tables
+from pgsub_feed.relation import Relation
+from pgsub_feed.tables.schema import full_name
 from pgsub_feed.tables.set_aside import cure, store_at
-from pgsub_feed.tables.view import View, check_tables
+from pgsub_feed.tables.sqlite_files import is_tables
 from pgsub_feed.texts import counted, lsn_text
 
 from ..commands.drop import read_known
@@ -51,15 +53,14 @@ from ..commands.verify import (
     tell_left,
 )
 from ..commands.wait import LOOK, read_file
-from ..drift.remembered import Relation, Remembered
-from ..errors import FileError, Passing, Stopped, Unfit
-from ..server.connection import Check
+from ..drift.remembered import Remembered
 from ..server.publication_setup import names_of
 from ..server.publications import Column, Table
 from ..store.checkpoint_lines import FOLLOWING, Known
 from .digests import Plan, Sums, chunks_for
 from .meeting_point import Source, chosen
 from .sides import Difference, Sides, differing
+from .view import View, check_tables
 
 if TYPE_CHECKING:
     from ..commands.options import Options

@@ -10,12 +10,11 @@ from __future__ import annotations
 
 from collections.abc import Callable, Iterator
 
-from pgsub_connect.drift.remembered import Relation
-from pgsub_connect.errors import Unfit
-
 from .. import log
+from ..errors import Unfit
 from ..reader.commits import Change, Commit
 from ..reader.segments import Reader
+from ..relation import Relation
 from ..texts import lsn_text
 from .keys import index_text, key_of, row_text
 from .lines import Objects, Row, compact

@@ -17,9 +17,8 @@ from __future__ import annotations
 import string
 from collections.abc import Sequence
 
-from pgsub_connect.drift.remembered import Relation
-
 from ..reader.commits import Cell
+from ..relation import Relation
 
 NULL = "%null"
 VALUE = str.maketrans({"%": "%25", ":": "%3A"})

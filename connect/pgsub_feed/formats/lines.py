@@ -19,12 +19,11 @@ import re
 from collections.abc import Callable, Iterable, Iterator
 from typing import Any
 
-from pgsub_connect.drift.remembered import Relation
-from pgsub_connect.errors import Unfit
-
 from .. import log
-from ..reader.commits import UNSENT, Cell, Change, Commit, Head, Missed, TableLine, Unsent
+from ..errors import Unfit
+from ..reader.commits import Cell, Change, Commit, Head, Missed, TableLine, Unsent
 from ..reader.segments import Reader
+from ..relation import Relation
 from ..tables.table import Valued
 from ..tables.values import BOOL, BYTEA
 
@@ -125,21 +124,10 @@ class ByName(Objects):
             else:
                 told |= {
                     "sent": it.sent,
-                    "old": self.row(relation, old_cells(it)),
+                    "old": self.row(relation, it.old_cells()),
                     "new": self.row(relation, it.new),
                 }
             yield compact(told)
-
-
-def old_cells(it: Missed) -> list[Cell | Unsent] | None:
-    """The old tuple of a change that found no row; of a key, the columns that aren't in it weren't
-    sent."""
-    if it.old is None or it.kind != "K":
-        return it.old
-    return [
-        cell if column.key else UNSENT
-        for column, cell in zip(it.relation.shape.columns, it.old, strict=True)
-    ]
 
 
 class Debezium(Objects):

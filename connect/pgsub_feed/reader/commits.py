@@ -5,8 +5,7 @@ from __future__ import annotations
 import dataclasses
 from typing import NamedTuple
 
-from pgsub_connect.drift.remembered import Relation
-
+from ..relation import Relation
 from ..texts import lsn_text
 
 
@@ -18,6 +17,9 @@ class Unsent:
 
 
 UNSENT = Unsent()
+# The xid of a commit that the follower has made of an added or repaired table's rows:
+# FrozenTransactionId.
+XID = 2
 # A text, a binary value, or null.
 Cell = str | bytes | None
 Cells = list[Cell]
@@ -100,6 +102,13 @@ class Missed(NamedTuple):
     kind: str
     old: list[Cell | Unsent] | None
     new: list[Cell | Unsent] | None
+
+    def old_cells(self) -> list[Cell | Unsent] | None:
+        """The old tuple; of a key, the columns that aren't in it weren't sent."""
+        if self.old is None or self.kind != "K":
+            return self.old
+        pairs = zip(self.relation.shape.columns, self.old, strict=True)
+        return [cell if column.key else UNSENT for column, cell in pairs]
 
 
 Part = TableLine | Change | Missed

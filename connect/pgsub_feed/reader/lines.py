@@ -8,10 +8,8 @@ import re
 from collections.abc import Callable, Iterator, Sequence
 from typing import Any
 
-from pgsub_connect.drift.remembered import Relation
-from pgsub_connect.server.catalog import Column, Shape
-
 from ..faults import COUNTS, LINE, UNDESCRIBED, WIDTH, Damaged
+from ..relation import Column, Relation, Shape
 from ..texts import parse_lsn
 from .commits import UNSENT, Cells, Change, Closing, Commit, Head, Missed, Part, TableLine, Unsent
 

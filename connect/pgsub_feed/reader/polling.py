@@ -5,10 +5,9 @@ from __future__ import annotations
 import time
 from collections.abc import Iterator
 
-from pgsub_connect.errors import Unfit
-from pgsub_connect.server.connection import Check
-
+from ..errors import Unfit
 from ..faults import Damaged
+from ..interruption import Check
 from .commits import Commit
 from .segments import Reader
 

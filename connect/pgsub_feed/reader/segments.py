@@ -18,12 +18,10 @@ import re
 import time
 from collections.abc import Iterator
 
-from pgsub_connect.add.replacement import XID
-from pgsub_connect.errors import FileError, Unfit
-
+from ..errors import FileError, Unfit
 from ..faults import COMMIT_LINE, COUNTS, NOT_A_FEED, ORDER, OTHER_FEED, Damaged
 from ..texts import lsn_text, parse_lsn
-from .commits import Closing, Commit, Cursor, Head, Part
+from .commits import XID, Closing, Commit, Cursor, Head, Part
 from .lines import COMMIT_SIZE, HEAD_SIZE, Decoder, read_commit, read_head, shown
 
 NAME = re.compile(r"[0-9A-Fa-f]{16}")
@@ -200,6 +198,11 @@ class Reader:
                     f"{self.folder}: the segment that begins at {lsn_text(cursor.segment)} is gone"
                 )
         self.offset, self.last, self.at = cursor.offset, cursor.at, cursor.at
+
+    def go_back(self, at: int) -> None:
+        """Goes back to an LSN, where a commit ends."""
+        self.close()
+        self.at = at
 
     def next(self) -> Commit | None:
         """The next commit, None where there is none yet. What it has, `parts` reads.

@@ -9,12 +9,10 @@ from __future__ import annotations
 from collections.abc import Collection, Iterator
 from typing import NamedTuple
 
-from pgsub_connect.add.replacement import XID
-from pgsub_connect.drift.remembered import Relation
-from pgsub_connect.errors import Passing, Unfit
-
+from ..errors import Passing, Unfit
+from ..relation import Relation
 from ..texts import lsn_text
-from .commits import Cells, Change, Commit, Cursor
+from .commits import XID, Cells, Change, Commit, Cursor
 from .segments import Reader, read_confirmed, segments
 
 

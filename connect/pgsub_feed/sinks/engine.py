@@ -3,14 +3,12 @@
 from __future__ import annotations
 
 import dataclasses
-from collections.abc import Callable, Iterable
+from collections.abc import Callable
 from typing import Protocol
 
-from ..reader.commits import Commit, Head, Part
+from ..reader.commits import Head
+from ..reader.following import Keeper
 from .first_rows import Base
-
-# Reads a commit's lines, from the first one on each time.
-Read = Callable[[], Iterable[Part]]
 
 
 @dataclasses.dataclass(frozen=True)
@@ -30,11 +28,8 @@ class Wanted:
         return f"{', '.join(self.chosen) or 'all tables'} of {self.head.text()}"
 
 
-class Engine(Protocol):
-    """Keeps commits. `at` is the LSN up to which all are there: those after it that were taken
-    aren't, until `settle`."""
-
-    at: int
+class Engine(Keeper, Protocol):
+    """Keeps commits, and is told first what it is to keep."""
 
     def open(self, wanted: Wanted) -> bool:
         """Looks at what is there; whether that is something that can be gone on with. An Unfit says
@@ -43,29 +38,13 @@ class Engine(Protocol):
     def begin(self, base: Base) -> None:
         """Begins anew, with the rows of a base."""
 
-    def take(self, commit: Commit, read: Read) -> None:
-        """Takes a commit. It may be settled at once. A Damaged leaves it out."""
-
-    def settle(self) -> None:
-        """Has all that was taken."""
-
-    def forget(self) -> None:
-        """Forgets what was taken since it was settled."""
-
     def finish(self, seconds: float) -> bool:
         """Has what was taken, where that takes no longer. Returns whether so. Nothing is taken
         afterwards."""
 
-    def look(self) -> None:
-        """Looks, while there is nothing to take, whether it can go on."""
-
     def check_disk(self) -> None:
         """Rejects settings under which it is never known what the engine's disk has. It alters
         nothing."""
-
-    def safe(self) -> int | None:
-        """An LSN whose rows the engine has even if it is lost just now and comes back from its
-        disk; None where that isn't known."""
 
     def close(self) -> None:
         """Ends the connection."""

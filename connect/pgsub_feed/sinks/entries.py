@@ -7,10 +7,8 @@ import json
 from collections.abc import Sequence
 from typing import Optional
 
-from pgsub_connect.drift.remembered import Relation
-
-from ..formats.lines import old_cells
 from ..reader.commits import Cell, Cells, Change, Missed, Unsent
+from ..relation import Relation
 
 # The op of a row that was there before the first commit.
 BASE = "r"
@@ -36,7 +34,7 @@ def entry(it: Change | Missed) -> dict[str, str]:
     """What is told of a change, each value a text in JSON but for `op`."""
     rows: dict[str, Optional[Sequence[Cell | Unsent]]]
     if isinstance(it, Missed):
-        told, rows = {"op": "x", "sent": f'"{it.sent}"'}, {"old": old_cells(it), "new": it.new}
+        told, rows = {"op": "x", "sent": f'"{it.sent}"'}, {"old": it.old_cells(), "new": it.new}
     else:
         told, rows = {"op": it.op}, {"before": it.before, "after": it.after}
     return {

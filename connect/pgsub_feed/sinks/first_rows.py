@@ -3,28 +3,21 @@
 from __future__ import annotations
 
 import contextlib
-import dataclasses
 import os
 import sqlite3
 from collections.abc import Iterator
-from typing import TYPE_CHECKING
 
-from pgsub_connect.drift.remembered import Relation
-from pgsub_connect.errors import FileError, Unfit
-from pgsub_connect.server.connection import Check
-from pgsub_connect.store.at_rest import own_name
-from pgsub_connect.store.export import run as export
-from pgsub_connect.store.file import is_export
-from pgsub_connect.store.snapshot import remove
-
+from ..errors import FileError, Unfit
+from ..files import own_name, remove
+from ..interruption import Check
 from ..reader.commits import Cells
-from ..tables.file import unlisted
-from ..tables.first_rows import check_begin, opened
+from ..reader.reading import Reading
+from ..relation import Relation
+from ..tables.first_rows import check_begin
 from ..tables.names import POSITION, TABLES, names_of, told_columns
+from ..tables.schema import unlisted
+from ..tables.sqlite_files import is_export, opened
 from ..texts import identifier, parse_lsn
-
-if TYPE_CHECKING:
-    from pgsub_connect.commands.options import Options
 
 
 class Base:
@@ -82,22 +75,22 @@ class Exported(Base):
 
 
 @contextlib.contextmanager
-def base_of(options: Options, chosen: tuple[str, ...], check: Check) -> Iterator[Base]:
+def base_of(reading: Reading, check: Check) -> Iterator[Base]:
     """What a sink begins with: an export that is named or asked for, or nothing, where that is what
     its feed begins with."""
-    if options.base:
-        with exported(options.base, chosen) as found:
+    if reading.base:
+        with exported(reading.base, reading.chosen) as found:
             yield found
-    elif options.store:
-        path = own_name(options.store + ".base")
+    elif reading.store:
+        path = own_name(reading.store.path + ".base")
         try:
-            export(dataclasses.replace(options, command="export", text=True, into=path), check)
-            with exported(path, chosen) as found:
+            reading.store.export(path, True, reading.chosen, check)
+            with exported(path, reading.chosen) as found:
                 yield found
         finally:
             remove(path)
     else:
-        check_begin(options, check)
+        check_begin(reading, check)
         yield Base()
 
 

@@ -13,8 +13,7 @@ import time
 from collections.abc import Iterator
 from typing import Any
 
-from pgsub_connect.errors import EngineError, Passing, TooLarge
-
+from ..errors import EngineError, Passing, TooLarge
 from ..json_texts import Unreadable, list_of, object_of, text_of, whole_of
 from ..texts import shortened
 from .nats_wire import Message, Wire, header_bytes, read_headers

@@ -14,15 +14,15 @@ import time
 from collections.abc import Iterable, Iterator
 from typing import Any
 
-from pgsub_connect.errors import Passing, Stopped, TooLarge, Unfit
-from pgsub_connect.server.connection import Check
-
 from .. import log
+from ..errors import Passing, Stopped, TooLarge, Unfit
 from ..faults import Damaged
+from ..interruption import Check
 from ..reader.commits import Commit, TableLine
+from ..reader.following import Read
 from ..tables.names import names_of
 from ..texts import lsn_text, shortened
-from .engine import Read, Wanted
+from .engine import Wanted
 from .first_rows import Base
 from .jetstream import Info, JetStream, Stored
 from .nats_messages import (

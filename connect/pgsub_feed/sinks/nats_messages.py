@@ -18,11 +18,10 @@ import re
 from collections.abc import Iterator
 from typing import Any, NamedTuple
 
-from pgsub_connect.drift.remembered import Relation
-
 from ..formats.keys import subject
 from ..json_texts import Unreadable, lsn_of, object_of, parsed, whole_of
 from ..reader.commits import Cells, Change, Commit, Missed
+from ..relation import Relation
 from ..texts import lsn_text, parse_lsn
 from .entries import base_entry, compact, entry
 

@@ -22,10 +22,9 @@ import time
 import urllib.parse
 from typing import Any
 
-from pgsub_connect.errors import EngineError, Passing, UsageError
-from pgsub_connect.server.connection import Check, never
-
 from .. import log
+from ..errors import EngineError, Passing, UsageError
+from ..interruption import Check, never
 from ..json_texts import Unreadable, object_of, parsed, whole_of
 from ..texts import shortened
 from .connecting import BUSY, connected, encrypted, is_loopback, is_ready

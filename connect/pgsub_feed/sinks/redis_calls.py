@@ -8,11 +8,9 @@ import urllib.parse
 from collections.abc import Callable, Iterator, Sequence
 from typing import Any, Protocol, Union
 
-from pgsub_connect.errors import EngineError, FileError, Passing, Stopped, UsageError
-from pgsub_connect.server.connection import Check, never
-
 from .. import log
-from ..interruption import interruptible
+from ..errors import EngineError, FileError, Passing, Stopped, UsageError
+from ..interruption import Check, interruptible, never
 from ..texts import shortened
 from .connecting import addresses, is_loopback
 

@@ -7,9 +7,8 @@ import time
 from collections.abc import Iterable
 from typing import Any
 
-from pgsub_connect.errors import EngineError
-
 from .. import log
+from ..errors import EngineError
 from .reached import Trail
 from .redis_calls import Calls, Said, understood
 

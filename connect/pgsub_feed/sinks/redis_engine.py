@@ -23,14 +23,13 @@ import time
 from collections.abc import Iterable, Iterator, Sequence
 from typing import Any, Optional, Protocol
 
-from pgsub_connect.errors import EngineError, Passing, Stopped, Unfit
-from pgsub_connect.server.connection import Check, never
-
-from ..interruption import at_most
+from ..errors import EngineError, Passing, Stopped, Unfit
+from ..interruption import Check, at_most, never
 from ..json_texts import list_of, parsed, text_of
 from ..reader.commits import Cells, Change, Commit, Missed, TableLine
+from ..reader.following import Read
 from ..texts import lsn_text, parse_lsn, shortened
-from .engine import Read, Wanted
+from .engine import Wanted
 from .first_rows import Base
 from .redis_calls import Calls, Command, Said, raised, understood
 from .redis_disk import Disk

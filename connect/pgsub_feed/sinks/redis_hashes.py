@@ -12,10 +12,9 @@ import re
 from collections.abc import Iterable, Iterator, Sequence
 from typing import Union
 
-from pgsub_connect.errors import Unfit
-from pgsub_connect.server.connection import Check
-
+from ..errors import Unfit
 from ..formats.keys import NULL, row_text
+from ..interruption import Check
 from ..reader.commits import Cell, Cells, Change, Missed
 from .redis_calls import Calls, Command, Said, raised, understood
 from .relations import Kept

@@ -5,8 +5,7 @@ from __future__ import annotations
 
 from collections.abc import Iterable, Iterator
 
-from pgsub_connect.errors import Unfit
-
+from ..errors import Unfit
 from ..reader.commits import Cells, Change, Missed
 from .entries import base_entry, entry
 from .redis_calls import Calls, Command, Said, raised, understood

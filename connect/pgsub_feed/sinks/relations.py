@@ -12,15 +12,14 @@ import functools
 import json
 from typing import Any, Protocol
 
-from pgsub_connect.drift.remembered import Relation
-from pgsub_connect.errors import Unfit
-
 from .. import log
+from ..errors import Unfit
 from ..formats.keys import key_of, table_text
 from ..json_texts import object_of, oid_of, parsed, text_of
 from ..reader.lines import read_relation
-from ..tables.file import relation_text
+from ..relation import Relation
 from ..tables.names import names_of
+from ..tables.schema import relation_text
 
 ASIDE = "pgsub:old:"
 # A table whose name is what the engine's own keys begin with.

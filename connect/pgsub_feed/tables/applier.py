@@ -6,15 +6,13 @@ import itertools
 import sqlite3
 from collections.abc import Iterable, Sequence
 
-from pgsub_connect.add.replacement import XID
-from pgsub_connect.drift.remembered import Relation
-from pgsub_connect.server.connection import Check
-from pgsub_connect.store.export import Bound
-
-from ..reader.commits import Change, Commit, Part, TableLine
+from ..interruption import Check
+from ..reader.commits import XID, Change, Commit, Part, TableLine
+from ..relation import Relation
 from .file import Rows
 from .set_aside import CANT_KEEP, Unkept, is_of_table, reason
 from .table import Kept
+from .target import Bound
 
 # How many changes of one table are made at once.
 MOST = 1000

@@ -1,8 +1,8 @@
 """The digests of tables that follow a feed: of each how many rows it has, and two sums of words of
 their hashes, as of the file's LSN.
 
-They are those that the module `pgsub_connect.verify.digests` has of a table with one chunk, so a
-server computes the same over a snapshot, and two files are compared by them. They are changed with
+They are those that `pgsub-connect verify` has of a table with one chunk, so a server computes the
+same over a snapshot, and two files are compared by them. They are changed with
 each image, in the transaction that changes the rows: `pgsub_digests` has by `oid` those of each
 table whose definition was told. A file with this table has another version, so that no program goes
 on with it that leaves them as they are. Rows that get another shape are added up anew.
@@ -15,12 +15,11 @@ import sqlite3
 from collections.abc import Iterable, Sequence
 from typing import NamedTuple, cast
 
-from pgsub_connect.store.export import Bound
-from pgsub_connect.verify.digests import FIRST_WORD, SECOND_WORD, Field, hash_of, text_of, words_of
-
 from ..reader.commits import Cells, Change
 from .printed import Fields
+from .row_texts import FIRST_WORD, SECOND_WORD, Field, hash_of, text_of, words_of
 from .table import Kept, Valued
+from .target import Bound
 
 DIGESTS = "pgsub_digests"
 # The version of a file with digests.

@@ -1,105 +1,49 @@
-"""A file of tables that follows a feed.
-
-| Table | Has |
-|---|---|
-| `pgsub_position` | `lsn`, the end of the last commit whose changes are in it |
-| `pgsub_tables` | by `name`, that of a table here: `schema`, `table` and `oid` of the publisher's |
-| `pgsub_relations` | by `oid` the definition that was told last, as in the feed, and the table here, null of one that wasn't chosen, or is set aside |
-| `pgsub_feed` | the folder of the feed, what it is a feed of, and the tables that were chosen |
-| `pgsub_aside` | by `oid` the tables that are set aside, as the module `tables.set_aside` says |
-| `pgsub_digests` | where that was asked for, by `oid` a digest of the table's rows, as the module `tables.digests` says |
-| any other | the rows of one of the publisher's tables |
-
-Where another table got the name of one, the older one's rows are in `pgsub_old OID`: it may come
-back under another name.
-"""
+"""A file of tables that follows a feed, as the module `schema` describes it."""
 
 from __future__ import annotations
 
 import json
 import sqlite3
 
-from pgsub_connect.drift.remembered import Relation
-from pgsub_connect.errors import FileError, Passing, Unfit
-from pgsub_connect.server.catalog import Column, Shape
-from pgsub_connect.store.export import NONE, key_index
-
 from .. import log
+from ..errors import FileError, Passing, Unfit
 from ..reader.commits import Head
 from ..reader.lines import read_relation
+from ..relation import Relation
 from ..texts import identifier, lsn_text, parse_lsn
 from .digests import FORMAT as WITH_DIGESTS
 from .digests import SCHEMA as DIGESTS_SCHEMA
 from .digests import Digests, has_digests
 from .names import OLD, POSITION, TABLES, distinct_name, folded, names_of, told_columns
-from .primary_keys import Keys, inherited, primary_in
+from .primary_keys import Keys, Known, inherited, primary_in
 from .reshape import LOOSE, carry, loosen, sources
+from .schema import (
+    FEED,
+    FORMAT,
+    RELATIONS,
+    full_name,
+    path_bytes,
+    read_folder,
+    relation_text,
+    unlisted,
+)
 from .set_aside import CANT_KEEP, Asides, Unkept, is_of_table, nested, reason
 from .table import IS_MINUS_ZERO, Kept, is_minus_zero, rows_index
+from .target import key_index
 from .user_sql import Init
 
-APPLICATION, FORMAT = 0x70677374, 1
-RELATIONS, FEED = "pgsub_relations", "pgsub_feed"
 # What the name of an older table begins with whose name another one got.
 OLDER = OLD + " "
 # How long to wait for others that write the file or read it, in seconds.
 BUSY = 60.0
-# A type for each kind of column, of a table whose definition isn't known.
-TYPES = {"INTEGER": 20, "BLOB": 17, "ANY": 701}
-SCHEMA = (
-    f"CREATE TABLE {POSITION} (lsn TEXT NOT NULL) STRICT",
-    f'CREATE TABLE {TABLES} (name TEXT PRIMARY KEY, schema TEXT NOT NULL, "table" TEXT NOT NULL, oid INTEGER NOT NULL) STRICT',
-    f"INSERT INTO {POSITION} VALUES ('0/0')",
-)
-MORE = (
-    f"CREATE TABLE {RELATIONS} (oid INTEGER PRIMARY KEY, name TEXT, definition TEXT) STRICT",
-    f"CREATE TABLE {FEED} (folder TEXT NOT NULL, system TEXT, database TEXT, slot TEXT, chosen TEXT NOT NULL) STRICT",
-    f"PRAGMA application_id = {APPLICATION}",
-    f"PRAGMA user_version = {FORMAT}",
-)
-
-
-def relation_text(it: Relation) -> str:
-    """A definition as the feed has it."""
-    columns = [[column.name, column.type_oid, column.modifier] for column in it.shape.columns]
-    key = [column.name for column in it.shape.columns if column.key] or None
-    told = {
-        "oid": it.oid,
-        "schema": it.namespace,
-        "table": it.name,
-        "identity": it.shape.identity,
-        "key": key,
-        "columns": columns,
-    }
-    return json.dumps(told, ensure_ascii=False, separators=(",", ":"))
-
-
-def full_name(relation: Relation) -> tuple[str, str]:
-    return relation.namespace or "pg_catalog", relation.name
-
-
-def unlisted(db: sqlite3.Connection, name: str, schema: str, table: str, oid: int) -> Relation:
-    """What is known of a table of an export."""
-    info = db.execute("SELECT name, type, pk FROM pragma_table_info(?)", (name,)).fetchall()
-    if [column for column, _, _ in info] == [NONE.name]:
-        info = []
-    indexed = {
-        column
-        for (column,) in db.execute("SELECT name FROM pragma_index_info(?)", (key_index(oid),))
-    }
-    keys = {column for column, _, at in info if at} or indexed
-    columns = tuple(
-        Column(column, TYPES.get(kind, 25), -1, column in keys) for column, kind, _ in info
-    )
-    return Relation(oid, schema, table, Shape("d" if keys else "f", columns))
 
 
 class Rows:
     """The file, open for writing. All that is done to it is in a transaction, which `settle`
     commits with an LSN."""
 
-    def __init__(self, path: str, init: Init | None = None, store: str = "") -> None:
-        self.path, self.init, self.keys = path, init, Keys(store)
+    def __init__(self, path: str, init: Init | None = None, known: Known | None = None) -> None:
+        self.path, self.init, self.keys = path, init, Keys(known)
         self.db = sqlite3.connect(path, timeout=BUSY, isolation_level=None, cached_statements=2000)
         self.asides = Asides(self.db, path)
         try:
@@ -432,19 +376,15 @@ class Rows:
             (kept.oid, kept.name, relation_text(relation)),
         )
 
+    def run_init(self) -> None:
+        """Runs it in a transaction of its own."""
+        self.begin()
+        self.is_init_due = True
+        self.initialize()
+        self.settle(self.at)
+
     def initialize(self) -> None:
         """Runs what the user wants to have run after a table was made or altered."""
         if self.is_init_due and self.init:
             self.init.run(self.db)
         self.is_init_due = False
-
-
-def path_bytes(path: str) -> bytes:
-    """A path for SQLite, which takes no text for one that is no UTF-8."""
-    return path.encode(errors="surrogateescape")
-
-
-def read_folder(db: sqlite3.Connection) -> str:
-    """The folder of the feed."""
-    folder: bytes = db.execute(f"SELECT CAST(folder AS BLOB) FROM {FEED}").fetchone()[0]
-    return folder.decode(errors="surrogateescape")

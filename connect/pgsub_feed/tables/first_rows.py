@@ -3,48 +3,24 @@
 from __future__ import annotations
 
 import contextlib
-import dataclasses
 import json
 import os
 import sqlite3
-import urllib.parse
 from collections.abc import Iterable, Iterator
-from typing import TYPE_CHECKING
 
-from pgsub_connect.errors import FileError, Passing, Unfit
-from pgsub_connect.server.connection import Check
-from pgsub_connect.store.at_rest import is_followed, own_name
-from pgsub_connect.store.export import run as export
-from pgsub_connect.store.file import APPLICATION_AT, MAGIC, is_export
-from pgsub_connect.store.placing import placed
-from pgsub_connect.store.snapshot import copy, remove
-
+from ..errors import FileError, Passing, Unfit
+from ..files import copy, own_name, placed, remove
+from ..interruption import Check
 from ..ownership import real
+from ..reader.commits import Head
 from ..reader.polling import Poll
 from ..reader.positions import Noted
+from ..reader.reading import Reading
 from ..reader.segments import Reader, read_confirmed, segments
 from ..texts import identifier, lsn_text, parse_lsn
-from .file import APPLICATION, FEED, MORE, RELATIONS, SCHEMA, path_bytes
 from .names import POSITION, TABLES, names_of
-
-if TYPE_CHECKING:
-    from pgsub_connect.commands.options import Options
-
-
-def is_tables(path: str) -> bool:
-    """Whether a file is one of tables that follow a feed."""
-    with open(path, "rb") as file:
-        head = file.read(100)
-    return (
-        head.startswith(MAGIC)
-        and int.from_bytes(head[APPLICATION_AT : APPLICATION_AT + 4], "big") == APPLICATION
-    )
-
-
-def opened(path: str) -> sqlite3.Connection:
-    """Opens a file of tables for reading."""
-    name = f"file:{urllib.parse.quote(os.fsencode(os.path.abspath(path)))}?mode=ro"
-    return sqlite3.connect(name, uri=True, timeout=10.0, isolation_level=None)
+from .schema import FEED, MORE, RELATIONS, SCHEMA, path_bytes
+from .sqlite_files import is_export, is_tables, opened
 
 
 def check_file(path: str) -> None:
@@ -59,16 +35,16 @@ def check_file(path: str) -> None:
 
 
 @contextlib.contextmanager
-def keeping(options: Options) -> Iterator[None]:
+def keeping(reading: Reading) -> Iterator[None]:
     """Keeps the segments that a new reader with a name needs, while its first rows are made. Where
     that fails its name goes again."""
-    bases = [base for base, _ in segments(options.feed)] if options.reader else []
-    if not options.reader or not bases:
+    bases = [base for base, _ in segments(reading.feed)] if reading.name else []
+    if not reading.name or not bases:
         yield
         return
-    at, noted = begins_at(options), Noted(options.feed, options.reader, None, options.mode)
+    at, noted = begins_at(reading), Noted(reading.feed, reading.name, None, reading.mode)
     # (the rows may be taken back from there)
-    at = at if options.at is None else min(at, options.at)
+    at = at if reading.until is None else min(at, reading.until)
     was_there = os.path.exists(noted.path)
     noted.note(max((it for it in bases if it <= at), default=bases[0]), is_last=True)
     try:
@@ -79,40 +55,41 @@ def keeping(options: Options) -> Iterator[None]:
         raise
 
 
-def begins_at(options: Options) -> int:
+def begins_at(reading: Reading) -> int:
     """An LSN that a new reader's first rows aren't below, 0 where none is known."""
-    if options.base:
+    if reading.base:
         with contextlib.suppress(OSError, sqlite3.Error, TypeError, ValueError), contextlib.closing(
-            opened(options.base)
+            opened(reading.base)
         ) as db:
             return parse_lsn(db.execute(f"SELECT lsn FROM {POSITION}").fetchone()[0])
         return 0
     # (the copy that a follower makes has all that is confirmed)
-    return read_confirmed(options.feed) or 0 if options.store and is_followed(options.store) else 0
+    is_followed = reading.store is not None and reading.store.is_followed()
+    return read_confirmed(reading.feed) or 0 if is_followed else 0
 
 
-def make(options: Options, check: Check) -> None:
+def make(into: str, reading: Reading, check: Check) -> None:
     """Makes the file."""
-    if options.base:
-        make_from(options.base, options, check)
-    elif options.store:
-        base = own_name(options.into + ".base")
+    if reading.base:
+        make_from(reading.base, into, reading, check)
+    elif reading.store:
+        base = own_name(into + ".base")
         try:
-            export(dataclasses.replace(options, command="export", into=base, table=[]), check)
-            make_from(base, options, check)
+            reading.store.export(base, False, (), check)
+            make_from(base, into, reading, check)
         finally:
             remove(base)
     else:
-        check_begin(options, check)
-        make_from(None, options, check)
+        check_begin(reading, check)
+        make_from(None, into, reading, check)
 
 
-def make_from(base: str | None, options: Options, check: Check) -> None:
+def make_from(base: str | None, into: str, reading: Reading, check: Check) -> None:
     """Makes the file with the rows of another one, or empty."""
-    folder = os.path.abspath(options.feed)
+    folder = os.path.abspath(reading.feed)
     if base and not (os.path.isfile(base) and (is_export(base) or is_tables(base))):
         raise FileError(f"--base {base}: it is no export, nor a file of tables that follow a feed")
-    with placed(options.into, options.mode) as new:
+    with placed(into, reading.mode) as new:
         if base and is_tables(base):
             clone(base, new)
             return
@@ -120,7 +97,7 @@ def make_from(base: str | None, options: Options, check: Check) -> None:
             remove(new)
             copy(base, new, 0o600, check)
         with contextlib.closing(sqlite3.connect(new, isolation_level=None)) as db:
-            prepare(db, folder, options.table, bool(base))
+            prepare(db, folder, reading.chosen, bool(base))
 
 
 def prepare(db: sqlite3.Connection, folder: str, chosen: Iterable[str], is_base: bool) -> None:
@@ -152,16 +129,21 @@ def clone(base: str, new: str) -> None:
         db.execute("PRAGMA journal_mode = DELETE")
 
 
-def check_begin(options: Options, check: Check) -> None:
-    """Waits for the feed's first segment, which has to be that of a copy that was empty."""
-    with contextlib.closing(Reader(options.feed)) as reader:
-        poll = Poll(reader, not options.once, check)
-        while poll.next() is None and reader.segment is None and not options.once:
+def head_of(reading: Reading, check: Check) -> Head:
+    """The head of the feed's first segment, which is waited for where it follows."""
+    with contextlib.closing(Reader(reading.feed)) as reader:
+        poll = Poll(reader, reading.follows, check)
+        while poll.next() is None and reader.head is None and reading.follows:
             poll.rest()
-        if reader.segment is None:
-            raise Passing(f"{options.feed}: the feed has no segment yet")
-        if reader.segment.base:
-            raise Unfit(
-                f"{options.feed}: the feed begins at {lsn_text(reader.segment.base)}, and there may be rows from before: name the store"
-                " by --store, or an export since then by --base"
-            )
+        if reader.head is None:
+            raise Passing(f"{reading.feed}: the feed has no segment yet")
+        return reader.head
+
+
+def check_begin(reading: Reading, check: Check) -> None:
+    """Rejects a feed whose first segment isn't that of a copy that was empty."""
+    if base := head_of(reading, check).base:
+        raise Unfit(
+            f"{reading.feed}: the feed begins at {lsn_text(base)}, and there may be rows from before: name the store"
+            " by --store, or an export since then by --base"
+        )

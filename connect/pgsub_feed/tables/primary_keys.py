@@ -3,38 +3,45 @@
 They are looked up where a table is made, gets another shape or is truncated. Where the store didn't
 know a table by then, or what it knew doesn't fit, it is asked again with later commits, once it has
 looked at the server since. A feed without a store tells no such keys.
+
+Of a table whose replica identity is another, FULL or the index of another key, the stream doesn't
+tell its primary key: so it is what the server's catalog had at the last look, which may have been
+later than what the stream says by now.
 """
 
 from __future__ import annotations
 
-import os
 from collections.abc import Sequence
-
-from pgsub_connect.drift.remembered import Relation, Remembered
-from pgsub_connect.errors import FileError
-from pgsub_connect.server.catalog import Table
-from pgsub_connect.store.primary_key import OTHER, primary_key
+from typing import Protocol
 
 from .. import log
+from ..relation import Relation
 from .names import name_columns
 from .table import Kept
 
-# Which file it is, when it was written, and its length.
-Stamp = tuple[int, int, int]
+# The replica identities that may be another key, or none.
+OTHER = ("f", "i")
+
+
+class Known(Protocol):
+    """What a store knows of primary keys."""
+
+    def look(self) -> None:
+        """Looks whether it knows more by now."""
+
+    def of(self, oid: int) -> tuple[str, ...] | None:
+        """The columns of a table's primary key, none where it has none; None of a table that it
+        doesn't know."""
 
 
 class Keys:
-    """Those of a store, none where that is ""."""
+    """Those that a store knows, none where there is no store."""
 
-    def __init__(self, store: str) -> None:
-        self.store, self.path = store, store + ".tables"
-        self.stamp: Stamp | None = None
-        self.first = b""
-        self.tables: dict[int, Table] = {}
+    def __init__(self, store: Known | None) -> None:
+        self.store = store
         # by OID the tables that were made without a key that the store may know later: the key that
         # it knew then, None of a table that it didn't know
         self.unsure: dict[int, tuple[str, ...] | None] = {}
-        self.told = set[str]()
 
     def of(self, relation: Relation) -> tuple[str, ...] | None:
         """The columns of a table's primary key, where its replica identity is another; None where
@@ -42,53 +49,36 @@ class Keys:
         self.unsure.pop(relation.oid, None)
         if relation.shape.identity not in OTHER:
             return ()
-        self.look()
-        known, key = self.known(relation.oid), primary_key(self.tables.get(relation.oid), relation)
-        if self.store and not key and known != ():
+        if self.store is None:
+            return None
+        self.store.look()
+        known = self.store.of(relation.oid)
+        key = primary_key(known or (), relation)
+        if not key and known != ():
             self.unsure[relation.oid] = known
         return None if known is None else key
 
-    def known(self, oid: int) -> tuple[str, ...] | None:
-        table = self.tables.get(oid)
-        return table.primary if table else None
-
     def has_news(self, relation: Relation) -> bool:
         """Whether the store knows another key by now of a table that was made without one."""
-        if relation.oid not in self.unsure:
+        if self.store is None or relation.oid not in self.unsure:
             return False
-        self.look()
-        return self.unsure[relation.oid] != self.known(relation.oid)
-
-    def look(self) -> None:
-        """Reads what is remembered, where it was written anew. (Another account may be denied.)"""
-        try:
-            if not self.store or (stamp := stamp_of(self.path)) == self.stamp:
-                return
-            self.stamp = stamp
-            with open(self.path, "rb") as file:
-                first = file.readline()
-            # (what follows are Relation messages, which tell no keys)
-            if first == self.first:
-                return
-            catalog = Remembered(self.store).catalog
-            self.first, self.tables = first, catalog.tables if catalog else {}
-        except FileNotFoundError:
-            return
-        except OSError as error:
-            self.tell(f"{self.path}: {error.strerror}")
-        except FileError as error:
-            self.tell(str(error))
-
-    def tell(self, text: str) -> None:
-        """Tells once why nothing is known."""
-        if text not in self.told:
-            self.told.add(text)
-            log.warning(f"{text}: tables get the keys of their replica identities alone")
+        self.store.look()
+        return self.unsure[relation.oid] != self.store.of(relation.oid)
 
 
-def stamp_of(path: str) -> Stamp:
-    it = os.stat(path)
-    return it.st_ino, it.st_mtime_ns, it.st_size
+def primary_key(known: tuple[str, ...], relation: Relation) -> tuple[str, ...]:
+    """The columns of the primary key of a relation whose identity is another, by what is known of
+    its table; none where there is no such key, or the relation lacks a column of it."""
+    if relation.shape.identity not in OTHER:
+        return ()
+    names = {it.name for it in relation.shape.columns}
+    if lacks := [it for it in known if it not in names]:
+        log.warning(
+            f"{relation.text()}: the stream doesn't have {', '.join(lacks)} of the primary key that"
+            " the server has: the table is made without it"
+        )
+        return ()
+    return known
 
 
 def primary_in(relation: Relation, places: Sequence[int]) -> tuple[str, ...]:

@@ -10,15 +10,14 @@ from __future__ import annotations
 
 from collections.abc import Sequence
 
-from pgsub_connect.server.catalog import Column
-from pgsub_connect.store.export import Bound
-from pgsub_connect.verify.digests import Field
-
 from ..reader.commits import Cell
+from ..relation import Column
 from ..texts import identifier
 from .floats import stored_float
 from .reshape import printed
+from .row_texts import Field
 from .table import Valued
+from .target import Bound
 from .values import BOOL, BYTEA, FLOAT4
 
 

@@ -12,15 +12,14 @@ import contextlib
 import sqlite3
 from collections.abc import Iterator
 
-from pgsub_connect.server.catalog import Column
-from pgsub_connect.store.export import Bound, key_index, with_columns
-
 from .. import log
 from ..reader.commits import Cell
+from ..relation import Column
 from ..texts import identifier
 from .floats import printed_float
 from .names import OLD
 from .table import Kept, Valued, rows_index
+from .target import Bound, key_index, with_columns
 from .values import BOOL, FLOAT4
 
 # What is told of a table whose key is none of SQLite's.

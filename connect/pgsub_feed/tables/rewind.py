@@ -9,13 +9,12 @@ from __future__ import annotations
 import dataclasses
 from collections.abc import Iterator
 
-from pgsub_connect.drift.remembered import Relation
-from pgsub_connect.errors import Unfit
-from pgsub_connect.server.connection import Check
-
+from ..errors import Unfit
+from ..interruption import Check
 from ..reader.commits import Change, Commit, Cursor, Missed, Part, TableLine
 from ..reader.polling import Poll
 from ..reader.segments import Reader, segments
+from ..relation import Relation
 from ..texts import identifier, lsn_text
 from .applier import Applier
 from .file import Rows

@@ -16,10 +16,9 @@ import sqlite3
 from collections.abc import Iterator
 from typing import NamedTuple
 
-from pgsub_connect.drift.remembered import Relation
-from pgsub_connect.errors import Unfit
-
 from .. import log
+from ..errors import Unfit
+from ..relation import Relation
 from ..texts import lsn_text, parse_lsn
 from .names import TABLES
 

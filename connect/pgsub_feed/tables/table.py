@@ -7,13 +7,12 @@ import math
 import sqlite3
 from collections.abc import Sequence
 
-from pgsub_connect.drift.remembered import Relation
-from pgsub_connect.store.export import Bound, Target, key_index, unlike_reason, with_columns
-
 from ..reader.commits import Cell
+from ..relation import Relation
 from ..texts import identifier
 from .names import folded, name_columns
 from .set_aside import Unkept
+from .target import Bound, Target, key_index, unlike_reason, with_columns
 from .values import Unlike
 
 # How many columns the index has by which a row without a key is found.

@@ -6,10 +6,9 @@ from __future__ import annotations
 import sqlite3
 from collections.abc import Iterator
 
-from pgsub_connect.errors import FileError
-from pgsub_connect.store.at_rest import FULL
-
 from .. import log
+from ..errors import FileError
+from .sqlite_files import FULL
 
 # What passes: a table that isn't there yet, and what is there already.
 PASSED = ("no such ", "already exists")

@@ -8,7 +8,7 @@ import re
 import struct
 from collections.abc import Callable, Sequence
 
-from pgsub_connect.server.catalog import Column
+from ..relation import Column
 
 # What goes into a table: a TEXT as its bytes, so that those that aren't UTF-8 stay as they are.
 Value = int | float | bytes | None

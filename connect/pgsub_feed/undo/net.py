@@ -5,11 +5,9 @@ from __future__ import annotations
 from collections.abc import Iterator, Sequence
 from typing import NamedTuple
 
-from pgsub_connect.drift.remembered import Relation
-from pgsub_connect.server.catalog import Column
-
 from ..formats.keys import key_of
 from ..reader.commits import Cell, Change
+from ..relation import Column, Relation
 
 Row = tuple[Cell, ...]
 

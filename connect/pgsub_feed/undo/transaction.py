@@ -9,37 +9,23 @@ from __future__ import annotations
 
 from collections.abc import Callable, Iterable, Iterator
 
-from pgsub_connect.add.replacement import XID
-from pgsub_connect.drift.remembered import Relation
-from pgsub_connect.errors import Unfit
-from pgsub_connect.server.connection import Check
-from pgsub_connect.server.session import SETTINGS
-
 from .. import log
-from ..reader.commits import Cell, Change, Commit, Missed, TableLine
+from ..errors import Unfit
+from ..interruption import Check
+from ..reader.commits import XID, Cell, Change, Commit, Missed, TableLine
 from ..reader.polling import Poll
 from ..reader.segments import Reader
 from ..reader.selection import Chosen
-from ..tables.file import full_name
-from ..texts import identifier, literal, lsn_text
+from ..relation import Relation
+from ..tables.schema import full_name
+from ..texts import PRINTING, identifier, literal, lsn_text
 from . import restore_sql
 from .net import Changed, Net, Row
 
-# On these it depends how a value is printed.
-PRINTED = (
-    "search_path",
-    "datestyle",
-    "intervalstyle",
-    "extra_float_digits",
-    "bytea_output",
-    "timezone",
-    "lc_monetary",
-    "quote_all_identifiers",
-    "xmlbinary",
-)
-# On the others how a constant is read; and rows that a policy hides are an error.
+# On these it depends how a value is printed and a constant is read; and rows that a policy hides
+# are an error.
 SETTLED = {
-    **{name: SETTINGS[name] for name in PRINTED},
+    **PRINTING,
     "xmloption": "content",
     "array_nulls": "on",
     "row_security": "off",

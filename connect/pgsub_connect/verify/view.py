@@ -14,26 +14,26 @@ import os
 import sqlite3
 from collections.abc import Collection, Iterable, Iterator
 
-from pgsub_connect.drift.remembered import Relation
-from pgsub_connect.errors import FileError, Passing
-from pgsub_connect.server.catalog import Column
-from pgsub_connect.server.connection import Check
-from pgsub_connect.server.publications import Table
-from pgsub_connect.verify.digests import Fields as Texts
-from pgsub_connect.verify.digests import Plan, Summing, Sums, text_of
-from pgsub_connect.verify.sides import ROWS, Row
+from pgsub_feed.errors import FileError, Passing
+from pgsub_feed.interruption import Check
+from pgsub_feed.reader.commits import Head
+from pgsub_feed.reader.lines import read_relation
+from pgsub_feed.reader.trail import Image, Trail
+from pgsub_feed.relation import Column, Relation
+from pgsub_feed.tables.digests import Digest, read_digests
+from pgsub_feed.tables.names import POSITION, TABLES, name_columns, names_of
+from pgsub_feed.tables.printed import Fields
+from pgsub_feed.tables.row_texts import Fields as Texts
+from pgsub_feed.tables.row_texts import text_of
+from pgsub_feed.tables.schema import FEED, RELATIONS, unlisted
+from pgsub_feed.tables.set_aside import Aside, read_asides
+from pgsub_feed.tables.sqlite_files import is_tables, opened
+from pgsub_feed.tables.table import Valued
+from pgsub_feed.texts import identifier, parse_lsn
 
-from ..reader.commits import Head
-from ..reader.lines import read_relation
-from ..reader.trail import Image, Trail
-from ..texts import identifier, parse_lsn
-from .digests import Digest, read_digests
-from .file import FEED, RELATIONS, unlisted
-from .first_rows import is_tables, opened
-from .names import POSITION, TABLES, name_columns, names_of
-from .printed import Fields
-from .set_aside import Aside, read_asides
-from .table import Valued
+from ..server.publications import Table
+from .digests import Plan, Summing, Sums
+from .sides import ROWS, Row
 
 
 def check_tables(path: str) -> None:

@@ -1,0 +1,175 @@
+"""Files that appear as a whole, whatever ends the process or the machine meanwhile."""
+
+from __future__ import annotations
+
+import contextlib
+import os
+import re
+import time
+from collections.abc import Callable, Iterator
+
+from .errors import Passing
+from .ownership import real, succeed
+
+LOG = "-wal"
+# A file, and what SQLite may have beside it. Whoever opens another file in its place would take
+# that for its own: a journal takes it back.
+OF_FILE = ("", LOG, "-shm", "-journal")
+CHUNK = 1 << 22
+# What a file that is to replace another one has behind its name.
+NEW = ".new"
+# After how many seconds a file that a killed process has left is removed.
+STALE = 3600.0
+# What a file that a process makes for itself has in its name behind another one's: its id, as
+# nobody else names files. Beside it there may be such a file again, the parts of a request, and
+# what SQLite makes.
+OWN = r"\.pgsub-([0-9]+)(?:(?:\.copied)?\.pgsub-[0-9]+)?(?:\.pgsub-new|\.request|\.changes)?(?:-wal|-shm|-journal)?"
+
+
+def meant(path: str) -> str:
+    """The file that a name means: the one that a link leads to, also where that isn't there yet.
+
+    A FileError names a link of another account, also one to a folder on the way."""
+    found = real(path)
+    return found if os.path.islink(path) else path
+
+
+def remove(path: str) -> None:
+    with contextlib.suppress(FileNotFoundError):
+        os.unlink(path)
+
+
+def copy(source: str, target: str, mode: int, tick: Callable[[], None]) -> None:
+    """Copies a file, by reference where the file system can. One that isn't there has no copy."""
+    try:
+        read = os.open(source, os.O_RDONLY | os.O_CLOEXEC)
+    except FileNotFoundError:
+        if source.endswith(LOG):
+            return
+        raise
+    write = os.open(target, os.O_WRONLY | os.O_CREAT | os.O_EXCL | os.O_CLOEXEC, mode)
+    try:
+        while copied(read, write):
+            tick()
+    finally:
+        os.close(read)
+        os.close(write)
+
+
+def copied(read: int, write: int) -> int:
+    """Copies the next part. Returns how many bytes."""
+    try:
+        return os.copy_file_range(read, write, CHUNK)
+    except OSError:
+        # (not between these file systems)
+        piece = os.read(read, CHUNK)
+        view = memoryview(piece)
+        while view:
+            view = view[os.write(write, view) :]
+        return len(piece)
+
+
+def sync_folder(path: str) -> None:
+    """Makes the name of a file outlast a power cut."""
+    folder = os.open(os.path.dirname(os.path.abspath(path)), os.O_RDONLY)
+    try:
+        os.fsync(folder)
+    finally:
+        os.close(folder)
+
+
+def own_files(path: str) -> re.Pattern[str]:
+    """The names of the files that processes make for themselves beside this one, and of what is
+    made beside those; the first group has the process's id."""
+    return re.compile(re.escape(os.path.basename(path)) + OWN)
+
+
+def own_name(path: str) -> str:
+    """A name for a file of this process alone. What killed processes have left under such a name
+    goes."""
+    pattern = own_files(path)
+    for entry in os.scandir(os.path.dirname(os.path.abspath(path))):
+        found = pattern.fullmatch(entry.name)
+        # (a number may be none of a process)
+        with contextlib.suppress(OSError, OverflowError):
+            if (
+                found
+                and not is_alive(int(found[1]))
+                and time.time() - entry.stat().st_mtime > STALE
+            ):
+                os.unlink(entry.path)
+    return f"{path}.pgsub-{os.getpid()}"
+
+
+def is_alive(process: int) -> bool:
+    try:
+        os.kill(process, 0)
+    except ProcessLookupError:
+        return False
+    except OSError:
+        pass
+    return True
+
+
+def remove_files(path: str) -> None:
+    """Removes a file with what SQLite may have made beside it."""
+    for suffix in OF_FILE:
+        remove(path + suffix)
+
+
+@contextlib.contextmanager
+def placed(into: str, mode: int) -> Iterator[str]:
+    """Gives the name of a new empty file, which gets the name `into` and the mode at the end. A
+    link stays, and leads to it. An error leaves nothing of it."""
+    into = meant(into)
+    new = own_name(into)
+    try:
+        remove_files(new)
+        os.close(os.open(new, os.O_WRONLY | os.O_CREAT | os.O_EXCL | os.O_CLOEXEC, 0o600))
+        yield new
+        file = os.open(new, os.O_RDONLY | os.O_NOFOLLOW | os.O_CLOEXEC)
+        try:
+            os.fchmod(file, mode)
+            os.fsync(file)
+        finally:
+            os.close(file)
+        for suffix in OF_FILE[1:]:
+            remove(into + suffix)
+        os.replace(new, into)
+        sync_folder(into)
+    except OSError as error:
+        remove_files(new)
+        error.filename = error.filename or into
+        raise
+    except BaseException:
+        remove_files(new)
+        raise
+
+
+def replace_file(path: str, content: bytes, mode: int = 0o600) -> int:
+    """Replaces a file durably: whoever reads it finds the old or the new one as a whole. Returns
+    the number of its inode."""
+    new = path + NEW
+    try:
+        with contextlib.suppress(FileNotFoundError):
+            os.unlink(new)
+        number = os.open(new, os.O_WRONLY | os.O_CREAT | os.O_EXCL | os.O_CLOEXEC, mode)
+        # (whatever the umask leaves of it)
+        os.fchmod(number, mode)
+        with open(number, "wb") as file:
+            file.write(content)
+            file.flush()
+            succeed(number, path)
+            os.fsync(number)
+            inode = os.fstat(number).st_ino
+        os.replace(new, path)
+        folder = os.open(os.path.dirname(os.path.abspath(path)), os.O_RDONLY | os.O_DIRECTORY)
+        try:
+            os.fsync(folder)
+        finally:
+            os.close(folder)
+    except OSError as error:
+        with contextlib.suppress(OSError):
+            os.unlink(new)
+        raise Passing(f"{path}: {error.strerror}") from None
+    return inode

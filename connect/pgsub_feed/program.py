@@ -1,0 +1,74 @@
+"""How a program ends: by signals that ask for it, and by errors that are told."""
+
+from __future__ import annotations
+
+import errno
+import os
+import signal
+import traceback
+from collections.abc import Callable
+from typing import Protocol
+
+from . import log
+from .errors import BUG, FILE, PASSING, Failure, Stopped
+from .interruption import interrupt
+
+# What may be otherwise at a later start.
+PASSING_ERRORS = (
+    errno.ENOSPC,
+    errno.EDQUOT,
+    errno.ENOMEM,
+    errno.EAGAIN,
+    errno.EMFILE,
+    errno.ENFILE,
+    errno.ESTALE,
+    errno.ETIMEDOUT,
+    errno.EHOSTDOWN,
+)
+
+
+class Worker(Protocol):
+    """What ends when it is asked to."""
+
+    stop_asked: bool
+
+
+class Start:
+    """Asked to end before there is anything else to ask."""
+
+    stop_asked = False
+
+    def check(self) -> None:
+        if self.stop_asked:
+            raise Stopped
+
+
+def stop_by_signals(*workers: Worker) -> None:
+    """Lets a first signal ask for the end, and a second one end at once."""
+
+    def ask(number: int, _: object) -> None:
+        for worker in workers:
+            if worker.stop_asked:
+                os._exit(128 + number)
+            worker.stop_asked = True
+        interrupt()
+
+    for number in (signal.SIGINT, signal.SIGTERM):
+        signal.signal(number, ask)
+
+
+def guarded(call: Callable[[], int]) -> int:
+    """The exit status of what is called, or of the error that it raises, which is told."""
+    try:
+        return call()
+    except Stopped:
+        return 0
+    except Failure as error:
+        log.error(error.told())
+        return error.exit_status()
+    except OSError as error:
+        log.error(f"{error.filename or 'a file'}: {error.strerror or error}")
+        return PASSING if error.errno in PASSING_ERRORS else FILE
+    except Exception:  # noqa: BLE001
+        log.error(f"a bug: {traceback.format_exc().rstrip()}")
+        return BUG

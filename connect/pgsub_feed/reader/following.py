@@ -1,0 +1,145 @@
+"""Follows a feed: puts commit after commit into what keeps them, up to the end that was asked for.
+"""
+
+from __future__ import annotations
+
+import time
+from collections.abc import Callable, Iterable
+from typing import Protocol
+
+from ..errors import Passing, Stopped
+from ..faults import Damaged
+from ..interruption import Check
+from ..texts import lsn_text
+from .commits import Commit, Head, Part
+from .polling import Poll
+from .positions import Noted
+from .reading import Reading
+from .segments import Reader, read_confirmed
+
+# How long commits wait for others that come to be settled together, in seconds.
+LONGEST = 0.5
+# Reads a commit's lines, from the first one on each time.
+Read = Callable[[], Iterable[Part]]
+
+
+class Keeper(Protocol):
+    """Keeps commits. `at` is the LSN up to which all are there: those after it that were taken
+    aren't, until `settle`."""
+
+    @property
+    def at(self) -> int:
+        ...
+
+    def take(self, commit: Commit, read: Read) -> None:
+        """Takes a commit. It may be settled at once. A Damaged leaves it out."""
+
+    def settle(self) -> None:
+        """Has all that was taken."""
+
+    def forget(self) -> None:
+        """Forgets what was taken since it was settled."""
+
+    def look(self) -> None:
+        """Looks, while there is nothing to take, whether it can go on."""
+
+    def safe(self) -> int | None:
+        """An LSN whose rows it has even after a power cut; None where that isn't known."""
+
+
+class Following:
+    """Follows a feed into what keeps it. `begin` is told what it is a feed of, before the first
+    commit."""
+
+    def __init__(
+        self,
+        reading: Reading,
+        keeper: Keeper,
+        check: Check,
+        noted: Noted | None = None,
+        begin: Callable[[Head], None] = lambda _: None,
+    ) -> None:
+        self.reading, self.keeper, self.check, self.noted = reading, keeper, check, noted
+        self.begin = begin
+        self.reader = Reader(reading.feed, keeper.at)
+        self.poll = Poll(self.reader, reading.follows, check)
+        # since when commits wait to be settled
+        self.begun: float | None = None
+        self.has_begun = False
+        # whether all up to the LSN at which to end was confirmed before the feed was looked at last
+        self.is_confirmed = False
+
+    def follow(self) -> None:
+        """Takes commit after commit, those that are there at once, up to the end."""
+        self.note()
+        while not self.is_at_end(commit := self.poll.next()):
+            if commit:
+                self.check()
+                self.take(commit)
+            else:
+                self.settle()
+                self.keeper.look()
+                self.note()
+                self.poll.rest()
+        self.settle()
+        self.check_reached(commit)
+
+    def is_at_end(self, commit: Commit | None) -> bool:
+        if commit is None:
+            return not self.reading.follows and not self.looks_again()
+        return self.reading.until is not None and commit.end > self.reading.until
+
+    def looks_again(self) -> bool:
+        """Whether all up to the LSN at which to end was confirmed since the feed was looked at:
+        some of it may have come since."""
+        until, was_confirmed = self.reading.until, self.is_confirmed
+        self.is_confirmed = (
+            was_confirmed or until is not None and (read_confirmed(self.reading.feed) or 0) >= until
+        )
+        return self.is_confirmed and not was_confirmed
+
+    def check_reached(self, above: Commit | None) -> None:
+        """Rejects an end below the LSN at which to end, where the feed may still get commits up to
+        it."""
+        until, at = self.reading.until, self.keeper.at
+        if until is None or above or at >= until or self.is_confirmed:
+            return
+        raise Passing(
+            f"{self.reading.feed}: the feed has reached {lsn_text(at)}, and {lsn_text(until)} not yet"
+        )
+
+    def take(self, commit: Commit) -> None:
+        """Takes a commit. Where its lines can't be read nothing is kept of what isn't settled."""
+        if self.reader.head and not self.has_begun:
+            self.begin(self.reader.head)
+            self.has_begun = True
+        self.begun = time.monotonic() if self.begun is None else self.begun
+        try:
+            self.keeper.take(commit, lambda: self.reader.parts(commit))
+        except Stopped:
+            # (a part of it may wait)
+            self.keeper.forget()
+            raise
+        except Damaged as damaged:
+            self.keeper.forget()
+            self.begun = None
+            self.poll.bear(damaged, commit.end)
+            self.reader.go_back(self.keeper.at)
+            self.poll.rest()
+            return
+        if time.monotonic() - self.begun > LONGEST:
+            self.settle()
+
+    def settle(self) -> None:
+        self.keeper.settle()
+        self.begun = None
+        self.note()
+
+    def note(self, is_last: bool = False) -> None:
+        """Notes what is safe."""
+        if self.noted and (at := self.keeper.safe()) is not None:
+            self.noted.note(at, is_last)
+
+    def finish(self) -> None:
+        self.reader.close()
+        self.note(is_last=True)

@@ -1,0 +1,43 @@
+"""What somebody who follows a feed is to take, and what it begins with."""
+
+from __future__ import annotations
+
+import dataclasses
+from collections.abc import Collection
+from typing import Protocol
+
+from ..interruption import Check
+
+
+class Store(Protocol):
+    """The store whose commits the feed has. It is read by the program that keeps it."""
+
+    @property
+    def path(self) -> str:
+        ...
+
+    def is_followed(self) -> bool:
+        """Whether its follower runs just now."""
+
+    def export(self, into: str, is_text: bool, chosen: Collection[str], check: Check) -> None:
+        """Makes an export of it: of these tables, all where none is named. `is_text`: each value
+        as the server prints it."""
+
+
+@dataclasses.dataclass(frozen=True)
+class Reading:
+    """Of the feed in a folder the commits up to an LSN, None where all, and those that come where
+    it follows; of them the tables that are chosen, all where none is.
+
+    It begins with the rows of a file, an export or tables, or those of a store; with none where
+    neither is named. One with a name notes its LSN in the feed's folder, in a file with the mode.
+    """
+
+    feed: str
+    chosen: tuple[str, ...] = ()
+    follows: bool = True
+    until: int | None = None
+    base: str | None = None
+    store: Store | None = None
+    name: str | None = None
+    mode: int = 0o600

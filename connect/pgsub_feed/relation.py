@@ -1,0 +1,38 @@
+"""What a Relation message says of a table, as a feed has it in each commit."""
+
+from __future__ import annotations
+
+import dataclasses
+from typing import NamedTuple
+
+
+class Column(NamedTuple):
+    """A published column. `number` is its attribute number, 0 where a Relation message is all that
+    is known of it."""
+
+    name: str
+    type_oid: int
+    modifier: int
+    key: bool
+    number: int = 0
+
+
+@dataclasses.dataclass(frozen=True)
+class Shape:
+    """What a Relation message says of a table beside its name."""
+
+    identity: str
+    columns: tuple[Column, ...]
+
+
+@dataclasses.dataclass(frozen=True)
+class Relation:
+    """A Relation message."""
+
+    oid: int
+    namespace: str
+    name: str
+    shape: Shape
+
+    def text(self) -> str:
+        return f"{self.namespace}.{self.name} ({self.oid})"

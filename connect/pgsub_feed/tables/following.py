@@ -1,0 +1,130 @@
+"""A file of tables that follows a feed: made, or gone on with."""
+
+from __future__ import annotations
+
+import dataclasses
+import os
+
+from .. import log
+from ..errors import Passing, Stopped, Unfit
+from ..interruption import Check
+from ..reader.commits import Commit
+from ..reader.following import Following, Read
+from ..reader.positions import Noted
+from ..reader.reading import Reading
+from ..texts import lsn_text
+from .applier import Applier
+from .file import Rows
+from .first_rows import keeping, make
+from .primary_keys import Known
+from .rewind import walk
+from .set_aside import shown_asides
+from .user_sql import Init
+
+# How many changes one transaction takes where more commits are there.
+MOST = 20000
+
+
+@dataclasses.dataclass(frozen=True)
+class Wanted:
+    """The file that is wanted: with a user's SQL after a table was made, and with digests. `keys`
+    knows primary keys."""
+
+    into: str
+    reading: Reading
+    init: str | None = None
+    has_digests: bool = False
+    keys: Known | None = None
+
+
+class Tables:
+    """Keeps commits in the tables of an open file, several in one transaction."""
+
+    def __init__(self, rows: Rows, check: Check) -> None:
+        self.rows, self.check, self.applier = rows, check, Applier(rows, check)
+        # of the open transaction: how many changes it has, and where its last commit ends
+        self.changes, self.end = 0, rows.at
+
+    @property
+    def at(self) -> int:
+        return self.rows.at
+
+    def take(self, commit: Commit, read: Read) -> None:
+        if not self.rows.db.in_transaction:
+            self.changes = 0
+            self.rows.begin()
+        self.applier.apply(commit, read())
+        self.changes += commit.changes + 1
+        self.end = commit.end
+        if self.changes >= MOST:
+            self.settle()
+
+    def settle(self) -> None:
+        self.rows.settle(self.end)
+
+    def forget(self) -> None:
+        self.rows.roll_back()
+        self.end = self.rows.at
+
+    def look(self) -> None:
+        """Nobody else writes the file."""
+
+    def safe(self) -> int:
+        """(`Noted` has the disk have the file's log.)"""
+        return self.rows.at
+
+
+def keep(wanted: Wanted, check: Check) -> tuple[int, list[str]]:
+    """Keeps the tables of a file. Returns its LSN at the end, and the tables that are set aside."""
+    reading = wanted.reading
+    init = Init(wanted.init) if wanted.init else None
+    if not os.path.exists(wanted.into):
+        with keeping(reading):
+            make(wanted.into, reading, check)
+    rows, is_orderly = Rows(wanted.into, init, wanted.keys), False
+    try:
+        prepare(rows, wanted, check)
+        is_stopped = follow(rows, wanted, check)
+        is_orderly = True
+        if is_stopped and not reading.follows:
+            raise Passing(f"ended before {wanted.into} had all of it")
+        left = [it.name() for it in shown_asides(rows.db).values()]
+    finally:
+        rows.close(is_orderly)
+    return rows.at, left
+
+
+def prepare(rows: Rows, wanted: Wanted, check: Check) -> None:
+    """Has a file be what is wanted, and no further than that."""
+    reading, folder = wanted.reading, os.path.abspath(wanted.reading.feed)
+    check_chosen(rows, reading.chosen)
+    rows.note_folder(folder)
+    if wanted.has_digests and not rows.digests:
+        rows.keep_digests()
+    if reading.until is not None and rows.at > reading.until:
+        walk(reading.feed, rows, reading.until, check)
+    if rows.init:
+        rows.run_init()
+    rows.asides.tell(folder)
+
+
+def follow(rows: Rows, wanted: Wanted, check: Check) -> bool:
+    """Follows a feed to the end. Returns whether a signal was that."""
+    reading = wanted.reading
+    noted = Noted(reading.feed, reading.name, wanted.into, reading.mode) if reading.name else None
+    following = Following(reading, Tables(rows, check), check, noted, rows.check_source)
+    if reading.follows:
+        log.info(f"{wanted.into} follows {reading.feed} from {lsn_text(rows.at)}")
+    is_stopped = False
+    try:
+        following.follow()
+    except Stopped:
+        is_stopped = True
+    following.finish()
+    return is_stopped
+
+
+def check_chosen(rows: Rows, chosen: tuple[str, ...]) -> None:
+    if set(chosen) != rows.chosen:
+        was = ", ".join(sorted(rows.chosen)) or "all"
+        raise Unfit(f"{rows.path} was made for these tables: {was}. For others make another file")

@@ -1,0 +1,58 @@
+"""Files of SQLite that these programs make: exports, and tables that follow a feed."""
+
+from __future__ import annotations
+
+import os
+import sqlite3
+import urllib.parse
+
+from ..errors import FileError, Passing
+
+# The first version of SQLite with STRICT tables and columns of type ANY.
+OLDEST = (3, 37, 0)
+# What SQLite says of a disk that is full, and of a file that only for now can't be written.
+FULL = "is full"
+PASSING = ("is locked", FULL)
+# What tells these files from others: the application of the head, `pgse` or `pgst`.
+MAGIC, APPLICATION_AT = b"SQLite format 3\0", 68
+EXPORT, FOLLOWING = 0x70677365, 0x70677374
+
+
+def application(path: str) -> int | None:
+    """What the head of a file of SQLite says of whose it is; None of any other file."""
+    with open(path, "rb") as file:
+        head = file.read(100)
+    if not head.startswith(MAGIC):
+        return None
+    return int.from_bytes(head[APPLICATION_AT : APPLICATION_AT + 4], "big")
+
+
+def is_export(path: str) -> bool:
+    return application(path) == EXPORT
+
+
+def is_tables(path: str) -> bool:
+    """Whether a file is one of tables that follow a feed."""
+    return application(path) == FOLLOWING
+
+
+def opened(path: str) -> sqlite3.Connection:
+    """Opens a file of tables for reading."""
+    name = f"file:{urllib.parse.quote(os.fsencode(os.path.abspath(path)))}?mode=ro"
+    return sqlite3.connect(name, uri=True, timeout=10.0, isolation_level=None)
+
+
+def check_sqlite() -> None:
+    """Rejects an SQLite that is too old."""
+    if sqlite3.sqlite_version_info < OLDEST:
+        wanted = ".".join(map(str, OLDEST[:2]))
+        raise FileError(
+            f"SQLite {wanted} or later is needed for STRICT tables, and this is {sqlite3.sqlite_version}"
+        )
+
+
+def failed(error: sqlite3.Error, told: str) -> FileError | Passing:
+    """What ends it where SQLite can't read or write files, which are told: a disk that is full may
+    have room later, and what is locked be free."""
+    text = f"{told}: {error}"
+    return Passing(text) if any(it in str(error) for it in PASSING) else FileError(text)
