@@ -81,7 +81,7 @@ def check_package(package: Path) -> None:
     if shutil.which("lintian") is None:
         raise Failed("lintian isn't installed (Debian: apt-get install lintian)")
     ran = subprocess.run(
-        ["lintian", "--fail-on", "error", "--no-tag-display-limit", package],
+        ["lintian", "--fail-on", "error", "--tag-display-limit", "0", package],
         capture_output=True,
         text=True,
         check=False,
