@@ -1,6 +1,6 @@
 """Tells how far a build of the program is: crate after crate, with the time that is left.
 
-usage: building.py CHECKOUT LOG     reads what `rt run` prints, keeps it in LOG, and tells standard error
+usage: building.py CHECKOUT LOG     reads what `rt run` prints, keeps it, and tells standard error
 """
 
 import os
@@ -21,7 +21,7 @@ SILENCE = 60.0
 
 
 def below(crates: str, name: str = PROGRAM) -> dict[str, set[str]]:
-    """The crates of crates.txt that a program is built of, each with those that it stands on, itself too."""
+    """The crates that a program is built of, each with itself and those that it stands on."""
     lines = [line.partition(":") for line in crates.splitlines() if line.partition("#")[0].strip()]
     listed = {head.split()[0]: names.split() for head, _, names in lines}
     found: dict[str, set[str]] = {}
@@ -36,7 +36,10 @@ def below(crates: str, name: str = PROGRAM) -> dict[str, set[str]]:
 
 
 def costs_of(measured: str, crates: Iterable[str]) -> dict[str, float]:
-    """What proving each crate costs, by the table of bench/results/gate.md; one that isn't in it costs what the middle one does."""
+    """What proving each crate costs, by the table of bench/results/gate.md.
+
+    One that isn't in it costs what the middle one does.
+    """
     known = {name: float(seconds) for name, seconds in COST.findall(measured)}
     middle = sorted(known.values())[len(known) // 2] if known else 1.0
     return {it: known.get(it, middle) for it in crates}
@@ -59,7 +62,11 @@ class Building:
 
     def left(self, now: float) -> str:
         rest = sum(cost for name, cost in self.costs.items() if name not in self.done)
-        return f"{minutes(rest * (now - self.began) / self.spent)} left" if self.spent else "time left isn't known yet"
+        return (
+            f"{minutes(rest * (now - self.began) / self.spent)} left"
+            if self.spent
+            else "time left isn't known yet"
+        )
 
     def note(self, line: str, now: float) -> str:
         """Notes a line of rt's. Returns what it tells."""
@@ -71,7 +78,9 @@ class Building:
         self.done |= self.below[found[1]]
         self.spent += self.costs[found[1]]
         self.crate, self.functions = "", 0
-        return f"{found[1]} is proved, {len(self.done)} of {len(self.below)} crates, {self.left(now)}"
+        return (
+            f"{found[1]} is proved, {len(self.done)} of {len(self.below)} crates, {self.left(now)}"
+        )
 
     def waiting(self, now: float) -> str:
         """What is told where nothing was for a while."""
@@ -84,7 +93,7 @@ def tell(text: str) -> None:
 
 
 def lines_read(file: int, log: BinaryIO) -> Iterator[list[str]]:
-    """Gives what a file has to read by whole lines, and nothing where a while went by without one. All of it is kept."""
+    """Gives the lines that a file has to read, and none where a while went by. All is kept."""
     rest = b""
     while True:
         if not select.select([file], [], [], SILENCE)[0]:

@@ -58,28 +58,50 @@ def identifier(name: str) -> str:
 
 
 def bash_of(name: str, helps: Mapping[str, Help]) -> str:
-    """The completion of a command for bash. The help of the command itself is that of the word ""."""
+    """The completion of a command for bash. The command's own help is that of the word ""."""
     commands = [it for it in helps if it]
     values, words = [], []
     for command, it in helps.items():
         options = options_of(it.text)
         for option in options:
-            if option.choices:
+            if choices := " ".join(option.choices):
                 where = "|".join(f"{command}:{name}" for name in option.names)
-                values.append(f'        {where}) COMPREPLY=($(compgen -W "{" ".join(option.choices)}" -- "$word")); return ;;')
-        if others := [f"{command}:{name}" for option in options if option.value for name in option.names]:
+                values.append(
+                    f"        {where}) COMPREPLY=($(compgen -W '{choices}' -- \"$word\"))\n"
+                    "            return ;;"
+                )
+        if others := [
+            f"{command}:{name}" for option in options if option.value for name in option.names
+        ]:
             values.append(f"        {'|'.join(others)}) return ;;")
         more = [] if command else commands
-        words.append(f'        "{command}") words="{" ".join([*more, *(name for it in options for name in it.names)])}" ;;')
-    known = f"            {'|'.join(commands)}) command=\"$it\"; break ;;" if commands else "            --) break ;;"
+        names = [name for it in options for name in it.names]
+        words.append(f'        "{command}") words="{" ".join([*more, *names])}" ;;')
+    known = (
+        f"            {'|'.join(commands)}) command=\"$it\"; break ;;"
+        if commands
+        else "            --) break ;;"
+    )
     lines = [
-        f"# completion of {name} for bash", f"{identifier(name)}() {{",
-        '    local word="${COMP_WORDS[COMP_CWORD]}" before="${COMP_WORDS[COMP_CWORD - 1]}" command="" words="" it',
-        '    for it in "${COMP_WORDS[@]:1:COMP_CWORD - 1}"; do', '        case "$it" in', known, "        esac", "    done",
-        '    case "$command:$before" in', *values, "    esac", '    case "$command" in', *words, "    esac",
+        f"# completion of {name} for bash",
+        f"{identifier(name)}() {{",
+        '    local word="${COMP_WORDS[COMP_CWORD]}" before="${COMP_WORDS[COMP_CWORD - 1]}"',
+        '    local command="" words="" it',
+        '    for it in "${COMP_WORDS[@]:1:COMP_CWORD - 1}"; do',
+        '        case "$it" in',
+        known,
+        "        esac",
+        "    done",
+        '    case "$command:$before" in',
+        *values,
+        "    esac",
+        '    case "$command" in',
+        *words,
+        "    esac",
         "    # (where there is nothing here bash completes the names of files)",
         '    [[ "$word" != -* && -n "$command" ]] || COMPREPLY=($(compgen -W "$words" -- "$word"))',
-        "}", f"complete -o default -F {identifier(name)} {name}",
+        "}",
+        f"complete -o default -F {identifier(name)} {name}",
     ]
     return "\n".join(lines) + "\n"
 
@@ -90,8 +112,10 @@ def quoted(text: str) -> str:
 
 
 def argument(option: Option) -> str:
-    """An option as `_arguments` has it. It may be repeated: the command itself says where it may not."""
-    action = f"({' '.join(option.choices)})" if option.choices else "_files" if option.is_file else " "
+    """An option as `_arguments` has it. It may be repeated: the command says where it may not."""
+    action = (
+        f"({' '.join(option.choices)})" if option.choices else "_files" if option.is_file else " "
+    )
     value = f":{quoted(option.value)}:{action}" if option.value else ""
     return " ".join(f"'*{name}[{quoted(option.about)}]{value}'" for name in option.names)
 
@@ -102,15 +126,32 @@ def zsh_of(name: str, helps: Mapping[str, Help]) -> str:
     top = [argument(it) for it in options_of(helps[""].text)]
     lines = [f"#compdef {name}", f"# completion of {name} for zsh", f"{identifier(name)}() {{"]
     if not abouts:
-        return "\n".join([*lines, f"    _arguments {' '.join(top)} '*:file:_files'", "}", f'{identifier(name)} "$@"']) + "\n"
+        return (
+            "\n".join(
+                [
+                    *lines,
+                    f"    _arguments {' '.join(top)} '*:file:_files'",
+                    "}",
+                    f'{identifier(name)} "$@"',
+                ]
+            )
+            + "\n"
+        )
     described = " ".join(f"'{command}:{quoted(about)}'" for command, about in abouts.items())
     lines += [
-        "    local context state line", f"    local -a commands=({described})",
+        "    local context state line",
+        f"    local -a commands=({described})",
         f"    _arguments -C {' '.join(top)} '1: :->command' '*:: :->rest'",
-        '    case "$state" in', "        command) _describe command commands ;;", "        rest)", '            case "$line[1]" in',
+        '    case "$state" in',
+        "        command) _describe command commands ;;",
+        "        rest)",
+        '            case "$line[1]" in',
     ]
     for command, it in helps.items():
         if command:
             options = " ".join(argument(option) for option in options_of(it.text))
             lines.append(f"                {command}) _arguments {options} '*:file:_files' ;;")
-    return "\n".join([*lines, "            esac ;;", "    esac", "}", f'{identifier(name)} "$@"']) + "\n"
+    return (
+        "\n".join([*lines, "            esac ;;", "    esac", "}", f'{identifier(name)} "$@"'])
+        + "\n"
+    )

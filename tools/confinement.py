@@ -26,7 +26,12 @@ def settings_of(unit: str) -> dict[str, list[str]]:
 
 def groups() -> dict[str, list[str]]:
     """What is in each group such as `@system-service`: system calls, and other groups."""
-    printed = subprocess.run(["systemd-analyze", "syscall-filter", "--no-pager"], capture_output=True, text=True, check=True).stdout
+    printed = subprocess.run(
+        ["systemd-analyze", "syscall-filter", "--no-pager"],
+        capture_output=True,
+        text=True,
+        check=True,
+    ).stdout
     found: dict[str, list[str]] = {}
     members: list[str] = []
     for line in printed.splitlines():
@@ -39,11 +44,15 @@ def groups() -> dict[str, list[str]]:
 
 def calls_of(name: str, known: dict[str, list[str]]) -> set[str]:
     """A call itself, or those of a group."""
-    return {name}.union(*(calls_of(it, known) for it in known[name])) if name.startswith("@") else {name}
+    return (
+        {name}.union(*(calls_of(it, known) for it in known[name]))
+        if name.startswith("@")
+        else {name}
+    )
 
 
 def allowed_by(filters: Iterable[str]) -> set[str]:
-    """What lines of SystemCallFilter leave: the first one allows, and one that begins with `~` takes away."""
+    """What lines of SystemCallFilter leave: each allows, or takes away where it begins with `~`."""
     known = groups()
     allowed = calls_of("@default", known)
     for line in filters:
@@ -58,7 +67,13 @@ def confine(settings: dict[str, list[str]]) -> None:
     if settings.get("MemoryDenyWriteExecute") == ["yes"]:
         deny_executable_memory()
     if "RestrictAddressFamilies" in settings:
-        deny_families({getattr(socket, it) for line in settings["RestrictAddressFamilies"] for it in line.split()})
+        deny_families(
+            {
+                getattr(socket, it)
+                for line in settings["RestrictAddressFamilies"]
+                for it in line.split()
+            }
+        )
     # (the last one: it takes what loads the others)
     allow_calls(allowed, seccomp.ERRNO(getattr(errno, settings["SystemCallErrorNumber"][-1])))
 
@@ -77,7 +92,11 @@ def deny_executable_memory() -> None:
     written = mmap.PROT_WRITE | mmap.PROT_EXEC
     denied = seccomp.ERRNO(errno.EPERM)
     calls.add_rule(denied, "mmap", seccomp.Arg(2, seccomp.MASKED_EQ, written, written))
-    for name, flag in (("mprotect", mmap.PROT_EXEC), ("pkey_mprotect", mmap.PROT_EXEC), ("shmat", SHM_EXEC)):
+    for name, flag in (
+        ("mprotect", mmap.PROT_EXEC),
+        ("pkey_mprotect", mmap.PROT_EXEC),
+        ("shmat", SHM_EXEC),
+    ):
         calls.add_rule(denied, name, seccomp.Arg(2, seccomp.MASKED_EQ, flag, flag))
     calls.load()
 
@@ -85,5 +104,7 @@ def deny_executable_memory() -> None:
 def deny_families(allowed: set[int]) -> None:
     calls = seccomp.SyscallFilter(defaction=seccomp.ALLOW)
     for family in set(range(FAMILIES)) - allowed:
-        calls.add_rule(seccomp.ERRNO(errno.EAFNOSUPPORT), "socket", seccomp.Arg(0, seccomp.EQ, family))
+        calls.add_rule(
+            seccomp.ERRNO(errno.EAFNOSUPPORT), "socket", seccomp.Arg(0, seccomp.EQ, family)
+        )
     calls.load()

@@ -4,6 +4,7 @@ import os
 import re
 import subprocess
 from collections.abc import Iterable
+from concurrent.futures import ThreadPoolExecutor
 from dataclasses import dataclass
 from pathlib import Path
 
@@ -111,7 +112,9 @@ def page_of(title: str, help: Help, about: str, others: Iterable[str], date: str
 def helps_of(command: Path) -> dict[str, Help]:
     """What a command prints for --help: its own by the word "", and that of each of its commands."""
     first = ask(command, [])
-    return {"": first, **{it: ask(command, [it]) for it in subcommands(first.text)}}
+    names = subcommands(first.text)
+    with ThreadPoolExecutor() as pool:
+        return {"": first, **dict(zip(names, pool.map(lambda it: ask(command, [it]), names)))}
 
 
 def make(helps: dict[str, Help], name: str, date: str, version: str) -> dict[str, str]:

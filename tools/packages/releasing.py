@@ -1,4 +1,4 @@
-"""A release: the packages, the source, the statement, what is linked, and the sums of all of them."""
+"""A release: packages, source, statement, what is linked, and the sums of all of them."""
 
 import gzip
 import re
@@ -30,8 +30,13 @@ def check_checkout(version: str) -> None:
     changed = run("git", "-C", TOP, "status", "--porcelain")
     if changed:
         raise Failed(f"the checkout has changes:\n{changed}")
-    program = PROGRAM_VERSION.search((TOP / "crates/pgcommand/src/commands.rt").read_text(encoding="utf-8"))
-    for what, found in (("the connector", version_of_sources()), ("the program", program[1] if program else "unknown")):
+    program = PROGRAM_VERSION.search(
+        (TOP / "crates/pgcommand/src/commands.rt").read_text(encoding="utf-8")
+    )
+    for what, found in (
+        ("the connector", version_of_sources()),
+        ("the program", program[1] if program else "unknown"),
+    ):
         if found != version:
             raise Failed(f"{what} has the version {found}, and not {version}")
     headings = re.findall(r"^## (.+)$", (TOP / "CHANGELOG.md").read_text(encoding="utf-8"), re.M)
@@ -57,12 +62,17 @@ def make_statement(version: str, out: Path) -> Path:
 def make_sbom(build: Build, made: list[Path], out: Path) -> Path:
     kit = kit_folder()
     if kit is None:
-        raise Failed("what the program is linked of is told by the toolchain, which isn't on the path")
+        raise Failed(
+            "what the program is linked of is told by the toolchain, which isn't on the path"
+        )
     commit = run("git", "-C", TOP, "rev-parse", "HEAD")
     sums = {it.name: digest(it) for it in made}
     needs = {name: f">= {version}" for name, version in build.needs.items()}
     path = out / f"pgsub-{build.version}.spdx.json"
-    path.write_text(document(Release(build.version, commit, build.kit, build.time, sums, needs), linked(kit)), encoding="utf-8")
+    path.write_text(
+        document(Release(build.version, commit, build.kit, build.time, sums, needs), linked(kit)),
+        encoding="utf-8",
+    )
     return path
 
 
@@ -70,7 +80,12 @@ def check_package(package: Path) -> None:
     """Raises Failed where lintian finds an error in a package."""
     if shutil.which("lintian") is None:
         raise Failed("lintian isn't installed (Debian: apt-get install lintian)")
-    ran = subprocess.run(["lintian", "--fail-on", "error", "--no-tag-display-limit", package], capture_output=True, text=True, check=False)
+    ran = subprocess.run(
+        ["lintian", "--fail-on", "error", "--tag-display-limit", "0", package],
+        capture_output=True,
+        text=True,
+        check=False,
+    )
     if ran.returncode:
         raise Failed(f"lintian: status {ran.returncode}\n{ran.stdout}{ran.stderr}")
 

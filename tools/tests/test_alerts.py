@@ -14,8 +14,15 @@ TRIED = Path(__file__).resolve().parent / "alerts.yml"
 METRIC = re.compile(r"\bpgsub_\w+")
 # each makes another rule of one
 CHANGES = (
-    ("> 300", "> 301"), ("unreserved|lost", "unreserved"), ("3600) < 0", "7200) < 0"), ("pgsub_found == 1", "pgsub_found == 0"),
-    ("[15m]) > 2", "[15m]) > 0"), ("> 100e6", "> 99e6"), ("for: 15m", "for: 10m"), ("_failed == 1", "_failed == 0"), ("> 60", "> 700"),
+    ("> 300", "> 301"),
+    ("unreserved|lost", "unreserved"),
+    ("3600) < 0", "7200) < 0"),
+    ("pgsub_found == 1", "pgsub_found == 0"),
+    ("[15m]) > 2", "[15m]) > 0"),
+    ("> 100e6", "> 99e6"),
+    ("for: 15m", "for: 10m"),
+    ("_failed == 1", "_failed == 0"),
+    ("> 60", "> 700"),
 )
 
 

@@ -19,12 +19,17 @@ mid: low core
 other: low
 pgsub backend=rattle: mid
 """
-COSTS = "| Crate | proof |\n|---|---|\n| `low` | 100 | 0 |\n| `mid` | 300 | 0 |\n| `pgsub` | 600 | 0 |\n| `other` | 9 | 0 |\n"
+COSTS = "".join(
+    f"| `{name}` | {cost} | 0 |\n"
+    for name, cost in (("low", 100), ("mid", 300), ("pgsub", 600), ("other", 9))
+)
 
 
 class Case(unittest.TestCase):
     def test_what_a_program_stands_on(self) -> None:
-        self.assertEqual(below(CRATES), {"low": {"low"}, "mid": {"mid", "low"}, "pgsub": {"pgsub", "mid", "low"}})
+        self.assertEqual(
+            below(CRATES), {"low": {"low"}, "mid": {"mid", "low"}, "pgsub": {"pgsub", "mid", "low"}}
+        )
 
     def test_this_repository(self) -> None:
         text = (TOP / "crates.txt").read_text()
@@ -42,20 +47,38 @@ class Case(unittest.TestCase):
         """What is left costs what was done did, crate by crate."""
         build = Building(CRATES, COSTS, 1000.0)
         self.assertEqual(build.note("fn low::f: proved", 1010.0), "")
-        self.assertEqual(build.waiting(1060.0), "1 functions of low are proved, 0 of 3 crates, time left isn't known yet")
-        self.assertEqual(build.note("crate low: modules loaded=0 checked=80", 1100.0), "low is proved, 1 of 3 crates, about 15 min left")
+        self.assertEqual(
+            build.waiting(1060.0),
+            "1 functions of low are proved, 0 of 3 crates, time left isn't known yet",
+        )
+        self.assertEqual(
+            build.note("crate low: modules loaded=0 checked=80", 1100.0),
+            "low is proved, 1 of 3 crates, about 15 min left",
+        )
         self.assertEqual(build.waiting(1160.0), "proving, 1 of 3 crates, about 24 min left")
         self.assertEqual(build.note("crate std: modules loaded=0", 1200.0), "")
-        self.assertEqual(build.note("crate mid: modules", 1400.0), "mid is proved, 2 of 3 crates, about 10 min left")
-        self.assertEqual(build.note("crate pgsub: modules", 2000.0), "pgsub is proved, 3 of 3 crates, less than a minute left")
+        self.assertEqual(
+            build.note("crate mid: modules", 1400.0),
+            "mid is proved, 2 of 3 crates, about 10 min left",
+        )
+        self.assertEqual(
+            build.note("crate pgsub: modules", 2000.0),
+            "pgsub is proved, 3 of 3 crates, less than a minute left",
+        )
 
     def test_what_was_kept_is_done(self) -> None:
         """rt says nothing of crates that it has. They are done once one above them is."""
         build = Building(CRATES, COSTS, 0.0)
-        self.assertEqual(build.note("crate mid: modules", 300.0), "mid is proved, 2 of 3 crates, about 10 min left")
+        self.assertEqual(
+            build.note("crate mid: modules", 300.0),
+            "mid is proved, 2 of 3 crates, about 10 min left",
+        )
 
     def test_minutes(self) -> None:
-        self.assertEqual([minutes(it) for it in (59, 60, 3599)], ["less than a minute", "about 1 min", "about 60 min"])
+        self.assertEqual(
+            [minutes(it) for it in (59, 60, 3599)],
+            ["less than a minute", "about 1 min", "about 60 min"],
+        )
 
     def test_reading(self) -> None:
         inside, outside = os.pipe()
@@ -77,7 +100,9 @@ class Case(unittest.TestCase):
             os.write(outside, b"crate low: a\n")
             os.close(outside)
             said = io.StringIO()
-            with redirect_stderr(said), mock.patch.object(building, "lines_read", lambda _, log: lines_read(inside, log)):
+            with redirect_stderr(said), mock.patch.object(
+                building, "lines_read", lambda _, log: lines_read(inside, log)
+            ):
                 building.main(top, top / "log")
             os.close(inside)
             self.assertEqual((top / "log").read_text(), "crate low: a\n")

@@ -5,7 +5,15 @@ import unittest
 from pathlib import Path
 
 from built import TOP
-from packages.linked import Crate, Unlicensed, copyright_text, kit_folder, licence_of, linked, names_linked
+from packages.linked import (
+    Crate,
+    Unlicensed,
+    copyright_text,
+    kit_folder,
+    licence_of,
+    linked,
+    names_linked,
+)
 
 MIT = (TOP / "LICENSE-MIT").read_text()
 APACHE = (TOP / "LICENSE-APACHE").read_text()
@@ -25,9 +33,18 @@ class Case(unittest.TestCase):
 
     def test_names(self) -> None:
         """What the repository's crates name below the program, and what the kit's name in turn."""
-        for name, used in (("core", ""), ("std", "core"), ("bytes", "std inner"), ("inner", "core"), ("clap", "std"), ("hex", "std")):
+        for name, used in (
+            ("core", ""),
+            ("std", "core"),
+            ("bytes", "std inner"),
+            ("inner", "core"),
+            ("clap", "std"),
+            ("hex", "std"),
+        ):
             (self.room / f"{name}.rlib").mkdir()
-            (self.room / f"{name}.rlib/format").write_text("".join(f"dep {it}\n" for it in used.split()))
+            (self.room / f"{name}.rlib/format").write_text(
+                "".join(f"dep {it}\n" for it in used.split())
+            )
         self.assertEqual(names_linked(CRATES, self.room), ["bytes", "clap", "core", "inner", "std"])
 
     def test_licences(self) -> None:
@@ -36,7 +53,11 @@ class Case(unittest.TestCase):
             licence_of("All rights reserved")
 
     def test_one_of_two(self) -> None:
-        found = self.crate(LICENSE_MIT=MIT, LICENSE_APACHE=APACHE, README_md="After the Rust crate `one-two` 1.2.3.")
+        found = self.crate(
+            LICENSE_MIT=MIT,
+            LICENSE_APACHE=APACHE,
+            README_md="After the Rust crate `one-two` 1.2.3.",
+        )
         self.assertEqual((found.licence, found.ported), ("MIT OR Apache-2.0", ("one-two", "1.2.3")))
         self.assertEqual(found.holders, ["2026 The Raspmyrtle developers"])
 

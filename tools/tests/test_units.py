@@ -1,4 +1,4 @@
-"""The units of systemd: how they are rated, what they leave to a follower, and the account that they make."""
+"""The units of systemd: their rating, what they leave to a follower, the account that they make."""
 
 import errno
 import re
@@ -23,8 +23,12 @@ DENIED = {
     "mmap.mmap(-1, 4096, prot=mmap.PROT_READ | mmap.PROT_WRITE | mmap.PROT_EXEC)": errno.EPERM,
 }
 ALLOWED = (
-    "socket.socket(socket.AF_INET)", "socket.socket(socket.AF_UNIX)", "mmap.mmap(-1, 4096)", "os.fsync(os.open('file', os.O_CREAT))",
-    "subprocess.run(['true'], check=True)", "ctypes.CFUNCTYPE(None)(print)",
+    "socket.socket(socket.AF_INET)",
+    "socket.socket(socket.AF_UNIX)",
+    "mmap.mmap(-1, 4096)",
+    "os.fsync(os.open('file', os.O_CREAT))",
+    "subprocess.run(['true'], check=True)",
+    "ctypes.CFUNCTYPE(None)(print)",
 )
 TRY = """
 import ctypes, mmap, os, socket, subprocess, sys
@@ -50,15 +54,31 @@ class Case(unittest.TestCase):
         self.assertEqual((ran.returncode, ran.stderr), (0, ""))
 
     def test_rating(self) -> None:
-        words = ["systemd-analyze", "security", "--offline=true", "--no-pager", f"{self.room}/{UNITS[0]}"]
-        found = RATED.search(subprocess.run(words, capture_output=True, text=True, check=True).stdout)
+        words = [
+            "systemd-analyze",
+            "security",
+            "--offline=true",
+            "--no-pager",
+            f"{self.room}/{UNITS[0]}",
+        ]
+        found = RATED.search(
+            subprocess.run(words, capture_output=True, text=True, check=True).stdout
+        )
         assert found
         self.assertLess(float(found[1]), 2.0)
 
     def test_what_keeps_a_follower_running(self) -> None:
         settings = settings_of((TOP / "connect" / UNITS[0]).read_text())
-        wanted = {"UMask": "0077", "RestartForceExitStatus": "7", "Restart": "on-abnormal", "SuccessExitStatus": "9", "User": "pgsub-%i"}
-        self.assertEqual({it: settings[it] for it in wanted}, {name: [value] for name, value in wanted.items()})
+        wanted = {
+            "UMask": "0077",
+            "RestartForceExitStatus": "7",
+            "Restart": "on-abnormal",
+            "SuccessExitStatus": "9",
+            "User": "pgsub-%i",
+        }
+        self.assertEqual(
+            {it: settings[it] for it in wanted}, {name: [value] for name, value in wanted.items()}
+        )
 
     def test_a_filter_of_calls(self) -> None:
         """Lines allow one after the other, and take away."""
@@ -91,10 +111,14 @@ class Case(unittest.TestCase):
         program, *words = shlex.split(command.replace("%i", "shop"))
         (self.room / "etc").mkdir()
         for _ in range(2):
-            subprocess.run([program, f"--root={self.room}", *words], check=True, capture_output=True)
+            subprocess.run(
+                [program, f"--root={self.room}", *words], check=True, capture_output=True
+            )
         (line,) = (self.room / "etc/passwd").read_text().splitlines()
         name, _, number, group, _, home, shell = line.split(":")
-        self.assertEqual((name, home, shell), ("pgsub-shop", "/var/lib/pgsub/shop", "/usr/sbin/nologin"))
+        self.assertEqual(
+            (name, home, shell), ("pgsub-shop", "/var/lib/pgsub/shop", "/usr/sbin/nologin")
+        )
         self.assertTrue((self.room / "etc/group").read_text().startswith(f"pgsub-shop:x:{group}:"))
         self.assertNotEqual(number, "0")
 
