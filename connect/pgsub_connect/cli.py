@@ -21,10 +21,10 @@ from .commands import tables
 from .commands import verify as verify_module
 from .commands import wait
 from .commands.options import Options
-from .commands.record import Aside, Recorder, Recording
 from .commands.words import arguments, settle_options
 from .copy.copier import Copier, create_slot, maker_of
 from .drift.remembered import Remembered, print_names
+from .drift.tolerance import Tolerance
 from .errors import (
     EngineError,
     FileError,
@@ -41,17 +41,20 @@ from .follow.feed import Feeding
 from .follow.filter import Filter, FilterEnded
 from .follow.follower import Follower
 from .follow.server_watch import Asker
+from .record.recorder import Recorder
+from .record.recording import Aside, Recording
 from .server import transport
 from .server.connection import Check
 from .server.followed_publications import require_published
+from .server.subscription import Subscription
 from .status.files import Reporter
 from .status.progress import Progress
 from .store import checkpoint as known_of
-from .store import export
 from .store.checkpoint import Checkpoint
+from .store.checkpoint_at_rest import read_known
+from .store.export import export_store
 from .store.placing import check_meant
 from .store.snapshot import Snapshots, part_of
-from .verify import tables_file as tables_verifying
 
 REJECTED, USAGE, FILE, SERVER, UNFIT, BUG, PASSING, NO_SLOT, MISSED = 1, 2, 3, 4, 5, 6, 7, 8, 9
 
@@ -116,9 +119,9 @@ def follow(options: Options) -> int:
         raise no_store(options)
     checkpoint = Checkpoint(options.store, start.check)
     transport.OWN.begin(checkpoint.known.encrypted, options.accept)
-    progress = Progress()
+    subscription, tolerance, progress = options.subscription(), options.tolerance(), Progress()
     remembered = Remembered(options.store, options.mode)
-    feeding = Feeding(options, checkpoint, progress, remembered)
+    feeding = Feeding(options.feeding(), subscription, tolerance, checkpoint, progress, remembered)
     feeding.check()
     recording = (
         Aside(Recording(options.record, True, options.bytes, options.mode))
@@ -126,7 +129,8 @@ def follow(options: Options) -> int:
         else None
     )
     copier = Copier(
-        options,
+        options.copying(),
+        subscription,
         checkpoint,
         make_filter(options, checkpoint, part_of(options.store)),
         progress,
@@ -135,25 +139,42 @@ def follow(options: Options) -> int:
     child = make_filter(options, checkpoint, options.store)
     snapshots = Snapshots(options.store, options.snapshot, options.snapshot_every, options.mode)
     follower = Follower(
-        options, checkpoint, child, progress, recording, snapshots, remembered, feeding
+        options.following(),
+        subscription,
+        tolerance,
+        checkpoint,
+        child,
+        progress,
+        recording,
+        snapshots,
+        remembered,
+        feeding,
     )
     snapshot_by_signal(snapshots)
     stop_by_signals(copier, follower)
     if start.stop_asked:
         copier.stop_asked = follower.stop_asked = True
-    reporter, asker = Reporter(
-        options, progress
-    ) if options.status_file or options.metrics_file else None, Asker(options, progress)
+    is_shown = bool(options.status_file or options.metrics_file)
+    reporter = Reporter(options.reporting(), progress) if is_shown else None
+    asker = Asker(subscription, is_shown, progress)
     asker.start()
     if reporter:
         reporter.start()
     try:
         if not os.path.exists(options.store):
-            begin(options, checkpoint, copier, remembered, follower.check_stop)
+            begin(
+                options,
+                subscription,
+                tolerance,
+                checkpoint,
+                copier,
+                remembered,
+                follower.check_stop,
+            )
             # (a server that is lost from now on is waited for)
             follower.was_connected = copier.was_connected
         elif options.table or options.all_tables:
-            require_published(options, follower.check_stop)
+            require_published(subscription, options.wanted(), follower.check_stop)
         feeding.begin(child, follower.confirming.stored, follower.check_stop)
         follower.run()
         progress.state = "stopped"
@@ -180,38 +201,46 @@ def no_store(options: Options) -> Unfit:
 
 
 def begin(
-    options: Options, checkpoint: Checkpoint, copier: Copier, remembered: Remembered, check: Check
+    options: Options,
+    subscription: Subscription,
+    tolerance: Tolerance,
+    checkpoint: Checkpoint,
+    copier: Copier,
+    remembered: Remembered,
+    check: Check,
 ) -> None:
     """What a start does where there is no store."""
     known = checkpoint.known
     if options.create and not options.no_copy:
         return copier.run()
-    if known.phase == known_of.FOLLOWING and not options.accepts("gap"):
+    if known.phase == known_of.FOLLOWING and not tolerance.accepts("gap"):
         raise Unfit(
             f"{options.store} is gone, and the slot {known.slot} went on: remove {checkpoint.path} to begin anew"
         )
     if not options.create and not options.no_copy:
         raise no_store(options)
     if options.create:
-        create_slot(options, check, remembered)
+        create_slot(subscription, options.wanted(), options.failover, check, remembered)
     else:
         remembered.remove()
 
 
 def record(options: Options) -> None:
     assert options.record
+    subscription = options.subscription()
     recorder = Recorder(
-        options,
+        subscription,
+        options.recording(),
         Recording(options.record, options.append, options.bytes, options.mode, options.overwrite),
     )
     stop_by_signals(recorder)
-    maker = maker_of(options, recorder.check_stop)
+    maker = maker_of(subscription, options.wanted(), recorder.check_stop)
     try:
         recorder.connect()
         if options.create == "temporary":
             maker.make()
         elif options.create:
-            create_slot(options, recorder.check_stop)
+            create_slot(subscription, options.wanted(), options.failover, recorder.check_stop)
         recorder.run()
     finally:
         maker.take_back()
@@ -229,12 +258,9 @@ def stoppable(call: Callable[[Options, Check], int]) -> Callable[[Options], int]
     return run
 
 
-def verify(options: Options, check: Check) -> int:
-    return (
-        tables_verifying.run(options, check)
-        if options.tables
-        else verify_module.run(options, check)
-    )
+def export(options: Options, check: Check) -> int:
+    export_store(options.export(), check)
+    return 0
 
 
 RUNS: dict[str, Callable[[Options], Any]] = {
@@ -242,9 +268,9 @@ RUNS: dict[str, Callable[[Options], Any]] = {
     "record": record,
     "check": stoppable(check_module.run),
     "drop": stoppable(drop.run),
-    "export": stoppable(export.run),
+    "export": stoppable(export),
     "snapshot": stoppable(snapshot.run),
-    "verify": stoppable(verify),
+    "verify": stoppable(verify_module.run),
     "add": stoppable(add.run),
     "refresh": stoppable(refresh.run),
     "names": lambda options: print_names(options.store),
@@ -265,7 +291,7 @@ def main(words: Sequence[str]) -> int:
     def call() -> int:
         settle_options(options)
         if options.command in BESIDE and options.store:
-            known = drop.read_known(options.store + ".connector")
+            known = read_known(options.store + ".connector")
             transport.OWN.begin(known.encrypted, options.accept)
         return int(RUNS[options.command](options) or 0)
 

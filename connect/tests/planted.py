@@ -203,7 +203,7 @@ BUGS = (
     Bug(
         "another history is taken for the one that was accepted",
         "pgsub_connect/follow/follower.py",
-        "options.accept = []",
+        "self.tolerance.end()",
         "pass",
         ("test_following",),
     ),
@@ -350,7 +350,7 @@ BUGS = (
     Bug(
         "a table above what may be buffered is passed on",
         "pgsub_connect/add/adder.py",
-        "if rows.cost > self.options.max_buffered:",
+        "if rows.cost > self.limits.max_buffered:",
         "if rows.cost < 0:",
         ("test_refusing",),
     ),
@@ -721,14 +721,14 @@ BUGS = (
     Bug(
         "tables are compared before they have all",
         "pgsub_connect/verify/tables_file.py",
-        " or read_file(path)[0] < trail.last:",
+        " or read_position(path)[0] < trail.last:",
         ":",
         ("test_feed_verifying",),
     ),
     Bug(
         "a table that is added isn't left alone",
         "pgsub_connect/verify/tables_file.py",
-        "        followed(options, tables)\n",
+        "        followed(comparison, tables)\n",
         "",
         ("test_feed_verifying",),
     ),
@@ -895,7 +895,7 @@ BUGS = (
     ),
     Bug(
         "the stream is held until the tables are locked",
-        "pgsub_connect/commands/verify.py",
+        "pgsub_connect/verify/store.py",
         "    request.tell(point)\n    source.see(snapshot, leaves=True)\n",
         "    source.see(snapshot, leaves=True)\n    request.tell(point)\n",
         ("test_meeting",),
@@ -958,7 +958,7 @@ BUGS = (
     ),
     Bug(
         "what wasn't compared is equal",
-        "pgsub_connect/commands/verify.py",
+        "pgsub_connect/verify/comparison.py",
         "if self.left and status == EQUAL:",
         "if self.left and status == -1:",
         ("test_verifying", "test_feed_verifying"),

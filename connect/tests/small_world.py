@@ -212,7 +212,9 @@ class WorldSource:
     hook: Callable[[str], None] = staticmethod(lambda name: None)
     open = 0
 
-    def __init__(self, options: object, known: object, check: Check, purpose: str) -> None:
+    def __init__(
+        self, subscription: object, store: str, known: object, check: Check, purpose: str
+    ) -> None:
         self.check, self.patience = check, 0.0
         self.hook("Source")
         self.tables = list(self.world.tables.values())

@@ -10,10 +10,11 @@ import unittest
 from unittest import mock
 
 from pgsub_connect.commands import check
-from pgsub_connect.commands.check import ERROR, OK, WARNING, Purpose, Result, results
 from pgsub_connect.commands.options import Options
 from pgsub_connect.commands.words import arguments
 from pgsub_connect.errors import ServerError, UsageError
+from pgsub_connect.preconditions.judged import require, results
+from pgsub_connect.preconditions.result import ERROR, OK, WARNING, Purpose, Result
 from pgsub_connect.server import preflight
 from pgsub_connect.server.preflight import (
     Facts,
@@ -400,12 +401,12 @@ class Asking(unittest.TestCase):
 
     def test_what_a_copy_requires(self) -> None:
         with self.assertRaisesRegex(ServerError, "wal_level: replica") as raised:
-            check.require(connection_to(self.server(150018)), Options(), copies=True)
+            require(connection_to(self.server(150018)), "pgsub", True, False)
         self.assertTrue(raised.exception.is_lasting())
         with self.assertRaisesRegex(
             UsageError, "--failover needs PostgreSQL 17, and this is 15.18"
         ):
-            check.require(connection_to(self.server(150018)), Options(failover=True), copies=True)
+            require(connection_to(self.server(150018)), "pgsub", True, True)
 
 
 class Printing(unittest.TestCase):
@@ -466,7 +467,7 @@ class Members(unittest.TestCase):
         self.assertEqual([it.level for it in results(found, Purpose()) if it.name == "role"], [OK])
 
     def test_a_copy_begins_where_the_server_lets_it(self) -> None:
-        check.require(connection_to(self.server), Options(), copies=True)
+        require(connection_to(self.server), "pgsub", True, False)
 
 
 class Connecting(unittest.TestCase):

@@ -11,12 +11,12 @@ import unittest
 from typing import Any
 from unittest import mock
 
-from pgsub_connect.commands.drop import locked, read_known
 from pgsub_connect.commands.words import KINDS
 from pgsub_connect.errors import FileError, Passing, Stopped, Unfit
 from pgsub_connect.store import checkpoint as known_of
 from pgsub_connect.store.at_rest import locked_checkpoint
 from pgsub_connect.store.checkpoint import MISSING, SIZE, Checkpoint, Counted, Known, check_gap
+from pgsub_connect.store.checkpoint_at_rest import locked, read_known
 from pgsub_connect.store.checkpoint_lines import line_of
 
 from .fake_server import Quiet

@@ -10,22 +10,31 @@ import sqlite3
 import time
 import unittest
 from collections.abc import Callable, Sequence
-from typing import cast
+from typing import Any, cast
 from unittest import mock
 
-from pgsub_connect.commands.options import Options
 from pgsub_connect.copy import copier as copier_module
 from pgsub_connect.copy import table_reader
-from pgsub_connect.copy.copier import CHANGED, Copier, Tries, altered_tables, create_slot
+from pgsub_connect.copy.copier import (
+    CHANGED,
+    Copier,
+    CopySettings,
+    Tries,
+    altered_tables,
+    create_slot,
+)
 from pgsub_connect.copy.messages import InsertHeads, begin, commit, frame, inserts, relation
 from pgsub_connect.drift.remembered import Remembered
 from pgsub_connect.errors import Passing, ServerError, Stopped, Unfit, UsageError
 from pgsub_connect.follow.filter import Filter, FilterEnded
+from pgsub_connect.follow.memory_limit import BufferLimits
 from pgsub_connect.server import publication_setup
 from pgsub_connect.server import waits as waits_module
 from pgsub_connect.server.catalog import Catalog, Partition
 from pgsub_connect.server.catalog import Table as CatalogTable
+from pgsub_connect.server.publication_setup import Wanted
 from pgsub_connect.server.publications import Column, Table
+from pgsub_connect.server.subscription import Subscription
 from pgsub_connect.status.progress import Progress
 from pgsub_connect.store import checkpoint as known_of
 from pgsub_connect.store.checkpoint import Checkpoint
@@ -172,15 +181,19 @@ class Copying(Quiet):
         )
         return remembered.wanted
 
-    def copier(self, **options: object) -> Copier:
+    def copier(self, max_buffered: int = 0, **settings: Any) -> Copier:
         self.checkpoint = Checkpoint(self.store)
         self.addCleanup(os.close, self.checkpoint.file)
         self.filter = FakeFilter(part_of(self.store))
         self.progress = Progress()
-        chosen = Options(store=self.store, publication=["pgsub"], create="permanent", **options)  # type: ignore[arg-type]
         self.remembered = Remembered(self.store)
         return Copier(
-            chosen, self.checkpoint, cast(Filter, self.filter), self.progress, self.remembered
+            CopySettings(self.store, Wanted(["pgsub"]), BufferLimits(max_buffered), **settings),
+            Subscription(publications=["pgsub"]),
+            self.checkpoint,
+            cast(Filter, self.filter),
+            self.progress,
+            self.remembered,
         )
 
 
@@ -783,7 +796,7 @@ class Ends(Copying):
         copier.run()
         self.assertTrue(os.path.exists(self.store))
         self.assertEqual(len(self.server.told("ALTER_REPLICATION_SLOT")), 1)
-        self.assertEqual(copier.options.publication, ["pgsub", "pgsub_inserts"])
+        self.assertEqual(copier.subscription.publications, ["pgsub", "pgsub_inserts"])
 
 
 OTHER = Table(
@@ -1003,7 +1016,7 @@ class Kept(Copying):
 class Left(Copying):
     """A publication that a run has left which was killed."""
 
-    def killed(self, **options: object) -> None:
+    def killed(self, **options: Any) -> None:
         """Is killed while it copies."""
         copier = self.copier(**options)
         self.server.answer("COPY (", ServerError("", "42000"))
@@ -1086,24 +1099,26 @@ class Counting(unittest.TestCase):
 class Slots(Copying):
     """A slot without rows."""
 
-    def options(self, **options: object) -> Options:
-        return Options(store=self.store, publication=["pgsub"], create="permanent", no_copy=True, **options)  # type: ignore[arg-type]
+    def make(self, remembered: Remembered | None = None) -> None:
+        create_slot(
+            Subscription(publications=["pgsub"]), Wanted(["pgsub"]), False, lambda: None, remembered
+        )
 
     def test_what_is_published_is_remembered(self) -> None:
         remembered = Remembered(self.store)
-        create_slot(self.options(), lambda: None, remembered)
+        self.make(remembered)
         again = Remembered(self.store)
         self.assertEqual((again.made, again.publications()), ({"pgsub": 777}, ["pgsub"]))
 
     def test_a_slot_goes_where_nothing_comes_of_it(self) -> None:
         self.patch(copier_module, "read_catalog", mock.Mock(side_effect=Stopped))
         with self.assertRaises(Stopped):
-            create_slot(self.options(), lambda: None, Remembered(self.store))
+            self.make(Remembered(self.store))
         self.assertEqual(self.server.told("DROP_REPL"), ['DROP_REPLICATION_SLOT "pgsub"'])
         self.assertEqual(len(self.server.told('DROP PUBLICATION "pgsub"')), 1)
 
     def test_made(self) -> None:
-        create_slot(self.options(), lambda: None)
+        self.make()
         self.assertLess(
             self.server.index("CREATE PUBLICATION"), self.server.index("CREATE_REPLICATION_SLOT")
         )
@@ -1117,13 +1132,13 @@ class Slots(Copying):
             "CREATE_REPLICATION_SLOT", ServerError("all replication slots are in use", "53400")
         )
         with self.assertRaises(ServerError):
-            create_slot(self.options(), lambda: None)
+            self.make()
         self.assertEqual(len(self.server.told('DROP PUBLICATION "pgsub"')), 1)
 
     def test_a_slot_that_is_older_than_its_publication(self) -> None:
         self.slots = [["pgoutput", "t", "f", "5"]]
         with self.assertRaisesRegex(Unfit, "older than the publication pgsub"):
-            create_slot(self.options(), lambda: None)
+            self.make()
         self.assertEqual(
             self.server.told("CREATE PUBLICATION") + self.server.told("CREATE_REPLICATION_SLOT"), []
         )
@@ -1132,7 +1147,7 @@ class Slots(Copying):
         self.slots = [["pgoutput", "t", "f", "5"]]
         self.server.answer("SELECT FROM pg_catalog.pg_publication", [[]])
         self.server.answer("SELECT p.oid FROM pg_catalog.pg_publication p", [["777"]])
-        create_slot(self.options(), lambda: None)
+        self.make()
         self.assertEqual(
             self.server.told("CREATE PUBLICATION") + self.server.told("CREATE_REPLICATION_SLOT"), []
         )

@@ -10,10 +10,10 @@ from unittest import mock
 
 from pgsub_connect.add.adder import Adder
 from pgsub_connect.add.replacement import Leaving
-from pgsub_connect.commands.drop import read_known
 from pgsub_connect.drift.remembered import Remembered
 from pgsub_connect.follow.follower import Follower
 from pgsub_connect.store.checkpoint import Checkpoint
+from pgsub_connect.store.checkpoint_at_rest import read_known
 
 from .adding_case import Case, Run, T
 from .small_world import WorldSource

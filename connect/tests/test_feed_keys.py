@@ -15,7 +15,7 @@ from pgsub_connect.commands.options import Options
 from pgsub_connect.commands.tables import Tables
 from pgsub_connect.drift.remembered import Remembered
 from pgsub_connect.server.connection import never
-from pgsub_connect.store.export import run as export
+from pgsub_connect.store.export import ExportSettings, export_store
 from pgsub_feed.tables.file import Rows
 
 from .feeds import delete, insert, table, truncate, update
@@ -360,5 +360,5 @@ class FromStore(KeysCase):
     def exported(self) -> str:
         path = str(self.folder / "base.db")
         with logged():
-            export(Options(command="export", store=self.store, into=path), never)
+            export_store(ExportSettings(store=self.store, into=path), never)
         return path

@@ -21,11 +21,12 @@ from pgsub_connect.commands.wait import Awaited
 from pgsub_connect.errors import FileError, Passing, Unfit
 from pgsub_connect.follow.retention import Limits, retire
 from pgsub_connect.server.connection import Check, never
-from pgsub_connect.store.export import run as export
+from pgsub_connect.store.export import ExportSettings, export_store
 from pgsub_connect.store.snapshot import copy
 from pgsub_feed.reader.positions import Noted
 from pgsub_feed.reader.segments import segments
 from pgsub_feed.tables import first_rows
+from pgsub_feed.tables.position import read_position
 from pgsub_feed.tables.view import View
 
 from .feeds import ID, NAME, STOCK, FeedCase, delete, insert, table, truncate, update
@@ -717,16 +718,15 @@ class Beginning(TablesCase):
             Noted(str(self.path), "quick", None, 0o600).note(self.at, is_last=True)
             retire(str(self.path), Limits(), self.at, 0.0)
 
-        def export_slowly(options: Options, check: Check) -> int:
-            status = export(options, check)
+        def export_slowly(settings: ExportSettings, check: Check) -> None:
+            export_store(settings, check)
             go_on()
-            return status
 
         def copy_slowly(*words: Any) -> None:
             copy(*words)
             go_on()
 
-        patched = ("copy", copy_slowly) if "base" in more else ("export", export_slowly)
+        patched = ("copy", copy_slowly) if "base" in more else ("export_store", export_slowly)
         with mock.patch("pgsub_connect.store.export.log"), mock.patch.object(first_rows, *patched):
             self.run_it(reader="rows", **more)
         self.assertEqual(
@@ -750,7 +750,7 @@ class Beginning(TablesCase):
     def test_what_one_needs_that_begins_with_an_export_stays(self) -> None:
         base = str(self.folder / "base.db")
         with logged():
-            export(Options(command="export", store=self.store(0x200), into=base), never)
+            export_store(ExportSettings(store=self.store(0x200), into=base), never)
         self.assertEqual(self.beside_another_reader(base=base), [0x200, 0x300, 0x400, 0x500])
 
     def test_what_one_needs_that_goes_back_behind_the_copy_stays(self) -> None:
@@ -761,13 +761,12 @@ class Beginning(TablesCase):
         self.take()
         self.feed.confirm(0x300)
 
-        def export_slowly(options: Options, check: Check) -> int:
-            status = export(options, check)
+        def export_slowly(settings: ExportSettings, check: Check) -> None:
+            export_store(settings, check)
             retire(str(self.path), Limits(), self.at, 0.0)
-            return status
 
         with mock.patch.object(first_rows, "is_followed", lambda _: True), mock.patch.object(
-            first_rows, "export", export_slowly
+            first_rows, "export_store", export_slowly
         ):
             self.run_it(reader="rows", store=self.store(0x300, "b"), at=0x100)
         self.assertEqual(
@@ -812,7 +811,7 @@ class Beginning(TablesCase):
         self.take()
         base = str(self.folder / "base.db")
         with logged():
-            export(Options(command="export", store=str(self.folder / "copy.db"), into=base), never)
+            export_store(ExportSettings(store=str(self.folder / "copy.db"), into=base), never)
         self.run_it(base=base)
         self.assertEqual(
             self.rows("SELECT name, oid FROM pgsub_tables ORDER BY oid"),
@@ -868,7 +867,7 @@ class Beginning(TablesCase):
         store.close()
         base = str(self.folder / "base.db")
         with logged():
-            export(Options(command="export", store=str(self.folder / "copy.db"), into=base), never)
+            export_store(ExportSettings(store=str(self.folder / "copy.db"), into=base), never)
         bag, wider = table(2, "bag", letter="f"), table(columns=[ID, NAME, Column("more", 23)])
         self.at = self.feed.at = 0x200
         self.feed.begin()
@@ -979,7 +978,7 @@ class Waiting(TablesCase):
             self.path = self.path.rename(self.folder / os.fsdecode(name))
             self.feed.folder, self.feed.path = self.path, self.path / self.feed.path.name
             self.run_it()
-            self.assertEqual(wait.read_file(self.into), (0x100, str(self.path)))
+            self.assertEqual(read_position(self.into), (0x100, str(self.path)))
             with contextlib.closing(View(self.into, never)) as view:
                 self.assertEqual(view.folder, str(self.path))
         self.feed.confirm(0x180)

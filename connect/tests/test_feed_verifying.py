@@ -22,8 +22,10 @@ from pgsub_connect.commands.words import arguments
 from pgsub_connect.errors import FileError, Passing, Stopped, Unfit
 from pgsub_connect.server.connection import never
 from pgsub_connect.server.publications import Column, Table
+from pgsub_connect.server.subscription import Subscription
 from pgsub_connect.verify import tables_file
 from pgsub_connect.verify.meeting_point import chosen
+from pgsub_connect.verify.tables_file import TablesComparison
 from pgsub_feed.reader.trail import Gone, Trail
 
 from .fake_server import connection_to
@@ -79,7 +81,7 @@ class VerifyCase(TablesCase):
     def confirm(self, lsn: int) -> None:
         (self.path / "confirmed").write_text(f"0/{lsn:X}\n")
 
-    def source(self, options: Options, known: Any, check: Any) -> Any:
+    def source(self, _: Subscription, store: str, known: Any, check: Any) -> Any:
         self.known = known
         found = SimpleNamespace(
             plain=connection_to(self.server),
@@ -98,7 +100,7 @@ class VerifyCase(TablesCase):
 
     def verified(self, status: int, **more: Any) -> list[dict[str, Any]]:
         """Compares. Returns what is printed."""
-        options = Options(command="verify", tables=self.into, **more)
+        comparison = TablesComparison(Subscription(), self.into, **more)
 
         def sums(queries: Any) -> str:
             self.server.answer("SUMS", self.server.sums(queries.plan))
@@ -116,7 +118,7 @@ class VerifyCase(TablesCase):
                 mock.patch.multiple("pgsub_connect.verify.digests.Queries", sums=sums, texts=texts)
             )
             stack.enter_context(mock.patch.object(tables_file, "Source", self.source))
-            self.assertEqual(tables_file.run(options, never), status)
+            self.assertEqual(tables_file.compare_tables(comparison, never), status)
         return [json.loads(line) for line in out.getvalue().splitlines()]
 
     def equal(self, **more: Any) -> None:
@@ -298,8 +300,8 @@ class Server(VerifyCase):
             tables.run(self.options(table=["stock"]), never)
         self.equal()
         self.assertIn(f"{self.into} was made without 1 table: public.whole", self.said)
-        self.fails(Unfit, "was made without public.whole", table=["whole"])
-        self.equal(table=["stock"])
+        self.fails(Unfit, "was made without public.whole", chosen=["whole"])
+        self.equal(chosen=["stock"])
 
     def test_a_table_of_which_nothing_ever_came(self) -> None:
         self.published.append(Table(9, "public", "late", "r", "d", None, None, STOCK.columns))
@@ -353,7 +355,7 @@ class Server(VerifyCase):
     def test_what_the_server_does_not_show_as_of_the_point(self) -> None:
         self.left = {1: "altered or dropped"}
         del self.published[0]
-        self.assertEqual(self.verified(0, table=["whole"]), [])
+        self.assertEqual(self.verified(0, chosen=["whole"]), [])
         self.assertFalse(any("don't have now" in it for it in self.said))
         self.published.insert(0, STOCK)
         self.plant("UPDATE stock SET name = 'x' WHERE id = 1")
@@ -374,8 +376,8 @@ class Server(VerifyCase):
             self.said[-1],
             "warning: rows come anew by: pgsub-connect add --store STORE --table public.stock",
         )
-        self.assertEqual(self.verified(1, table=["stock"]), [])
-        self.equal(table=["whole"])
+        self.assertEqual(self.verified(1, chosen=["stock"]), [])
+        self.equal(chosen=["whole"])
 
     def test_numbers_of_4_bytes_to_the_last_bit(self) -> None:
         """What no number of 4 bytes is stored as is found, however close it is; its digits and its
@@ -451,7 +453,7 @@ class Server(VerifyCase):
 
         add(1)
         self.fails(Passing, "being added just now, or refused: public.stock", store=str(store))
-        self.equal(store=str(store), table=["whole"])
+        self.equal(store=str(store), chosen=["whole"])
         path.unlink()
         self.equal(store=str(store))
         self.meanwhile = lambda: add(2)
@@ -479,17 +481,17 @@ class Server(VerifyCase):
             (str(self.path / "confirmed"), "has no tables that follow a feed"),
         ):
             with self.assertRaisesRegex(FileError, text):
-                tables_file.run(Options(tables=path), never)
+                tables_file.compare_tables(TablesComparison(Subscription(), path), never)
 
     def test_ended(self) -> None:
         with mock.patch.object(
             tables_file, "with_server", side_effect=Stopped
         ), self.assertRaisesRegex(Passing, "ended before"):
-            tables_file.run(Options(tables=self.into), never)
+            tables_file.compare_tables(TablesComparison(Subscription(), self.into), never)
         with mock.patch.object(
             tables_file, "with_server", side_effect=sqlite3.DatabaseError("x")
         ), self.assertRaisesRegex(FileError, "rows.db: x"):
-            tables_file.run(Options(tables=self.into), never)
+            tables_file.compare_tables(TablesComparison(Subscription(), self.into), never)
 
 
 class Files(VerifyCase):

@@ -3,6 +3,7 @@ it is refused."""
 
 from __future__ import annotations
 
+import dataclasses
 import os
 import stat
 import subprocess
@@ -18,13 +19,15 @@ from feed_text import Column, lsn_text
 from pgsub_connect.commands.options import Options
 from pgsub_connect.commands.words import arguments
 from pgsub_connect.drift.remembered import Remembered, replace_file
+from pgsub_connect.drift.tolerance import Tolerance
 from pgsub_connect.errors import FileError, Unfit
 from pgsub_connect.follow import feed as feed_module
 from pgsub_connect.follow import tables_process
-from pgsub_connect.follow.feed import Feeding, Keeper, Reached
+from pgsub_connect.follow.feed import Feeding, FeedSettings, Keeper, Reached
 from pgsub_connect.follow.filter import FilterEnded
 from pgsub_connect.follow.follower import Follower
-from pgsub_connect.follow.tables_process import Beside, words_of
+from pgsub_connect.follow.tables_process import Beside, TablesSettings, words_of
+from pgsub_connect.server.subscription import Subscription
 from pgsub_connect.status.metrics import metrics_text
 from pgsub_connect.status.progress import Progress
 from pgsub_feed.reader.positions import Noted, make_folder
@@ -60,18 +63,28 @@ class Followed(Case):
         self.patch(feed_module, "QUIET", 0.02)
         self.patch(feed_module, "BUSY", 0.02)
 
-    def fed(self, feed: str | None = None, **options: object) -> Follower:
+    def fed(
+        self, feed: str | None = None, settings: dict[str, Any] | None = None, **options: Any
+    ) -> Follower:
         """A follower whose feed is checked, and that is about to run."""
-        follower = self.follower(feed=self.feed if feed is None else feed, **options)
-        follower.feeding = it = Feeding(
-            follower.options, self.checkpoint, self.progress, follower.watch.remembered
-        )
+        follower = self.follower(**options)
+        follower.feeding = it = self.feeding_of(follower, feed, **(settings or {}))
         it.check()
         self.addCleanup(it.finish)
         it.begin(follower.filter, follower.confirming.stored, follower.check_stop)
         return follower
 
-    def follower(self, **options: object) -> Follower:
+    def feeding_of(self, follower: Follower, feed: str | None = None, **settings: Any) -> Feeding:
+        return Feeding(
+            FeedSettings(self.store, self.feed if feed is None else feed, **settings),
+            follower.subscription,
+            follower.tolerance,
+            self.checkpoint,
+            self.progress,
+            follower.watch.remembered,
+        )
+
+    def follower(self, **options: Any) -> Follower:
         # (what is remembered lasts from run to run)
         if os.path.exists(self.store + ".tables"):
             remembered = Remembered(self.store)
@@ -143,7 +156,7 @@ class Followed(Case):
             "--feed-slot",
             "pgsub",
         ]
-        follower = self.fed(feed_segment_bytes=5000, feed_segment_seconds=60)
+        follower = self.fed(settings={"segment_bytes": 5000, "segment_seconds": 60})
         self.assertEqual(
             follower.filter.words[-12:],
             [*words, "--feed-segment-bytes", "5000", "--feed-segment-seconds", "60"],
@@ -153,7 +166,7 @@ class Followed(Case):
         self.run_until(follower, lambda: self.confirmed() == 0x400)
         os.close(os.dup(self.checkpoint.file))
         self.brain.answer("IDENTIFY_SYSTEM", [["88", "1", "0/1000000", "other"]])
-        known = Feeding(follower.options, self.checkpoint, self.progress, follower.watch.remembered)
+        known = self.feeding_of(follower)
         self.assertEqual(known.source(lambda: None), ("77", "shop", "pgsub"))
 
     def follow_once(self, end: int = 0x108) -> None:
@@ -183,7 +196,7 @@ class Followed(Case):
             self.fed(feed=self.folder + "/other")
         self.unlock()
         self.assertFalse(os.path.exists(self.folder + "/other"))
-        follower = self.fed(feed="", without_feed=True)
+        follower = self.fed(feed="", settings={"is_left": True})
         self.assertIn(
             f"warning: the feed {self.feed} ends here: whoever reads it begins anew, from an export and another feed",
             self.said,
@@ -203,7 +216,7 @@ class Followed(Case):
             self.said,
         )
         self.unlock()
-        follower = self.fed(feed=self.folder + "/other", without_feed=True)
+        follower = self.fed(feed=self.folder + "/other", settings={"is_left": True})
         self.server.to_send = [begin(0x300, 9), inserted(1), commit(0x300, 0x308)]
         self.run_until(follower, lambda: self.confirmed() == 0x308)
         self.feed = self.folder + "/other"
@@ -322,9 +335,20 @@ class Followed(Case):
 class Refused(Quiet):
     """What a start refuses before anything is made."""
 
-    def feeding(self, **options: object) -> Feeding:
-        chosen = Options(store=self.store, feed=self.store + ".feed", **options)  # type: ignore[arg-type]
-        return Feeding(chosen, mock.Mock(), Progress(), Remembered(self.store))
+    def feeding(self, tables: str = "") -> Feeding:
+        feed = self.store + ".feed"
+        return Feeding(
+            FeedSettings(
+                self.store,
+                feed,
+                tables=TablesSettings(tables, feed, self.store) if tables else None,
+            ),
+            Subscription(),
+            Tolerance(),
+            mock.Mock(),
+            Progress(),
+            Remembered(self.store),
+        )
 
     def setUp(self) -> None:
         super().setUp()
@@ -397,8 +421,8 @@ class Kept(FeedCase):
         self.progress = Progress()
         self.progress.position = 0x600
 
-    def keeper(self, confirmed: int = 0x600, **options: object) -> Keeper:
-        chosen = Options(feed=str(self.path), **options)  # type: ignore[arg-type]
+    def keeper(self, confirmed: int = 0x600, **settings: Any) -> Keeper:
+        chosen = FeedSettings("copy.db", str(self.path), **settings)
         return Keeper(chosen, str(self.path), self.progress, lambda: Reached(confirmed, 0x600))
 
     def read(self, name: str, lsn: int) -> None:
@@ -424,7 +448,7 @@ class Kept(FeedCase):
 
     def test_a_reader_that_loses_segments_is_named(self) -> None:
         self.read("slow", 0x100)
-        self.keeper(feed_max_bytes=4000).tend(100.0)
+        self.keeper(max_bytes=4000).tend(100.0)
         self.assertEqual([base for base, _ in segments(str(self.path))][-1], 0x500)
         self.assertIn(
             "warning: the reader slow hadn't read all of that, and has to begin anew: the feed may have 4000 bytes",
@@ -530,15 +554,13 @@ class Tables(FeedCase):
         patch.start()
         self.addCleanup(patch.stop)
         self.into, self.progress = str(self.folder / "rows.db"), Progress()
-        self.options = Options(
-            store=str(self.folder / "copy.db"), feed=str(self.path), tables=self.into
-        )
+        self.settings = TablesSettings(self.into, str(self.path), str(self.folder / "copy.db"))
 
     def kept(self, code: str | None = None) -> Beside:
         """One that runs this in the place of `pgsub-connect tables`; by default that itself, from
         the beginning of the feed, which notes at once how far it is, and bears for a short time
         what is wrong."""
-        it = Beside(self.options, self.progress)
+        it = Beside(self.settings, self.progress)
         if code is not None:
             it.words = [sys.executable, "-S", "-c", code]
         else:
@@ -600,7 +622,7 @@ class Tables(FeedCase):
 
     def test_before_they_are_made_they_have_nothing(self) -> None:
         """What a new reader needs is kept under its name: that isn't what it has."""
-        kept = Beside(self.options, self.progress)
+        kept = Beside(self.settings, self.progress)
         Noted(str(self.path), "tables", None, 0o600).note(0x300, is_last=True)
         with mock.patch.object(kept, "is_alive", lambda: True):
             self.assertFalse(kept.has(0x300))
@@ -664,12 +686,12 @@ class Tables(FeedCase):
         )
 
     def test_how_it_is_started(self) -> None:
-        self.options.init, self.options.mode = "my.sql", 0o640
-        options = arguments(words_of(self.options)[3:])
+        settings = dataclasses.replace(self.settings, init="my.sql", mode=0o640)
+        options = arguments(words_of(settings)[3:])
         self.assertEqual(
             (options.command, options.feed, options.into), ("tables", str(self.path), self.into)
         )
-        self.assertEqual(options.store, self.options.store)
+        self.assertEqual(options.store, self.settings.store)
         self.assertEqual(
             (options.reader, options.mode, options.while_input, options.once),
             ("tables", 0o640, True, False),
@@ -686,7 +708,7 @@ class Tables(FeedCase):
             name: value for name, value in os.environ.items() if not name.startswith("PYTHON")
         }
         done = subprocess.run(
-            [*words_of(self.options)[:3], "tables"],
+            [*words_of(self.settings)[:3], "tables"],
             cwd=self.folder,
             env=environment,
             capture_output=True,

@@ -11,9 +11,9 @@ import threading
 import time
 import unittest
 from collections.abc import Callable, Iterator, Sequence
+from typing import Any
 from unittest import mock
 
-from pgsub_connect.commands.options import Options
 from pgsub_connect.drift import watch
 from pgsub_connect.drift.findings import About
 from pgsub_connect.drift.remembered import Remembered
@@ -35,6 +35,7 @@ from pgsub_connect.store.snapshot import Snapshots
 from pgsub_feed.texts import lsn_text, parse_lsn
 
 from .fake_server import FakeServer, Quiet, Row
+from .followed import followed
 from .small_server import READY, SmallServer, error
 from .vectors import a_catalog, a_table, begin, commit, insert, keepalive
 
@@ -81,13 +82,12 @@ class Case(Quiet):
         patch.start()
         self.addCleanup(patch.stop)
 
-    def follower(self, **options: object) -> Follower:
+    def follower(self, **options: Any) -> Follower:
         self.checkpoint = Checkpoint(self.store)
         self.addCleanup(os.close, self.checkpoint.file)
         if not os.path.exists(self.store):
             with open(self.store, "w", encoding="ascii") as file:
                 file.write("0")
-        chosen = Options(store=self.store, dsn=self.server.dsn(), publication=["pgsub"], **options)  # type: ignore[arg-type]
         child = Filter(
             ["/usr/bin/python3", "-S", "-E", FAKE, "follow", "--store", self.store],
             (self.checkpoint.file,),
@@ -96,7 +96,7 @@ class Case(Quiet):
         self.progress, remembered = Progress(), Remembered(self.store)
         remembered.begin_copy(a_catalog(a_table(1, "t")), 100)
         return Follower(
-            chosen,
+            *followed(self.store, self.server.dsn(), **options),
             self.checkpoint,
             child,
             self.progress,
@@ -292,7 +292,7 @@ class Sessions(Case):
         )
         self.server.to_send = [begin(0x100, 7), insert(1), commit(0x100, 0x108)]
         follower = self.follower()
-        follower.options.publication = ["pgsub", "late"]
+        follower.subscription.note_publications(["pgsub", "late"])
         found = f"the server leaves out changes from before a publication was made: {text}"
         self.run_until(follower, lambda: self.confirmed() == 0x108)
         self.assertIn(f"warning: found: publication at 0/0: {found}", self.said)
@@ -306,7 +306,7 @@ class Sessions(Case):
         with self.assertRaisesRegex(Unfit, "leaves out changes"):
             self.run_until(follower, lambda: False)
 
-    def follower_again(self, **options: object) -> Follower:
+    def follower_again(self, **options: Any) -> Follower:
         self.patch(Checkpoint, "lock", lambda *_: None)
         return self.follower(**options)
 
@@ -728,7 +728,7 @@ class Fits(Case):
                     follower.start_replication(connection, self.server_now(1))
                 self.assertTrue(raised.exception.is_lasting())
 
-    def follower_alone(self, **options: object) -> Follower:
+    def follower_alone(self, **options: Any) -> Follower:
         self.patch(Checkpoint, "lock", lambda *_: None)
         follower = self.follower(**options)
         follower.filter.status = b"r" + bytes(33)

@@ -10,17 +10,17 @@ import unittest
 from collections.abc import Iterator
 from unittest import mock
 
-from pgsub_connect.commands.options import Options
-from pgsub_connect.commands.verify import meet
 from pgsub_connect.copy.copier import CHANGED
 from pgsub_connect.errors import NoSlot, Passing, ServerError, Stopped, Unfit
 from pgsub_connect.follow.hold import write_request
 from pgsub_connect.server.connection import Check, never
 from pgsub_connect.server.publications import Table
+from pgsub_connect.server.subscription import Subscription
 from pgsub_connect.store.checkpoint import FOLLOWING, Known
 from pgsub_connect.store.snapshot import Snapshots, position_in
 from pgsub_connect.verify import meeting_point
 from pgsub_connect.verify.meeting_point import Request, Source
+from pgsub_connect.verify.store import meet
 from pgsub_connect.verify.unchanged import ALTERED, LOCKED, MOVED
 
 from .fake_server import FakeServer, Quiet, Row
@@ -182,7 +182,7 @@ class Servers(Quiet):
         self.addCleanup(patch.stop)
 
     def source(self, known: Known = KNOWN) -> Source:
-        source = Source(Options(command="verify", store="s", publication=["pgsub"]), known, never)
+        source = Source(Subscription(publications=["pgsub"]), "s", known, never)
         self.addCleanup(source.close)
         return source
 

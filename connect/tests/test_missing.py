@@ -13,10 +13,10 @@ from unittest import mock
 
 from pgsub_connect import cli
 from pgsub_connect.cli import MISSED, UNFIT
-from pgsub_connect.commands.options import Options
 from pgsub_connect.commands.words import ENDS, KINDS
 from pgsub_connect.drift.missed_rows import Misses, texts_of
 from pgsub_connect.drift.remembered import Remembered
+from pgsub_connect.drift.tolerance import Tolerance
 from pgsub_connect.errors import Passing, ServerError, Unfit
 from pgsub_connect.follow.awake import Awake
 from pgsub_connect.follow.filter import FilterEnded, Missing, flushed
@@ -483,12 +483,12 @@ class Rejected(FollowCase):
 
 
 class Told(FollowCase):
-    def misses(self, **options: object) -> Misses:
+    def misses(self, accept: Sequence[str] = ()) -> Misses:
         self.checkpoint = Checkpoint(self.store)
         self.addCleanup(os.close, self.checkpoint.file)
         self.progress, remembered = Progress(), Remembered(self.store)
         remembered.begin_copy(a_catalog(a_table(1, "t")), 100)
-        return Misses(Options(store=self.store, **options), self.checkpoint, self.progress, remembered)  # type: ignore[arg-type]
+        return Misses(Tolerance(accept), self.checkpoint, self.progress, remembered)
 
     def test_the_first_at_once_and_more_each_ten_seconds(self) -> None:
         misses = self.misses()

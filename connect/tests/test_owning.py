@@ -326,7 +326,7 @@ class Links(Case):
         for suffix in ("-wal", "-journal"):
             shutil.copy(self.victim, self.folder + "/far/app.db" + suffix)
         with logged(), self.assertRaisesRegex(FileError, "isn't followed"):
-            export.run(Options(command="export", store=self.path, into=self.into), never)
+            export.export_store(export.ExportSettings(store=self.path, into=self.into), never)
         with self.assertRaisesRegex(FileError, "isn't followed"), placed(self.into, 0o600):
             self.fail("it was followed")
         with self.assertRaisesRegex(FileError, "isn't followed"):

@@ -11,16 +11,16 @@ import unittest
 from collections.abc import Sequence
 from unittest import mock
 
-from pgsub_connect.commands.options import Options
-from pgsub_connect.commands.record import Aside, Recording
 from pgsub_connect.drift.remembered import Remembered
 from pgsub_connect.errors import ServerError
 from pgsub_connect.follow.filter import PIECE, REJECTED, ROOM, Filter, FilterEnded
 from pgsub_connect.follow.follower import Follower
+from pgsub_connect.record.recording import Aside, Recording, Session
 from pgsub_connect.status.progress import Progress
 from pgsub_connect.store.checkpoint import Checkpoint
 from pgsub_connect.store.snapshot import Snapshots
 
+from .followed import followed
 from .vectors import a_catalog, a_table, begin, commit, insert, keepalive, logged, relation
 
 FAKE = os.path.join(os.path.dirname(os.path.abspath(__file__)), "fake_filter.py")
@@ -62,9 +62,8 @@ class Case(unittest.TestCase):
         self.child.pending, self.child.waiting, self.child.written = collections.deque(), 0, 0
         self.recording = Recording(folder.name + "/r.pgx", False, 1 << 30)
         self.addCleanup(self.recording.out.close)
-        options = Options(store=self.store, publication=["pgsub"], skip=0x210)
         self.follower = Follower(
-            options,
+            *followed(self.store, skip=0x210),
             Checkpoint(self.store),
             self.child,
             Progress(),
@@ -138,12 +137,7 @@ class Passes(Case):
         follower = self.follower
         follower.proto, follower.streams = 1, False
         self.assertIn("proto_version '1', publication_names", follower.command(0))
-        chosen = dataclasses.replace(
-            follower.options, proto=follower.proto, streaming=follower.is_streaming()
-        )
-        connection = mock.Mock()
-        connection.parameter.return_value = "13.9"
-        self.recording.begin_session(connection, chosen, 0x100)
+        self.recording.begin_session(Session("13.9", "pgsub", ["pgsub"], 1, [], 0x100))
         self.recording.flush()
         with open(self.recording.path, encoding="ascii") as file:
             self.assertIn("# protocol version 1, from 0/100", file.read())

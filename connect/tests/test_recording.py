@@ -6,15 +6,18 @@ import itertools
 import os
 import time
 import unittest
+from typing import Any
 from unittest import mock
 
 from pgsub_connect import cli
 from pgsub_connect.commands.options import Options
-from pgsub_connect.commands.record import Recorder, Recording
 from pgsub_connect.errors import FileError, UsageError
 from pgsub_connect.follow.filter import COPY_DONE, flushed
+from pgsub_connect.record.recorder import Recorder, RecordSettings
+from pgsub_connect.record.recording import Recording
 from pgsub_connect.server import transport
 from pgsub_connect.server.connection import Connection
+from pgsub_connect.server.subscription import Subscription
 
 from .fake_server import FakeServer, Quiet
 from .small_server import SmallServer
@@ -101,10 +104,13 @@ class Case(Quiet):
         server.to_send, server.version = list(payloads), version
         return server
 
-    def record(self, *, append: bool = False, size: int = 1 << 20, **options: object) -> Recorder:
+    def record(self, *, append: bool = False, size: int = 1 << 20, **options: Any) -> Recorder:
         # (so that no fault makes it wait without end)
-        chosen = Options(dsn=self.server.dsn(), publication=["pgsub"], **{"seconds": 10.0, **options})  # type: ignore[arg-type]
-        recorder = Recorder(chosen, Recording(self.path, append, size))
+        subscription = Subscription(self.server.dsn(), publications=["pgsub"])
+        options.setdefault("seconds", 10.0)
+        recorder = Recorder(
+            subscription, RecordSettings(**options), Recording(self.path, append, size)
+        )
         try:
             recorder.connect()
             recorder.run()

@@ -19,6 +19,7 @@ from pgsub_connect.drift.remembered import Remembered
 from pgsub_connect.drift.watch import Watch
 from pgsub_connect.errors import Passing, Unrepaired
 from pgsub_connect.follow.hold import Hold
+from pgsub_connect.follow.memory_limit import BufferLimits
 from pgsub_connect.follow.repair import Repairing, Unusable, messages_in
 from pgsub_connect.server.connection import never
 from pgsub_connect.server.publications import Table
@@ -326,16 +327,16 @@ class Repaired(Repairs):
     def test_what_may_be_buffered(self) -> None:
         """Following goes on in the same session where nothing was passed on."""
         run = self.running(proto=1)
-        run.follower.options.max_buffered = 50
+        run.follower.repairing.limits = BufferLimits(50, 1 << 24)
         with self.assertRaisesRegex(Unrepaired, "50 may be buffered"):
             self.repair()
         self.change()
         self.assertTrue(run.until(lambda: self.is_stored(run)), (self.said, run.raised))
         self.assertEqual(run.progress.sessions, 1)
-        run.follower.options.max_buffered, run.follower.options.max_frame = 1 << 20, 30
+        run.follower.repairing.limits = BufferLimits(1 << 20, 30)
         with self.assertRaisesRegex(Unrepaired, "--max-frame"):
             self.repair()
-        run.follower.options.max_frame = 1 << 20
+        run.follower.repairing.limits = BufferLimits(1 << 20, 1 << 20)
         self.repair()
         self.ends(run)
 

@@ -16,6 +16,7 @@ import threading
 import time
 import unittest
 from collections.abc import Iterator
+from typing import Any
 from unittest import mock
 
 from pgsub_connect.cli import FILE, PASSING, USAGE, main
@@ -26,6 +27,7 @@ from pgsub_connect.server.connection import never
 from pgsub_connect.store import at_rest as at_rest_module
 from pgsub_connect.store import export
 from pgsub_connect.store.at_rest import at_rest, own_name
+from pgsub_connect.store.export import ExportSettings
 from pgsub_connect.store.snapshot import Snapshots
 
 from .stores import StoreCase
@@ -46,7 +48,11 @@ class Case(StoreCase):
         self.ended = threading.Event()
 
     def options(self) -> Options:
-        return Options(command="export", store=self.path, into=self.into)
+        return Options(command="snapshot", store=self.path, into=self.into)
+
+    def settings(self, **more: Any) -> ExportSettings:
+        chosen: dict[str, Any] = {"store": self.path, "into": self.into, **more}
+        return ExportSettings(**chosen)
 
     def left(self) -> set[str]:
         return set(os.listdir(self.folder)) - self.made
@@ -111,14 +117,13 @@ class Held(Case):
                 self.folder + "/killed.db" + suffix, "wb"
             ) as new:
                 new.write(old.read())
-        options = self.options()
-        options.store = self.folder + "/killed.db"
-        before = {suffix: os.stat(options.store + suffix).st_size for suffix in ("", "-wal")}
+        settings = self.settings(store=self.folder + "/killed.db")
+        before = {suffix: os.stat(settings.store + suffix).st_size for suffix in ("", "-wal")}
         with logged():
-            export.run(options, never)
+            export.export_store(settings, never)
         self.assertEqual(self.rows(), [(1, "x"), (2, "y")])
         self.assertEqual(
-            {suffix: os.stat(options.store + suffix).st_size for suffix in ("", "-wal")}, before
+            {suffix: os.stat(settings.store + suffix).st_size for suffix in ("", "-wal")}, before
         )
         self.assertEqual(
             self.left() - {"copy.db-wal", "copy.db-shm"}, {"killed.db", "killed.db-wal", "rows.db"}
@@ -132,13 +137,12 @@ class Held(Case):
         os.mkdir(self.folder + "/far")
         for suffix in ("", "-wal"):
             shutil.copyfile(self.path + suffix, self.folder + "/far/killed.db" + suffix)
-        options = self.options()
-        options.store = self.folder + "/link.db"
-        os.symlink("far/killed.db", options.store)
+        settings = self.settings(store=self.folder + "/link.db")
+        os.symlink("far/killed.db", settings.store)
         with logged():
-            export.run(options, never)
+            export.export_store(settings, never)
             self.assertEqual(self.rows(), [(1, "x"), (2, "y")])
-            snapshots = Snapshots(options.store, self.folder + "/snapshot.db", 0.0)
+            snapshots = Snapshots(settings.store, self.folder + "/snapshot.db", 0.0)
             snapshots.take(0x130, never)
             snapshots.wait()
         with contextlib.closing(sqlite3.connect(self.folder + "/snapshot.db")) as base:
@@ -200,7 +204,7 @@ class Held(Case):
 class Asked(Case):
     def test_export(self) -> None:
         with self.followed(), logged() as told:
-            self.assertEqual(export.run(self.options(), never), 0)
+            export.export_store(self.settings(), never)
         self.assertEqual(self.rows(), [(1, "x")])
         self.assertEqual(self.left(), {"rows.db"})
         self.assertIn("its follower is asked for a copy", told[0])
@@ -217,21 +221,21 @@ class Asked(Case):
         with open(self.path + ".request", "w") as file:
             json.dump({"into": self.folder + "/other.db"}, file)
         with self.followed(), logged():
-            self.assertEqual(export.run(self.options(), never), 0)
+            export.export_store(self.settings(), never)
         self.assertEqual(self.left(), {"rows.db", "other.db"})
 
     def test_a_request_that_was_answered_by_an_error(self) -> None:
         with open(self.path + ".request", "w") as file:
             json.dump({"into": self.folder + "/other.db", "error": "No space left on device"}, file)
         with self.followed(), logged():
-            self.assertEqual(export.run(self.options(), never), 0)
+            export.export_store(self.settings(), never)
         self.assertEqual(self.left(), {"rows.db"})
 
     def test_a_follower_that_cant(self) -> None:
         with self.followed(0x200), logged(), self.assertRaisesRegex(
             Passing, "follower couldn't copy it: the copy isn't at 0/200"
         ):
-            export.run(self.options(), never)
+            export.export_store(self.settings(), never)
         self.assertEqual(self.left(), set())
 
     def test_a_follower_that_ends(self) -> None:
@@ -244,24 +248,24 @@ class Asked(Case):
                 if next(calls) == 3:
                     stack.close()
 
-            self.assertEqual(export.run(self.options(), check), 0)
+            export.export_store(self.settings(), check)
         self.assertEqual(self.rows(), [(1, "x")])
         self.assertEqual(self.left(), {"rows.db"})
 
     def test_a_follower_that_doesnt_answer(self) -> None:
         with self.locked(), mock.patch.object(at_rest_module, "PATIENCE", 0.05), logged():
             with self.assertRaisesRegex(Passing, "hasn't begun to copy it"):
-                export.run(self.options(), never)
+                export.export_store(self.settings(), never)
             self.assertEqual(self.left(), set())
             with open(self.path + ".request", "w") as file:
                 json.dump({"into": self.folder + "/other.db"}, file)
             with self.assertRaisesRegex(Passing, "another request waits"):
-                export.run(self.options(), never)
+                export.export_store(self.settings(), never)
         self.assertEqual(self.left(), {"copy.db.request"})
 
     def test_ended_by_a_signal(self) -> None:
         with self.locked(), logged(), self.assertRaises(Passing):
-            export.run(self.options(), mock.Mock(side_effect=[None, None, Stopped]))
+            export.export_store(self.settings(), mock.Mock(side_effect=[None, None, Stopped]))
         self.assertEqual(self.left(), set())
 
     def test_a_request_in_another_folder(self) -> None:
@@ -282,10 +286,9 @@ class Asked(Case):
     def test_a_folder_by_another_name(self) -> None:
         with tempfile.TemporaryDirectory() as room:
             os.symlink(self.folder, room + "/link")
-            options = self.options()
-            options.store = room + "/link/copy.db"
+            settings = self.settings(store=room + "/link/copy.db")
             with self.followed(), logged():
-                self.assertEqual(export.run(options, never), 0)
+                export.export_store(settings, never)
         self.assertEqual(self.left(), {"rows.db"})
 
 
@@ -407,7 +410,7 @@ class Taken(Case):
         ]
         self.assertEqual(self.left_after(self.into, kept), set(kept))
         with logged():
-            self.assertEqual(export.run(self.options(), never), 0)
+            export.export_store(self.settings(), never)
         self.assertEqual(self.left(), {*kept, "rows.db"})
 
     def leave_journal(self, path: str) -> None:
@@ -435,7 +438,7 @@ class Taken(Case):
         os.unlink(self.into)
         self.leave_journal(self.into)
         with logged():
-            self.assertEqual(export.run(self.options(), never), 0)
+            export.export_store(self.settings(), never)
         self.assertEqual(self.rows(), [(1, "x")])
 
     def test_a_follower_s_copy_that_a_link_leads_to(self) -> None:

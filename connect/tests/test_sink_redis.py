@@ -22,7 +22,7 @@ from pgsub_connect.commands.options import Options
 from pgsub_connect.errors import EngineError, FileError, Passing, Stopped, Unfit, UsageError
 from pgsub_connect.follow.retention import Limits, retire
 from pgsub_connect.server.connection import never
-from pgsub_connect.store.export import run as export
+from pgsub_connect.store.export import ExportSettings, export_store
 from pgsub_feed.reader.commits import Commit
 from pgsub_feed.reader.polling import Poll
 from pgsub_feed.reader.positions import Noted
@@ -458,7 +458,7 @@ class Begins(RedisCase):
 
     def export(self, text: bool = True) -> str:
         path = str(self.folder / "export.db")
-        export(Options(command="export", store=self.store.path, into=path, text=text), never)
+        export_store(ExportSettings(store=self.store.path, into=path, is_text=text), never)
         return path
 
     def test_needs_a_base(self) -> None:

@@ -15,11 +15,11 @@ from pgsub_connect import cli
 from pgsub_connect.commands import add as add_module
 from pgsub_connect.commands import verify
 from pgsub_connect.commands.options import Options
-from pgsub_connect.commands.verify import Verifier
 from pgsub_connect.errors import FileError, NoSlot, Passing, Stopped, Unfit, Unrepaired
 from pgsub_connect.server.connection import never
 from pgsub_connect.server.publications import Column, Table
 from pgsub_connect.store.checkpoint import FOLLOWING, Known
+from pgsub_connect.verify.comparison import Compared, Verifier, settled
 from pgsub_connect.verify.digests import NotText, Plan, Summing, fields_of, text_of
 from pgsub_connect.verify.meeting_point import Source
 from pgsub_connect.verify.sides import Copy, Sides
@@ -137,7 +137,7 @@ class Case(StoreCase):
                 mock.patch.multiple("pgsub_connect.verify.digests.Queries", sums=sums, texts=texts)
             )
             copy = stack.enter_context(contextlib.closing(Copy(self.path, self.path, 0x130, never)))
-            self.is_equal = Verifier(self.options, Sides(cast(Source, source), copy)).run(
+            self.is_equal = Verifier(self.options.show, Sides(cast(Source, source), copy)).run(
                 list(self.tables)
             )
         return [json.loads(line) for line in out.getvalue().splitlines()]
@@ -272,7 +272,7 @@ class Finds(Case):
         """What is in a row can't do anything to a terminal."""
         out = io.StringIO()
         with contextlib.redirect_stdout(out):
-            Verifier(self.options, mock.Mock()).tell({"row": {"a": "\x1b[2J\x9b\u202e"}})
+            Verifier(self.options.show, mock.Mock()).tell({"row": {"a": "\x1b[2J\x9b\u202e"}})
         self.assertTrue(out.getvalue().rstrip("\n").isprintable())
 
 
@@ -317,7 +317,7 @@ class Reads(Case):
         """In the place of comparisons, those that find this of tables, and leave those out."""
         results = iter(several)
 
-        def compare(options: Options, choose: Any, found: verify.Compared, check: Any) -> None:
+        def compare(_: object, choose: Any, found: Compared, check: Any) -> None:
             self.compared.append(
                 [
                     it.oid
@@ -391,7 +391,7 @@ class Reads(Case):
             (False, True, [KEYED, WHOLE]),
         ):
             with contextlib.closing(Copy(self.path, self.path, 0x130, never)) as copy:
-                verifier = Verifier(self.options, Sides(source, copy))
+                verifier = Verifier(self.options.show, Sides(source, copy))
                 with mock.patch.multiple(
                     verifier, has_columns=lambda _, it=columns: it, is_equal=lambda *_, it=equal: it
                 ):
@@ -400,11 +400,11 @@ class Reads(Case):
 
     def test_what_is_being_added_is_not_compared(self) -> None:
         known = Known(FOLLOWING, adding={"2": 0})
-        self.assertEqual(verify.settled([KEYED], known), [KEYED])
+        self.assertEqual(settled([KEYED], known), [KEYED])
         with self.assertRaisesRegex(Passing, "being added just now, or refused: public.whole"):
-            verify.settled([KEYED, WHOLE], known)
+            settled([KEYED, WHOLE], known)
         with self.assertRaisesRegex(Passing, "keyed"):
-            verify.settled([KEYED], known, {1})
+            settled([KEYED], known, {1})
 
     def test_nobody_follows(self) -> None:
         with self.assertRaisesRegex(Passing, "a follower has to run"):

@@ -8,14 +8,15 @@ import unittest
 from unittest import mock
 
 from pgsub_connect import cli
-from pgsub_connect.commands.options import Options
 from pgsub_connect.commands.words import arguments, settle_options
 from pgsub_connect.drift import watch as watch_module
 from pgsub_connect.drift.remembered import Relation, Remembered
+from pgsub_connect.drift.tolerance import Tolerance
 from pgsub_connect.drift.watch import Watch
 from pgsub_connect.errors import ServerError, Unfit
 from pgsub_connect.server.catalog import Catalog
 from pgsub_connect.server.connection import never
+from pgsub_connect.server.subscription import Subscription
 from pgsub_connect.status.progress import Progress
 from pgsub_connect.store.checkpoint import Checkpoint
 
@@ -40,10 +41,13 @@ class Case(unittest.TestCase):
     def watch(self, *accept: str, strict: bool = False) -> Watch:
         """That of a new run."""
         self.progress, self.remembered = Progress(), Remembered(self.store)
-        options = Options(
-            store=self.store, publication=["pgsub"], accept=list(accept), strict=strict
+        watch = Watch(
+            Subscription(publications=["pgsub"]),
+            Tolerance(accept, strict),
+            self.checkpoint,
+            self.progress,
+            self.remembered,
         )
-        watch = Watch(options, self.checkpoint, self.progress, self.remembered)
         watch.begin()
         return watch
 
@@ -77,7 +81,7 @@ class Shown(Case):
             watch_module, "PART", 1e9
         ):
             self.compare(watch, a_catalog(T, U, lsn=200))
-            watch.options.strict = True
+            watch.tolerance.is_strict = True
             with self.assertRaisesRegex(Unfit, "public.v"):
                 self.compare(watch, a_catalog(T, U, a_table(3, "v"), lsn=300))
 

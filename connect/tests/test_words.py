@@ -12,6 +12,7 @@ import subprocess
 import sys
 import unittest
 from collections.abc import Callable
+from typing import Any
 from unittest import mock
 
 from pgsub_connect import cli
@@ -32,6 +33,8 @@ from pgsub_connect.follow.filter import FilterEnded
 from pgsub_connect.follow.too_large import KilledTwice
 from pgsub_connect.server import followed_publications
 from pgsub_connect.server.followed_publications import require_published
+from pgsub_connect.server.publication_setup import Wanted
+from pgsub_connect.server.subscription import Subscription
 
 from .fake_server import FakeServer, Quiet, Row
 
@@ -129,10 +132,9 @@ class Words(Quiet):
             ("follow", ["t", "u"], 0x16B374D848, 0o640),
         )
         self.assertEqual((options.skip, options.streaming), (5, True))
-        self.assertTrue(
-            options.accepts("gap") and options.accepts("slot") and options.accepts("values")
-        )
-        self.assertFalse(options.accepts("history"))
+        tolerance = options.tolerance()
+        self.assertTrue(all(map(tolerance.accepts, ("gap", "slot", "values"))))
+        self.assertFalse(tolerance.accepts("history"))
         self.assertEqual(arguments(["--record", "f", "--until", "now"]).command, "record")
         options = arguments(
             "record --record f --create temporary --table t --transactions 3".split()
@@ -339,9 +341,9 @@ class Compares(Quiet):
     def look_up(self, command: str) -> list[Row]:
         return [[next((oid for name, oid in self.oids.items() if f"'{name}'" in command), None)]]
 
-    def compare(self, *tables: str, **options: object) -> None:
-        chosen = Options(store="s", publication=["pgsub"], create="permanent", table=list(tables), **options)  # type: ignore[arg-type]
-        require_published(chosen, lambda: None)
+    def compare(self, *tables: str, **options: Any) -> None:
+        wanted = Wanted(["pgsub"], list(tables), **options)
+        require_published(Subscription(publications=["pgsub"]), wanted, lambda: None)
         self.assertEqual(self.server.opened, self.server.closed)
 
     def test_the_same(self) -> None:

@@ -36,13 +36,14 @@ from ..drift.remembered import Remembered
 from ..errors import NoSlot, Passing, Renewed, ServerError, Stopped, Unconnected, Unfit
 from ..follow.gate import MOST as LONGEST_WAIT
 from ..follow.gate import WAITED, Making
+from ..follow.memory_limit import BufferLimits
 from ..server.publications import Table, sizes_of
+from ..server.subscription import Subscription
 from ..verify.meeting_point import Source
 from .addable import Stream, TooLarge, relation_of, table_of, too_large, too_long
 from .replacement import Leaving, Rows, payload_of
 
 if TYPE_CHECKING:
-    from ..commands.options import Options
     from ..drift.watch import Watch
     from ..follow.hold import Hold
     from ..follow.statuses import Confirming
@@ -69,7 +70,9 @@ class Adder:
 
     def __init__(
         self,
-        options: Options,
+        subscription: Subscription,
+        store: str,
+        limits: BufferLimits,
         checkpoint: Checkpoint,
         progress: Progress,
         remembered: Remembered,
@@ -79,12 +82,8 @@ class Adder:
         hold: Hold,
         stream: Stream,
     ) -> None:
-        self.options, self.checkpoint, self.progress, self.remembered = (
-            options,
-            checkpoint,
-            progress,
-            remembered,
-        )
+        self.subscription, self.store, self.limits = subscription, store, limits
+        self.checkpoint, self.progress, self.remembered = checkpoint, progress, remembered
         self.watch, self.noting, self.confirming, self.hold, self.stream = (
             watch,
             noting,
@@ -138,7 +137,13 @@ class Adder:
         """Why tables can't be added, or their rows removed. Where the server can't be asked just
         now, that shows later."""
         try:
-            source = Source(self.options, self.checkpoint.known, self.stream.serve_server, "add")
+            source = Source(
+                self.subscription,
+                self.store,
+                self.checkpoint.known,
+                self.stream.serve_server,
+                "add",
+            )
             try:
                 errors = [text for oid in adds if (text := self.rejection(source, oid))]
                 published = {it.oid for it in source.tables}
@@ -164,7 +169,7 @@ class Adder:
         if not self.checkpoint.has_room_for(oid):
             return f"{table.text()}: the checkpoint has no room for it"
         size = sizes_of(source.plain, [table]).get(oid, 0)
-        most = self.options.max_buffered
+        most = self.limits.max_buffered
         if size > FAR * most:
             return too_large(table, size, most)
         return too_long(table, size) if self.progress.is_waited_for else ""
@@ -273,7 +278,9 @@ class Adder:
             self.next_try = time.monotonic() + LONGEST_DELAY
             return
         try:
-            self.source = Source(self.options, self.checkpoint.known, self.stream.attend, "add")
+            self.source = Source(
+                self.subscription, self.store, self.checkpoint.known, self.stream.attend, "add"
+            )
             self.source.patience = (
                 SHORT_LOCK if self.progress.note_standbys(self.source.standbys()) else LOCK
             )
@@ -393,9 +400,9 @@ class Adder:
             () if self.is_gone else self.source.plain.copied_blocks(self.table.query(), BLOCK)
         ):
             block = rows.rows(lines)
-            if rows.cost > self.options.max_buffered:
-                raise TooLarge(too_large(self.table, rows.cost, self.options.max_buffered))
-            if rows.longest > self.options.max_frame:
+            if rows.cost > self.limits.max_buffered:
+                raise TooLarge(too_large(self.table, rows.cost, self.limits.max_buffered))
+            if rows.longest > self.limits.max_frame:
                 raise TooLarge(
                     f"{self.table.text()} has a row of {rows.longest} bytes: give the follower a --max-frame above that"
                 )

@@ -33,9 +33,9 @@ from ..store.at_rest import (
     read_request,
     remove_files,
 )
+from ..store.checkpoint_at_rest import locked, read_known
 from ..store.snapshot import remove
 from ..verify.meeting_point import chosen
-from .drop import locked, read_known
 
 if TYPE_CHECKING:
     from .options import Options

@@ -4,16 +4,15 @@ publications and its files."""
 from __future__ import annotations
 
 import contextlib
-import fcntl
 import os
 import select
 import sys
 import time
-from collections.abc import Callable, Iterator
+from collections.abc import Callable
 from typing import TYPE_CHECKING, Any
 
 from pgsub_feed import log
-from pgsub_feed.json_texts import Unreadable, object_of, open_plain, whole_of
+from pgsub_feed.json_texts import Unreadable, object_of, whole_of
 from pgsub_feed.texts import identifier, literal
 
 from ..drift.remembered_lines import read_lines
@@ -22,8 +21,7 @@ from ..server.connection import TICK, Check, Connection, never
 from ..server.publication_setup import inserts_of, oid_of, other_slots
 from ..server.session import Server, database_oid, is_same_database, settle
 from ..store.at_rest import own_files
-from ..store.checkpoint import Known, has_name
-from ..store.checkpoint_lines import read_file
+from ..store.checkpoint_at_rest import locked, read_known
 from ..store.placing import OF_COPY, OF_STORE
 from ..store.snapshot import OF_FILE, meant
 
@@ -35,22 +33,6 @@ if TYPE_CHECKING:
 ASKED = (".export", ".base")
 # How long a slot that was just left by its connection is waited for.
 PATIENCE = 5.0
-
-
-def read_known(path: str) -> Known:
-    """What the checkpoint has, or nothing where it isn't there."""
-    try:
-        file = open_plain(path)
-    except FileNotFoundError:
-        return Known()
-    except OSError as error:
-        raise FileError(f"{path}: {error.strerror}") from None
-    except Unreadable as error:
-        raise FileError(f"{path}: {error}") from None
-    try:
-        return read_file(file, path).known
-    finally:
-        os.close(file)
 
 
 def read_remembered(path: str) -> dict[str, Any]:
@@ -66,31 +48,6 @@ def made_publications(remembered: dict[str, Any]) -> dict[str, int]:
     with contextlib.suppress(Unreadable):
         return {name: whole_of(oid) for name, oid in object_of(remembered.get("made")).items()}
     return {}
-
-
-@contextlib.contextmanager
-def locked(path: str) -> Iterator[None]:
-    """Holds the checkpoint's lock, so that no connector begins meanwhile. Raises where one is at
-    work."""
-    try:
-        file = os.open(path, os.O_RDWR | os.O_CLOEXEC)
-    except FileNotFoundError:
-        yield
-        return
-    except OSError as error:
-        raise FileError(f"{path}: {error.strerror}") from None
-    try:
-        try:
-            fcntl.flock(file, fcntl.LOCK_EX | fcntl.LOCK_NB)
-        except BlockingIOError:
-            raise Passing(
-                f"{path}: a connector or its filter is at work on this store: end it first"
-            ) from None
-        if not has_name(file, path):
-            raise Passing(f"{path} was removed meanwhile")
-        yield
-    finally:
-        os.close(file)
 
 
 def files_of(store: str) -> list[str]:

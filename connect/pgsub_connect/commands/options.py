@@ -5,7 +5,22 @@ from __future__ import annotations
 import dataclasses
 from typing import TYPE_CHECKING
 
-from .record import LONGEST
+from pgsub_feed.tables.first_rows import FirstRows
+
+from ..copy.copier import CopySettings
+from ..drift.tolerance import Tolerance
+from ..follow.feed import FeedSettings
+from ..follow.follower import FollowSettings
+from ..follow.memory_limit import BufferLimits
+from ..follow.tables_process import TablesSettings
+from ..record.recorder import RecordSettings
+from ..record.recording import LONGEST
+from ..server.publication_setup import Wanted
+from ..server.subscription import Subscription
+from ..status.files import ReportSettings
+from ..store.export import ExportSettings
+from ..verify.store import StoreComparison
+from ..verify.tables_file import TablesComparison
 
 if TYPE_CHECKING:
     from .status import Limit
@@ -86,7 +101,93 @@ class Options:
     form: str | None = None
     stream: str | None = None
 
-    def accepts(self, kind: str) -> bool:
-        """Whether what may be wrong in this way was said to be taken as it is."""
-        kinds = {"gap", "slot"} if kind in ("gap", "slot") else {kind}
-        return bool(kinds & set(self.accept)) or "all" in self.accept
+    def subscription(self) -> Subscription:
+        return Subscription(self.dsn, self.slot, list(self.publication))
+
+    def wanted(self) -> Wanted:
+        return Wanted(list(self.publication), self.table, self.all_tables, self.keyless)
+
+    def limits(self) -> BufferLimits:
+        return BufferLimits(self.max_buffered, self.max_frame)
+
+    def tolerance(self) -> Tolerance:
+        return Tolerance(self.accept, self.strict)
+
+    def first_rows(self) -> FirstRows:
+        return FirstRows(
+            self.feed, self.base, self.store, self.reader, self.at, self.once, self.mode
+        )
+
+    def export(self) -> ExportSettings:
+        return ExportSettings(self.store, self.into, self.text, self.table, self.mode)
+
+    def copying(self) -> CopySettings:
+        return CopySettings(
+            self.store, self.wanted(), self.limits(), self.failover, self.jobs, self.mode
+        )
+
+    def following(self) -> FollowSettings:
+        return FollowSettings(
+            self.store,
+            self.proto,
+            self.heartbeat,
+            self.silence,
+            self.skip,
+            self.until,
+            self.no_copy,
+            self.limits(),
+        )
+
+    def tables_settings(self) -> TablesSettings | None:
+        if not self.tables:
+            return None
+        return TablesSettings(
+            self.tables, self.feed, self.store, self.mode, self.init, self.digests
+        )
+
+    def feeding(self) -> FeedSettings:
+        return FeedSettings(
+            self.store,
+            self.feed,
+            self.without_feed,
+            self.mode,
+            self.feed_segment_bytes,
+            self.feed_segment_seconds,
+            self.feed_max_bytes,
+            self.feed_max_age,
+            self.tables_settings(),
+        )
+
+    def reporting(self) -> ReportSettings:
+        return ReportSettings(
+            self.store, self.slot, self.pgsub, self.status_file, self.metrics_file, self.mode
+        )
+
+    def recording(self) -> RecordSettings:
+        return RecordSettings(
+            self.proto,
+            [it for it in ("streaming", "binary", "messages") if getattr(self, it)],
+            self.start,
+            self.until,
+            self.seconds,
+            self.transactions,
+            self.confirm,
+            self.heartbeat,
+            self.create == "temporary",
+        )
+
+    def store_comparison(self) -> StoreComparison:
+        return StoreComparison(self.subscription(), self.store, self.hold, self.show)
+
+    def tables_comparison(self) -> TablesComparison:
+        return TablesComparison(
+            self.subscription(),
+            self.tables,
+            self.other,
+            self.store,
+            self.feed,
+            self.digests,
+            self.table,
+            self.hold,
+            self.show,
+        )

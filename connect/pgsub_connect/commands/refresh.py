@@ -29,8 +29,9 @@ from ..server.connection import Check, Connection
 from ..server.publication_setup import names_of
 from ..server.session import settle
 from ..store.at_rest import check_there
+from ..store.checkpoint_at_rest import read_known
 from . import add
-from .drop import ask_terminal, read_known
+from .drop import ask_terminal
 
 if TYPE_CHECKING:
     from .options import Options

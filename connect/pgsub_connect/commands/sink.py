@@ -296,7 +296,8 @@ def follow(options: Options, engine: Engine, check: Check) -> None:
         # (first of all, since another sink that is fine is ended once this one has begun)
         engine.check_disk()
     if not engine.open(wanted):
-        with keeping(options), base_of(options, wanted.chosen, check) as base:
+        first = options.first_rows()
+        with keeping(first), base_of(first, wanted.chosen, check) as base:
             engine.begin(base)
     sink = Sink(options, engine, check)
     if not options.once:

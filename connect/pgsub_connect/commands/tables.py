@@ -205,8 +205,9 @@ def keep(options: Options, check: Check) -> tuple[int, list[str]]:
     """Keeps the tables of a file. Returns its LSN at the end, and the tables that are set aside."""
     init = Init(options.init) if options.init else None
     if not os.path.exists(options.into):
-        with keeping(options):
-            make(options, check)
+        first = options.first_rows()
+        with keeping(first):
+            make(options.into, options.table, first, check)
     store = options.store or store_at(os.path.abspath(options.feed))
     rows, is_orderly = Rows(options.into, init, store), False
     try:

@@ -10,10 +10,9 @@ import time
 from typing import TYPE_CHECKING
 
 from pgsub_feed.reader.segments import Reader, read_confirmed
-from pgsub_feed.tables.file import read_folder
-from pgsub_feed.tables.first_rows import is_tables, opened
-from pgsub_feed.tables.names import POSITION
-from pgsub_feed.texts import lsn_text, parse_lsn
+from pgsub_feed.tables.first_rows import is_tables
+from pgsub_feed.tables.position import read_position
+from pgsub_feed.texts import lsn_text
 
 from ..errors import FileError, Passing, Stopped
 from ..server.connection import Check
@@ -43,12 +42,6 @@ def add_options(parser: argparse.ArgumentParser) -> None:
     )
 
 
-def read_file(path: str) -> tuple[int, str]:
-    """The LSN of a file of tables, and the folder of its feed."""
-    with contextlib.closing(opened(path)) as db:
-        return parse_lsn(db.execute(f"SELECT lsn FROM {POSITION}").fetchone()[0]), read_folder(db)
-
-
 class Awaited:
     """All that was committed up to an LSN. A feed says that it has all of it, and then where the
     last commit of it ends."""
@@ -58,7 +51,7 @@ class Awaited:
         self.end: int | None = None
 
     def is_there(self) -> bool:
-        at, folder = read_file(self.path)
+        at, folder = read_position(self.path)
         if at < self.lsn and self.end is None:
             self.look(self.feed or folder, at)
         return at >= (self.lsn if self.end is None else self.end)
@@ -90,7 +83,7 @@ def run(options: Options, check: Check) -> int:
             except Stopped:
                 raise Passing(f"ended before {path} has reached {lsn_text(lsn)}") from None
             if time.monotonic() > until:
-                at = lsn_text(read_file(path)[0])
+                at = lsn_text(read_position(path)[0])
                 raise Passing(
                     f"{path} is at {at}, and {lsn_text(lsn)} wasn't reached in {options.within:g} seconds"
                 )

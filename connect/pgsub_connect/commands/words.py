@@ -20,6 +20,7 @@ from .. import version as version_module
 from ..drift.remembered import Remembered
 from ..errors import UsageError
 from ..follow.memory_limit import LONGEST_FRAME, MOST_PAGES, default_buffered
+from ..record.recording import LONGEST
 from ..server.connection import parameters
 from ..server.name_length import check_lengths
 from ..server.publication_setup import inserts_of
@@ -28,7 +29,6 @@ from ..store.snapshot import part_of
 from ..verify import tables_file as tables_verifying
 from . import sink, status, tables, wait
 from .options import Options
-from .record import LONGEST
 
 ABOUT = """\
 Follows a PostgreSQL server: carries the change stream of a slot to `pgsub follow`, and the program's statuses back.
@@ -874,7 +874,7 @@ def settle_options(options: Options) -> None:
         with open(options.dsn_file, encoding="utf-8", errors="surrogateescape") as file:
             options.dsn, readable = file.readline().strip(), readable_by(file.fileno())
     check_words(options)
-    check_lengths(options)
+    check_lengths(options.slot, options.publication, options.keyless)
     has_password = {"password", "sslpassword"} & parameters(options.dsn).keys()
     if options.dsn_file and has_password and readable:
         log.warning(readable_text(options.dsn_file, readable))

@@ -24,6 +24,7 @@ from __future__ import annotations
 
 import collections
 import contextlib
+import dataclasses
 import os
 import secrets
 import select
@@ -35,12 +36,13 @@ from pgsub_feed import log
 from pgsub_feed.ownership import set_mode
 from pgsub_feed.texts import counted, identifier, literal, lsn_text, parse_lsn
 
-from ..commands.check import require, require_reading
 from ..drift.differences import PUBLICATION, root_of
 from ..drift.findings import About
 from ..errors import FileError, Passing, ServerError, Stopped, Unfit, understood
 from ..follow import too_large
 from ..follow.filter import Filter, FilterEnded
+from ..follow.memory_limit import BufferLimits
+from ..preconditions.judged import require, require_reading
 from ..server import transport
 from ..server.catalog import Catalog, read_catalog
 from ..server.connection import QUICK, Check, Connection, never
@@ -55,6 +57,7 @@ from ..server.publications import (
     stored_in,
 )
 from ..server.session import Server, identify, is_lost, settle, settle_for_slot, slot_position
+from ..server.subscription import Subscription
 from ..server.waits import Waiting, lock_text
 from ..store import checkpoint as known_of
 from ..store.at_rest import hold
@@ -63,7 +66,6 @@ from .messages import begin, commit, frame
 from .table_reader import LOCK_TIMEOUT, Left, Part, Readers, take_snapshot
 
 if TYPE_CHECKING:
-    from ..commands.options import Options
     from ..drift.remembered import Remembered
     from ..status.progress import Progress
     from ..store.checkpoint import Checkpoint
@@ -118,18 +120,33 @@ class Tries:
         raise ServerError(text, REFUSED)
 
 
+@dataclasses.dataclass(frozen=True)
+class CopySettings:
+    """Where the copy is made, what is published for it where nothing is yet, and how it is read:
+    by so many connections. `failover`: the slot is synchronized to standbys."""
+
+    store: str
+    wanted: Wanted
+    limits: BufferLimits
+    failover: bool = False
+    jobs: int = 2
+    mode: int = 0o600
+
+
 class Copier:
     """Makes publication, store and slot."""
 
     def __init__(
         self,
-        options: Options,
+        settings: CopySettings,
+        subscription: Subscription,
         checkpoint: Checkpoint,
         child: Filter,
         progress: Progress,
         remembered: Remembered,
     ) -> None:
-        self.options, self.store = options, meant(options.store)
+        self.settings, self.subscription = settings, subscription
+        self.store = meant(settings.store)
         self.checkpoint, self.filter, self.progress, self.remembered = (
             checkpoint,
             child,
@@ -151,7 +168,9 @@ class Copier:
         self.later: dict[int, str] = {}
         # the length of the longest row
         self.longest = 0
-        self.maker = maker_of(options, self.check_stop, require_reading, remembered)
+        self.maker = maker_of(
+            subscription, settings.wanted, self.check_stop, require_reading, remembered
+        )
 
     def run(self) -> None:
         """Copies until it is done, anew where the server or the filter is lost. Where no copy comes
@@ -195,7 +214,7 @@ class Copier:
 
     def slot_is_dropped(self) -> bool:
         """Drops the lasting slot, of which no copy comes. Returns whether it is gone."""
-        until, slot = time.monotonic() + LIMIT, self.options.slot
+        until, slot = time.monotonic() + LIMIT, self.subscription.slot
         log.info(f"dropping the slot {slot} again, which may take {LIMIT:.0f} seconds")
 
         def check() -> None:
@@ -205,7 +224,7 @@ class Copier:
         query = f"FROM pg_catalog.pg_replication_slots s WHERE s.slot_name = {literal(slot)}"
         try:
             with contextlib.closing(
-                Connection(self.options.dsn, name=f"{slot} copy", quiet=True, check=check)
+                Connection(self.subscription.dsn, name=f"{slot} copy", quiet=True, check=check)
             ) as connection:
                 # (one that was moved since is somebody else's)
                 at = connection.value(
@@ -228,7 +247,7 @@ class Copier:
             self.attempt()
             return True
         except FilterEnded as ended:
-            if text := too_large.text_of(ended, self.options, (0, 0), self.longest):
+            if text := too_large.text_of(ended, self.settings.limits, (0, 0), self.longest):
                 log.error(text)
             if ended.is_rejection():
                 raise
@@ -285,20 +304,20 @@ class Copier:
                 connection.consume()
 
     def attempt(self) -> None:
-        options, known = self.options, self.checkpoint.known
+        subscription, known = self.subscription, self.checkpoint.known
         self.progress.state = "copying"
         self.replication = replication = Connection(
-            options.dsn, replication=True, name=options.slot, check=self.check_stop
+            subscription.dsn, replication=True, name=subscription.slot, check=self.check_stop
         )
         self.was_connected = True
         settle(replication)
         server = identify(replication)
         self.progress.note_server(replication.version(), server.timeline)
-        slot_at = slot_position(replication, options.slot)
+        slot_at = slot_position(replication, subscription.slot)
         if slot_at is not None:
             is_ours = (known.system, known.slot, known.confirmed) == (
                 server.system,
-                options.slot,
+                subscription.slot,
                 slot_at,
             )
             if (
@@ -308,38 +327,40 @@ class Copier:
                 and not self.is_complete(slot_at)
             ):
                 raise Unfit(
-                    f"the slot {options.slot} is there already, and there is no store {options.store}: drop the slot, or name"
+                    f"the slot {subscription.slot} is there already, and there is no store {self.settings.store}: drop the slot, or name"
                     " another one, or say --no-copy to begin where it is, without the rows from before"
                 )
-            options.publication = self.remembered.publications() or options.publication
+            subscription.note_publications(
+                self.remembered.publications() or subscription.publications
+            )
             if known.phase == known_of.SLOT and not self.goes_on(slot_at):
-                drop_slot(replication, options.slot)
+                drop_slot(replication, subscription.slot)
                 self.checkpoint.write(True, phase=known_of.COPYING)
                 self.maker.made = self.made
                 self.copy_anew(server)
         else:
             self.copy_anew(server)
-        set_failover(replication, options.slot, options.failover)
+        set_failover(replication, subscription.slot, self.settings.failover)
         self.keep()
 
     def copy_anew(self, server: Server) -> None:
         """Makes publication, rows and slot."""
-        options = self.options
+        slot = self.subscription.slot
         assert self.replication is not None
-        require(self.replication, options, copies=True)
+        require(self.replication, slot, True, self.settings.failover)
         self.clear()
         self.checkpoint.begin_anew()
         whose = {
             "system": server.system,
             "timeline": server.timeline,
             "database": server.database,
-            "slot": options.slot,
+            "slot": slot,
         }
         self.checkpoint.write(
             True, phase=known_of.COPYING, encrypted=transport.OWN.was_encrypted, **whose
         )
         self.maker.make()
-        options.publication = self.maker.publications
+        self.subscription.note_publications(self.maker.publications)
         tables, point, readers = self.prepare()
         try:
             self.copy(tables, point, readers)
@@ -349,30 +370,33 @@ class Copier:
     def prepare(self) -> tuple[list[Table], int, Readers]:
         """Makes the slot, and what reads the tables under its snapshot. Those that were altered
         meanwhile are left for later."""
-        options = self.options
+        subscription = self.subscription
         self.plain = plain = Connection(
-            options.dsn, name=f"{options.slot} copy", check=self.check_all
+            subscription.dsn, name=f"{subscription.slot} copy", check=self.check_all
         )
         # (from 16 on the server locks a table to say what is published of it)
         plain.check = Waiting(
-            options.dsn, options.slot, self.check_all, lock_text("the copy", plain.pid())
+            subscription.dsn,
+            subscription.slot,
+            self.check_all,
+            lock_text("the copy", plain.pid()),
         ).check
         settle(plain)
-        tables, stored = published_tables(plain, options.publication), dict[int, str | None]()
+        tables, stored = published_tables(plain, subscription.publications), dict[int, str | None]()
         stored = stored_in(plain, tables)
         self.progress.copy_total_rows, self.progress.copy_total_tables = estimated_rows(
             plain, tables
         ), len(tables)
-        before = read_catalog(plain, options.publication)
+        before = read_catalog(plain, subscription.publications)
         temporary, point, snapshot = self.make_temporary()
         own = self.hold_snapshot(snapshot)
-        after = read_catalog(plain, options.publication)
+        after = read_catalog(plain, subscription.publications)
         self.later = {
             oid: "it was altered while the slot was made" for oid in altered_tables(before, after)
         }
         if before.publications != after.publications:
             raise ServerError(CHANGED)
-        now = published_tables(plain, options.publication)
+        now = published_tables(plain, subscription.publications)
         late = [it for it in now if it not in tables]
         self.later = {
             **{it.oid: "it was published while the slot was made" for it in late},
@@ -392,7 +416,11 @@ class Copier:
         tables = sorted(
             (it for it in tables if it.oid not in self.later), key=lambda it: -sizes.get(it.oid, 0)
         )
-        return tables, point, Readers(options, own, tables, stored, plain)
+        return (
+            tables,
+            point,
+            Readers(subscription, self.settings.jobs, own, tables, stored, plain),
+        )
 
     def still_published(self, tables: list[Table], now: list[Table]) -> list[Table]:
         """The tables without those that left while the slot was made, of which nobody would tell
@@ -409,7 +437,7 @@ class Copier:
     def hold_snapshot(self, snapshot: str) -> str:
         """Has a transaction without locks keep the slot's snapshot, and export it for others."""
         self.holder = holder = Connection(
-            self.options.dsn, name=f"{self.options.slot} copy", check=self.check_all
+            self.subscription.dsn, name=f"{self.subscription.slot} copy", check=self.check_all
         )
         settle(holder)
         holder.run("BEGIN ISOLATION LEVEL REPEATABLE READ READ ONLY")
@@ -419,7 +447,7 @@ class Copier:
     def make_lasting(self, temporary: str, point: int) -> None:
         """Makes the lasting slot. The publications stay from here on, unless it is certain that the
         slot wasn't made."""
-        replication, slot = self.replication, self.options.slot
+        replication, slot = self.replication, self.subscription.slot
         assert replication is not None
         self.checkpoint.write(True, phase=known_of.SLOT, confirmed=point, position=point)
         self.made = self.maker.keep()
@@ -446,7 +474,7 @@ class Copier:
             or time.monotonic() - self.looked < self.look
         ):
             return
-        self.looked, slot = time.monotonic(), self.options.slot
+        self.looked, slot = time.monotonic(), self.subscription.slot
         if is_lost(self.replication, slot):
             raise ServerError(LOST.format(slot), REFUSED)
         if self.replication.version() >= IDLE:
@@ -461,9 +489,11 @@ class Copier:
         """Makes the temporary slot; its name, its consistent point and its snapshot. The server
         waits for running transactions."""
         assert self.replication is not None
-        self.replication.check = Waiting(self.options.dsn, self.options.slot, self.check_stop).check
+        self.replication.check = Waiting(
+            self.subscription.dsn, self.subscription.slot, self.check_stop
+        ).check
         try:
-            return create_temporary(self.replication, f"{self.options.slot[:40]}_copy")
+            return create_temporary(self.replication, f"{self.subscription.slot[:40]}_copy")
         finally:
             self.replication.check = self.check_stop
 
@@ -487,7 +517,7 @@ class Copier:
         """Forgets tables that were left for later and aren't published any more: nothing of them
         was stored."""
         if self.later and self.plain:
-            there = {it.oid for it in published_tables(self.plain, self.options.publication)}
+            there = {it.oid for it in published_tables(self.plain, self.subscription.publications)}
             for oid in [it for it in self.later if it not in there]:
                 log.info(
                     f"{self.remembered.text_of(oid)} was dropped, or left the publication, while others were copied"
@@ -538,24 +568,30 @@ class Copier:
     def goes_on(self, point: int) -> bool:
         """Goes on with the tables that an earlier attempt has stored whole. Returns false where
         nothing comes of them."""
-        options, copied = self.options, self.remembered.copied
+        subscription, copied = self.subscription, self.remembered.copied
         if not copied or self.remembered.catalog is None or not os.path.exists(self.part):
             return False
         assert self.replication
-        if is_lost(self.replication, options.slot):
+        if is_lost(self.replication, subscription.slot):
             log.info(
-                f"the slot {options.slot} of an interrupted copy is lost: the copy begins anew"
+                f"the slot {subscription.slot} of an interrupted copy is lost: the copy begins anew"
             )
             return False
         position = self.filter.start(self.check_slot)
         whole = {oid for oid, end in copied.items() if end <= position}
         self.plain = plain = Connection(
-            options.dsn, name=f"{options.slot} copy", check=self.check_all
+            subscription.dsn, name=f"{subscription.slot} copy", check=self.check_all
         )
         settle(plain)
-        missing = [it for it in published_tables(plain, options.publication) if it.oid not in whole]
+        missing = [
+            it for it in published_tables(plain, subscription.publications) if it.oid not in whole
+        ]
         sizes = sizes_of(plain, missing)
-        large = [it.text() for it in missing if sizes.get(it.oid, 0) > options.max_buffered // 2]
+        large = [
+            it.text()
+            for it in missing
+            if sizes.get(it.oid, 0) > self.settings.limits.max_buffered // 2
+        ]
         if not whole or large or position > point:
             log.info(
                 f"{large[0]} is too large to be added by itself: the copy begins anew"
@@ -654,7 +690,7 @@ class Copier:
         try:
             for it in (self.part, self.part + LOG):
                 with contextlib.suppress(FileNotFoundError):
-                    set_mode(it, self.options.mode)
+                    set_mode(it, self.settings.mode)
         except OSError as error:
             raise FileError(f"{self.part}: {error.strerror}") from None
 
@@ -700,13 +736,13 @@ def altered_tables(before: Catalog, after: Catalog) -> list[int]:
     ]
 
 
-def check_names(options: Options, tables: list[Table], check: Check) -> None:
+def check_names(subscription: Subscription, tables: list[Table], check: Check) -> None:
     """Checks that tables that are locked still have their names and columns.
 
     The snapshot shows those of its own moment, and rows are read by the names of now. The locks
     keep them from here on.
     """
-    fresh = Connection(options.dsn, name=f"{options.slot} copy", check=check)
+    fresh = Connection(subscription.dsn, name=f"{subscription.slot} copy", check=check)
     try:
         settle(fresh)
         fresh.run(f"SET lock_timeout = {SHORT}")
@@ -740,20 +776,25 @@ def set_failover(replication: Connection, slot: str, wanted: bool) -> None:
 
 
 def maker_of(
-    options: Options,
+    subscription: Subscription,
+    wanted: Wanted,
     check: Check,
     look: Look = lambda connection, names: None,
     remembered: Remembered | None = None,
 ) -> Maker:
-    wanted = Wanted(list(options.publication), options.table, options.all_tables, options.keyless)
+    dsn, slot = subscription.dsn, subscription.slot
     if remembered is None:
-        return Maker(options.dsn, wanted, options.slot, check, look)
-    return Maker(
-        options.dsn, wanted, options.slot, check, look, remembered.made, remembered.keep_made
-    )
+        return Maker(dsn, wanted, slot, check, look)
+    return Maker(dsn, wanted, slot, check, look, remembered.made, remembered.keep_made)
 
 
-def create_slot(options: Options, check: Check, remembered: Remembered | None = None) -> None:
+def create_slot(
+    subscription: Subscription,
+    wanted: Wanted,
+    failover: bool,
+    check: Check,
+    remembered: Remembered | None = None,
+) -> None:
     """Makes publications and slot, without rows, where they aren't there, and remembers what is
     published from then on.
 
@@ -761,39 +802,40 @@ def create_slot(options: Options, check: Check, remembered: Remembered | None = 
     """
     if remembered:
         remembered.begin_anew()
-    maker, is_made = maker_of(options, check, remembered=remembered), False
-    connection = Connection(options.dsn, replication=True, name=options.slot, check=check)
+    slot = subscription.slot
+    maker, is_made = maker_of(subscription, wanted, check, remembered=remembered), False
+    connection = Connection(subscription.dsn, replication=True, name=slot, check=check)
     try:
         settle(connection)
-        slot_at = slot_position(connection, options.slot)
+        slot_at = slot_position(connection, slot)
         if slot_at is None:
-            require(connection, options, copies=False)
+            require(connection, slot, False, failover)
         elif missing := [
-            name for name in options.publication if not has_publication(connection, name)
+            name for name in subscription.publications if not has_publication(connection, name)
         ]:
             # (its log is read with the catalog of its time, so the server would say that the
             # publication isn't there)
             raise Unfit(
-                f"the slot {options.slot} is older than the publication {missing[0]}, which isn't there: drop the slot"
+                f"the slot {slot} is older than the publication {missing[0]}, which isn't there: drop the slot"
             )
         maker.make()
-        options.publication = maker.publications
+        subscription.note_publications(maker.publications)
         if slot_at is None:
             settle_for_slot(connection)
-            connection.check = Waiting(options.dsn, options.slot, check).check
+            connection.check = Waiting(subscription.dsn, slot, check).check
             connection.run(
-                f"CREATE_REPLICATION_SLOT {identifier(options.slot)} LOGICAL pgoutput NOEXPORT_SNAPSHOT"
+                f"CREATE_REPLICATION_SLOT {identifier(slot)} LOGICAL pgoutput NOEXPORT_SNAPSHOT"
             )
             connection.check, is_made = check, True
-            log.info(f"made the slot {options.slot}")
-        set_failover(connection, options.slot, options.failover)
+            log.info(f"made the slot {slot}")
+        set_failover(connection, slot, failover)
         if remembered:
-            remembered.begin(read_catalog(connection, options.publication))
+            remembered.begin(read_catalog(connection, subscription.publications))
             remembered.keep_made(maker.made)
         maker.keep()
     except BaseException:
         if is_made:
-            drop_slot(connection, options.slot)
+            drop_slot(connection, slot)
         maker.take_back()
         raise
     finally:

@@ -19,7 +19,6 @@ import os
 import threading
 import time
 from collections.abc import Iterator
-from typing import TYPE_CHECKING
 
 from pgsub_feed import log
 from pgsub_feed.texts import literal
@@ -28,10 +27,8 @@ from ..errors import ServerError
 from ..server.connection import Connection
 from ..server.publications import Table, are_so_named, stored_in
 from ..server.session import settle
+from ..server.subscription import Subscription
 from .messages import InsertHeads, frame, inserts, relation
-
-if TYPE_CHECKING:
-    from ..commands.options import Options
 
 # How many bytes a part has about, how many are encoded at a time, and how many parts of a
 # connection wait at most.
@@ -76,13 +73,19 @@ class Readers:
 
     def __init__(
         self,
-        options: Options,
+        subscription: Subscription,
+        jobs: int,
         snapshot: str,
         tables: list[Table],
         stored: dict[int, str | None],
         looker: Connection,
     ) -> None:
-        self.options, self.snapshot, self.stored, self.looker = options, snapshot, stored, looker
+        self.subscription, self.snapshot, self.stored, self.looker = (
+            subscription,
+            snapshot,
+            stored,
+            looker,
+        )
         self.lock, self.looking = threading.Condition(), threading.Lock()
         self.left = collections.deque(tables)
         # by the OID of a table: when it was tried last, and since when it is known to be locked by
@@ -96,7 +99,7 @@ class Readers:
         os.set_blocking(self.reads, False)
         self.threads = [
             threading.Thread(target=self.work, daemon=True)
-            for _ in range(max(1, min(options.jobs, len(tables))))
+            for _ in range(max(1, min(jobs, len(tables))))
         ]
 
     def begin(self) -> None:
@@ -139,7 +142,7 @@ class Readers:
         """One connection: one table after the other."""
         try:
             connection = Connection(
-                self.options.dsn, name=f"{self.options.slot} copy", check=self.check
+                self.subscription.dsn, name=f"{self.subscription.slot} copy", check=self.check
             )
             with contextlib.closing(connection):
                 settle(connection)

@@ -22,9 +22,9 @@ from pgsub_feed.texts import counted, lsn_text
 from ..status.progress import Progress
 from ..store.checkpoint import MISSING, Checkpoint, Counted
 from .remembered import Remembered
+from .tolerance import Tolerance
 
 if TYPE_CHECKING:
-    from ..commands.options import Options
     from ..follow.filter import Missing
 
 # After how many seconds more of them are told at the earliest.
@@ -52,10 +52,14 @@ class Misses:
     caller looked last."""
 
     def __init__(
-        self, options: Options, checkpoint: Checkpoint, progress: Progress, remembered: Remembered
+        self,
+        tolerance: Tolerance,
+        checkpoint: Checkpoint,
+        progress: Progress,
+        remembered: Remembered,
     ) -> None:
-        self.options, self.checkpoint, self.progress, self.remembered = (
-            options,
+        self.tolerance, self.checkpoint, self.progress, self.remembered = (
+            tolerance,
             checkpoint,
             progress,
             remembered,
@@ -75,7 +79,7 @@ class Misses:
         """
         self.noted = 0
         is_found = self.checkpoint.begin_counting(
-            position, has_told_all or self.options.accepts(MISSING)
+            position, has_told_all or self.tolerance.accepts(MISSING)
         )
         self.show()
         if is_found and self.checkpoint.counted:

@@ -11,17 +11,16 @@ import dataclasses
 import itertools
 import time
 from collections.abc import Sequence
-from typing import TYPE_CHECKING
 
 from pgsub_feed import log
 from pgsub_feed.texts import counted, identifier, lsn_text, replication_literal
 
 from ..add.adder import Adder
-from ..commands.record import Aside
 from ..drift.differences import PUBLICATION
 from ..drift.findings import NOTHING, About
 from ..drift.missed_rows import Misses
 from ..drift.remembered import Remembered
+from ..drift.tolerance import Tolerance
 from ..drift.watch import Watch
 from ..errors import (
     LOGIN,
@@ -34,6 +33,7 @@ from ..errors import (
     Unconnected,
     Unfit,
 )
+from ..record.recording import Aside, Session
 from ..server.connection import COPY_BOTH, Connection
 from ..server.lost_slot import Repeats, lost_error
 from ..server.publications import with_cure
@@ -50,6 +50,7 @@ from ..server.session import (
     tell_version_1,
     waits_for,
 )
+from ..server.subscription import Subscription
 from ..status.progress import Progress
 from ..store.checkpoint import Checkpoint
 from ..store.snapshot import SOON, Snapshots
@@ -60,14 +61,12 @@ from .filter import MISSED, PIECE, Filter, FilterEnded
 from .fitness import Fitting
 from .gate import LOOK as GATE
 from .gate import WAITED, Gating
+from .memory_limit import BufferLimits
 from .repair import Repairing
 from .skip import Skipping
 from .stall import Standing
 from .statuses import Confirming
 from .stream_log import Noting
-
-if TYPE_CHECKING:
-    from ..commands.options import Options
 
 # After how many seconds a lost session is begun anew, at first and at most.
 FIRST_DELAY, LONGEST_DELAY = 1.0, 60.0
@@ -89,6 +88,22 @@ ASK = 0.3
 NOT_AT_STANDBYS = ("0A", "55000")
 
 
+@dataclasses.dataclass(frozen=True)
+class FollowSettings:
+    """How a store is followed. `silence`: for how many seconds the server may say nothing; `skip`:
+    the final LSN of the commit whose changes are passed over, or 0; `until`: where to end, `now` for
+    the end of the server's log."""
+
+    store: str
+    proto: int = 2
+    heartbeat: float = 10.0
+    silence: float = 60.0
+    skip: int = 0
+    until: int | str | None = None
+    no_copy: bool = False
+    limits: BufferLimits = BufferLimits()
+
+
 class Follower:
     """Follows into one store."""
 
@@ -96,7 +111,9 @@ class Follower:
 
     def __init__(
         self,
-        options: Options,
+        settings: FollowSettings,
+        subscription: Subscription,
+        tolerance: Tolerance,
         checkpoint: Checkpoint,
         child: Filter,
         progress: Progress,
@@ -105,27 +122,29 @@ class Follower:
         remembered: Remembered,
         feeding: Feeding | None = None,
     ) -> None:
-        self.options = options
+        self.settings, self.subscription, self.tolerance = settings, subscription, tolerance
         self.filter, self.progress, self.recording = child, progress, recording
         self.snapshots, self.feeding = snapshots, feeding
         self.stop_asked = False
         self.connection = None
         self.was_connected = False
-        self.proto, self.streams = options.proto, options.proto >= 2
+        self.proto, self.streams = settings.proto, settings.proto >= 2
         self.delay = 0.0
         # whether another session is to begin at once in place of the last one
         self.is_renewed = False
-        self.heartbeat = options.heartbeat
+        self.heartbeat = settings.heartbeat
         self.noting = Noting(progress, remembered)
-        self.watch = Watch(options, checkpoint, progress, remembered)
-        self.misses = Misses(options, checkpoint, progress, remembered)
-        self.skipping = Skipping(options.skip, checkpoint, progress, remembered)
-        self.fitting = Fitting(options, checkpoint, self.watch)
+        self.watch = Watch(subscription, tolerance, checkpoint, progress, remembered)
+        self.misses = Misses(tolerance, checkpoint, progress, remembered)
+        self.skipping = Skipping(settings.skip, checkpoint, progress, remembered)
+        self.fitting = Fitting(subscription, tolerance, settings.no_copy, checkpoint, self.watch)
         self.confirming = confirming = Confirming(
             checkpoint, child, progress, self.noting, self.misses
         )
         self.adder = Adder(
-            options,
+            subscription,
+            settings.store,
+            settings.limits,
             checkpoint,
             progress,
             remembered,
@@ -136,7 +155,7 @@ class Follower:
             self,
         )
         self.repairing = Repairing(
-            options,
+            settings.limits,
             checkpoint,
             progress,
             remembered,
@@ -152,12 +171,12 @@ class Follower:
             confirming.reached,
         )
         snapshots.delays_commits = progress.note_standbys
-        self.gating = Gating(options, progress, snapshots.hold, self.serve_server, self.let_go)
-        self.kills, self.repeats = too_large.Kills(), Repeats(options)
+        self.gating = Gating(subscription, progress, snapshots.hold, self.serve_server, self.let_go)
+        self.kills, self.repeats = too_large.Kills(), Repeats(settings.store)
         self.standing = Standing(child, progress)
         # when the server was heard last, as far as anything of it was waited for
         self.heard = time.monotonic()
-        self.until = options.until if isinstance(options.until, int) else None
+        self.until = settings.until if isinstance(settings.until, int) else None
         # whether whole transactions are asked for because of tables that are added, or rows that
         # are repaired
         self.is_whole = False
@@ -215,7 +234,7 @@ class Follower:
         """
         is_of_connecting = isinstance(error, Unconnected) or error.sqlstate.startswith(LOGIN)
         if error.is_lasting() and not (self.was_connected and is_of_connecting):
-            raise with_cure(error, self.options.publication)
+            raise with_cure(error, self.subscription.publications)
         if not (self.was_connected or error.sqlstate):
             raise Passing(str(error))
         log.warning(f"{error}")
@@ -231,7 +250,7 @@ class Follower:
             ended.is_full() and self.stop_streaming("open transactions were too much at a time")
         ):
             largest = self.noting.largest()
-            if text := too_large.text_of(ended, self.options, largest, self.noting.longest):
+            if text := too_large.text_of(ended, self.settings.limits, largest, self.noting.longest):
                 log.error(text)
             if self.feeding and (text := self.feeding.text_of(ended.said)):
                 log.error(text)
@@ -358,10 +377,10 @@ class Follower:
 
     def connect(self) -> Connection:
         """Connects, checks that the store and the slot fit together, and starts the session."""
-        options = self.options
+        subscription = self.subscription
         self.progress.state = "connecting"
         connection = Connection(
-            options.dsn, replication=True, name=options.slot, check=self.check_stop
+            subscription.dsn, replication=True, name=subscription.slot, check=self.check_stop
         )
         self.connection = connection
         settle(connection)
@@ -375,16 +394,21 @@ class Follower:
         self.start_replication(connection, server)
         self.fitting.check_slot(self.confirming.position, self.check_stop)
         # (what comes later isn't what was accepted)
-        options.accept = []
+        self.tolerance.end()
         self.was_connected = True
         self.standing.begin_session()
         self.progress.sessions += 1
-        log.info(f"following slot {options.slot} from {lsn_text(max(at, slot_at))}")
+        log.info(f"following slot {subscription.slot} from {lsn_text(max(at, slot_at))}")
         if self.recording:
             self.recording.begin_session(
-                connection,
-                dataclasses.replace(options, proto=self.proto, streaming=self.is_streaming()),
-                at,
+                Session(
+                    connection.parameter("server_version"),
+                    subscription.slot,
+                    subscription.publications,
+                    self.proto,
+                    ["streaming"] if self.is_streaming() else [],
+                    at,
+                )
             )
         return connection
 
@@ -411,7 +435,7 @@ class Follower:
     def prepare(self, connection: Connection) -> None:
         """Has what takes part in a session begin it, which tells what it asks for, and reads the
         settings that it depends on."""
-        options, progress = self.options, self.progress
+        settings, progress = self.settings, self.progress
         # (on another connection: what a session's process has in its caches, it would decode older
         # changes by)
         if not self.watch.look_again(self.check_stop, self.confirming.position):
@@ -422,10 +446,10 @@ class Follower:
         ), self.repairing.begin_session(self.streams)
         self.is_whole = adds or repairs
         self.noting.begin_session()
-        if options.until == "now" and self.until is None:
+        if settings.until == "now" and self.until is None:
             self.until = log_end(connection)
         timeout = sender_timeout(connection)
-        self.heartbeat = min(options.heartbeat, timeout / 3) if timeout else options.heartbeat
+        self.heartbeat = min(settings.heartbeat, timeout / 3) if timeout else settings.heartbeat
         progress.name = connection.parameter("application_name")
         progress.is_waited_for = waits_for(
             connection.text("SHOW synchronous_standby_names"), progress.name
@@ -436,16 +460,20 @@ class Follower:
         is promoted."""
         try:
             connection.run(
-                self.command(self.filter.confirmed()), wanted=COPY_BOTH, limit=self.options.silence
+                self.command(self.filter.confirmed()), wanted=COPY_BOTH, limit=self.settings.silence
             )
         except ServerError as error:
             if (
                 server.is_standby
                 and error.sqlstate.startswith(NOT_AT_STANDBYS)
-                and not is_lost(connection, self.options.slot)
+                and not is_lost(connection, self.subscription.slot)
             ):
                 raise ServerError(f"the server is a standby: {error}") from None
-            raise lost_error(connection, self.options, error) if error.sqlstate else error from None
+            if not error.sqlstate:
+                raise
+            raise lost_error(
+                connection, self.subscription.slot, self.settings.store, error
+            ) from None
 
     def choose_protocol(self, version: int) -> None:
         """Chooses the version of the protocol, and has the filter read it.
@@ -469,12 +497,14 @@ class Follower:
         return self.streams and not self.skipping.is_pending and not self.is_whole
 
     def command(self, at: int) -> str:
-        options = self.options
-        names = ", ".join(identifier(name) for name in options.publication)
+        slot = self.subscription.slot
+        names = ", ".join(identifier(name) for name in self.subscription.publications)
         words = [f"proto_version '{self.proto}'", f"publication_names {replication_literal(names)}"]
         if self.is_streaming():
             words.append("streaming 'on'")
-        return f"START_REPLICATION SLOT {identifier(options.slot)} LOGICAL {lsn_text(at)} ({', '.join(words)})"
+        return (
+            f"START_REPLICATION SLOT {identifier(slot)} LOGICAL {lsn_text(at)} ({', '.join(words)})"
+        )
 
     def session(self) -> None:
         """One session, from its start to its end on either side.
@@ -536,7 +566,7 @@ class Follower:
             now = time.monotonic()
             self.heard = now - silent
             self.keep_alive(silent)
-            self.standing.check(self.options.silence, self.snapshots.hold.stops())
+            self.standing.check(self.settings.silence, self.snapshots.hold.stops())
             if self.delay and now - began > 2 * self.heartbeat:
                 self.delay = 0.0
         self.end_session_by_ourselves()
@@ -608,7 +638,7 @@ class Follower:
     def keep_alive(self, silent: float) -> None:
         """Repeats the last status at each heartbeat. A server that has been silent is asked for an
         answer, and given up."""
-        limit = self.options.silence
+        limit = self.settings.silence
         if silent > limit:
             raise ServerError(f"the server said nothing for {limit:.0f} seconds")
         waits = self.snapshots.hold.is_going()
@@ -634,19 +664,19 @@ class Follower:
             self.misses.tell()
         self.require_server()
         self.keep_alive(0.0)
-        self.standing.check(self.options.silence)
+        self.standing.check(self.settings.silence)
 
     def require_server(self) -> None:
         """Asks the server on another connection whether it is there, where nothing has come for too
         long: of the session nothing is read meanwhile, and it may need that long for what is waited
         for."""
-        limit = self.options.silence
+        limit = self.settings.silence
         if time.monotonic() - self.heard <= limit:
             return
         try:
             connection = Connection(
-                self.options.dsn,
-                name=f"{self.options.slot} check",
+                self.subscription.dsn,
+                name=f"{self.subscription.slot} check",
                 quiet=True,
                 check=self.serve_server,
             )
@@ -709,7 +739,9 @@ class Follower:
         """
         while said:
             text = said.pop(0)
-            names = sorted((name for name in self.options.publication if name in text), key=len)
+            names = sorted(
+                (name for name in self.subscription.publications if name in text), key=len
+            )
             about = About(publication=names[-1], is_missing=True) if names else NOTHING
             text = f"the server leaves out changes from before a publication was made: {text}"
             self.watch.remembered.find(PUBLICATION, self.confirming.position, text, about)
@@ -749,7 +781,7 @@ class Follower:
                     self.confirming.pass_on(status)
                 if time.monotonic() - self.confirming.last_sent >= self.heartbeat:
                     self.confirming.repeat()
-                self.standing.check(self.options.silence, ends=True)
+                self.standing.check(self.settings.silence, ends=True)
         except FilterEnded as ended:
             self.confirming.release()
             check_end(ended)

@@ -36,11 +36,11 @@ from pgsub_feed.texts import parse_lsn
 
 from ..errors import NoSlot, Passing, ServerError, Stopped, Unfit, understood
 from ..server.connection import QUICK, Check, Connection
+from ..server.subscription import Subscription
 from ..status.progress import Progress
 from .hold import Hold
 
 if TYPE_CHECKING:
-    from ..commands.options import Options
     from ..verify.meeting_point import Source
 
 # How often it is looked whether the slot still waits, and again where the server couldn't be asked,
@@ -72,13 +72,13 @@ class Gating:
 
     def __init__(
         self,
-        options: Options,
+        subscription: Subscription,
         progress: Progress,
         hold: Hold,
         check: Check,
         let_go: Callable[[str], None],
     ) -> None:
-        self.options, self.progress, self.hold = options, progress, hold
+        self.subscription, self.progress, self.hold = subscription, progress, hold
         self.check, self.let_go = check, let_go
         self.connection: Connection | None = None
         # when it is looked again, and where the log ended at the last look
@@ -123,8 +123,8 @@ class Gating:
         self.end = at
 
     def connect(self) -> Connection:
-        name = f"{self.options.slot} hold"
-        self.connection = Connection(self.options.dsn, name=name, quiet=True, check=self.check)
+        name = f"{self.subscription.slot} hold"
+        self.connection = Connection(self.subscription.dsn, name=name, quiet=True, check=self.check)
         return self.connection
 
     def end_session(self) -> None:

@@ -11,7 +11,6 @@ import contextlib
 import os
 import time
 from collections.abc import Iterable, Mapping
-from typing import TYPE_CHECKING
 
 from pgsub_feed.tables.names import names_of
 from pgsub_feed.texts import lsn_text
@@ -24,6 +23,7 @@ from ..follow.hold import CHANGES, write_own_request
 from ..server.connection import Check, Connection
 from ..server.publications import Table, published_tables
 from ..server.session import identify, is_same_database, settle
+from ..server.subscription import Subscription
 from ..server.waits import Waiting
 from ..store.at_rest import (
     LOOK,
@@ -37,9 +37,6 @@ from ..store.at_rest import (
 from ..store.checkpoint import FOLLOWING, Known
 from ..store.snapshot import remove
 from .unchanged import ALTERED, changed, locked, there
-
-if TYPE_CHECKING:
-    from ..commands.options import Options
 
 # How long a follower may take until it holds the stream, in seconds: it may be about to connect, or
 # to open its store; and so long may tables be locked by others. And for how much longer than a slot
@@ -151,9 +148,15 @@ class Source:
     a slot."""
 
     def __init__(
-        self, options: Options, known: Known, check: Check, purpose: str = "verify"
+        self,
+        subscription: Subscription,
+        store: str,
+        known: Known,
+        check: Check,
+        purpose: str = "verify",
     ) -> None:
-        self.options, self.check, self.purpose = options, check, purpose
+        self.subscription, self.store = subscription, store
+        self.check, self.purpose = check, purpose
         # how long tables may be locked by others, in seconds
         self.patience = PATIENCE
         # what is closed at the end, and what is once the snapshot is taken: the slot goes with its
@@ -176,9 +179,9 @@ class Source:
 
     def connect(self, closing: contextlib.ExitStack, replication: bool) -> Connection:
         connection = Connection(
-            self.options.dsn,
+            self.subscription.dsn,
             replication=replication,
-            name=f"{self.options.slot} {self.purpose}",
+            name=f"{self.subscription.slot} {self.purpose}",
             check=self.check,
         )
         closing.callback(connection.close)
@@ -188,7 +191,7 @@ class Source:
     def check_server(self, known: Known) -> None:
         """Rejects a server whose changes the store doesn't follow."""
         if known.phase != FOLLOWING:
-            raise Passing(f"{self.options.store} isn't followed yet")
+            raise Passing(f"{self.store} isn't followed yet")
         server = identify(self.replication)
         timeline = known.timeline and server.timeline
         ours, theirs = (known.system, known.database, known.timeline), (
@@ -196,7 +199,7 @@ class Source:
             server.database,
             timeline,
         )
-        is_same = is_same_database(known.database, Remembered(self.options.store).database, server)
+        is_same = is_same_database(known.database, Remembered(self.store).database, server)
         if not is_same or (ours[0], ours[2]) != (theirs[0], theirs[2]):
             names = ("the server {}, database {}, timeline {}".format(*it) for it in (ours, theirs))
             raise Unfit("the store follows {}, and this is {}".format(*names))
@@ -216,7 +219,7 @@ class Source:
         `check_end`: what is called meanwhile in place of what else is.
         """
         until, waiting = time.monotonic() + seconds, Waiting(
-            self.options.dsn, self.options.slot, check_end or self.check
+            self.subscription.dsn, self.subscription.slot, check_end or self.check
         )
         # (said in time for the end)
         waiting.next = min(waiting.next, until - 1)
@@ -231,7 +234,7 @@ class Source:
         self.replication.check = check
         try:
             _, point, snapshot = create_temporary(
-                self.replication, f"{self.options.slot[:40]}_{self.purpose}"
+                self.replication, f"{self.subscription.slot[:40]}_{self.purpose}"
             )
         except ServerError as error:
             raise no_slot(seconds) if error.sqlstate == LOCK_TIMEOUT else error from None
@@ -272,7 +275,7 @@ class Source:
     def renamed(self, tables: list[Table]) -> list[int]:
         """Those of which names are others now than in the snapshot."""
         try:
-            check_names(self.options, tables, self.check)
+            check_names(self.subscription, tables, self.check)
             return []
         except ServerError as error:
             if str(error) != CHANGED:
@@ -290,7 +293,7 @@ class Source:
 
     def published(self) -> list[Table]:
         """The published tables that are looked at, as they are now."""
-        found = published_tables(self.plain, self.options.publication)
+        found = published_tables(self.plain, self.subscription.publications)
         return [it for it in found if self.only in (0, it.oid)]
 
     def lock(self, leaves: bool) -> None:

@@ -26,7 +26,6 @@ import os
 import sqlite3
 import time
 from collections.abc import Callable, Iterator, Sequence
-from typing import TYPE_CHECKING
 
 from pgsub_feed import log
 from pgsub_feed.reader.commits import Head
@@ -34,12 +33,20 @@ from pgsub_feed.reader.segments import read_source
 from pgsub_feed.reader.trail import Trail
 from pgsub_feed.tables.file import full_name
 from pgsub_feed.tables.first_rows import is_tables
+from pgsub_feed.tables.position import read_position
 from pgsub_feed.tables.set_aside import cure, store_at
 from pgsub_feed.tables.view import View, check_tables
 from pgsub_feed.texts import counted, lsn_text
 
-from ..commands.drop import read_known
-from ..commands.verify import (
+from ..drift.remembered import Relation, Remembered
+from ..errors import FileError, Passing, Stopped, Unfit
+from ..server.connection import Check
+from ..server.publication_setup import names_of
+from ..server.publications import Column, Table
+from ..server.subscription import Subscription
+from ..store.checkpoint import FOLLOWING, Known
+from ..store.checkpoint_at_rest import read_known
+from .comparison import (
     AGAIN,
     DIFFERENT,
     EQUAL,
@@ -50,22 +57,33 @@ from ..commands.verify import (
     settled,
     tell_left,
 )
-from ..commands.wait import LOOK, read_file
-from ..drift.remembered import Relation, Remembered
-from ..errors import FileError, Passing, Stopped, Unfit
-from ..server.connection import Check
-from ..server.publication_setup import names_of
-from ..server.publications import Column, Table
-from ..store.checkpoint import FOLLOWING, Known
 from .digests import Plan, Sums, chunks_for
 from .meeting_point import Source, chosen
 from .sides import Difference, Sides, differing
 
-if TYPE_CHECKING:
-    from ..commands.options import Options
-
 # For how long feed and tables may take to have all commits up to the LSN, in seconds.
 PATIENCE = 60.0
+# How often it is looked whether they have, in seconds.
+LOOK = 0.02
+
+
+@dataclasses.dataclass(frozen=True)
+class TablesComparison:
+    """Which tables are compared: those of a file with the server of `subscription`, or with those
+    of another file. `store`: whose publications are meant; `feed`: what the file follows, "" for
+    the folder that it names; `digests`: by the digests that are kept; `chosen`: the tables that are
+    named; `hold`: for how many seconds a slot is waited for; `show`: how many keys that differ are
+    printed."""
+
+    subscription: Subscription
+    path: str
+    other: str = ""
+    store: str = ""
+    feed: str = ""
+    digests: bool = False
+    chosen: Sequence[str] = ()
+    hold: float = 10.0
+    show: int = 20
 
 
 class Tables(Sides):
@@ -119,8 +137,8 @@ class Files(Tables):
 class ByDigests(Verifier):
     """Compares tables by the digests that are kept, and of those that differ the rows."""
 
-    def __init__(self, options: Options, sides: Tables) -> None:
-        super().__init__(options, sides)
+    def __init__(self, show: int, sides: Tables) -> None:
+        super().__init__(show, sides)
         self.both = sides
 
     def run(self, tables: list[Table]) -> bool:
@@ -134,93 +152,99 @@ class ByDigests(Verifier):
         return not self.different
 
 
-def run(options: Options, check: Check) -> int:
+def compare_tables(comparison: TablesComparison, check: Check) -> int:
     """Compares; the exit status."""
     try:
-        return with_file(options, check) if options.other else with_server(options, check)
+        call = with_file if comparison.other else with_server
+        return call(comparison, check)
     except Stopped:
         raise Passing("ended before all was compared") from None
     except sqlite3.Error as error:
-        raise FileError(f"{options.tables}: {error}") from None
+        raise FileError(f"{comparison.path}: {error}") from None
 
 
 def store_of(path: str) -> str:
     """The store whose feed a file follows, by the feed's name; "" where it has another one."""
     with contextlib.suppress(OSError, sqlite3.Error, TypeError):
-        store = read_file(path)[1].removesuffix(".feed") if is_tables(path) else ""
+        store = read_position(path)[1].removesuffix(".feed") if is_tables(path) else ""
         return store if os.path.exists(store + ".connector") else ""
     return ""
 
 
-def with_server(options: Options, check: Check) -> int:
-    check_tables(options.tables)
+def with_server(comparison: TablesComparison, check: Check) -> int:
+    check_tables(comparison.path)
     found = Compared()
-    status = compare_with_server(options, lambda it: it.chosen(options.table), found, check)
+    status = compare_with_server(
+        comparison, lambda it: it.chosen(list(comparison.chosen)), found, check
+    )
     for _ in range(AGAIN):
         if found.left:
             log.info(f"compared once more: {found.names()}")
             status = max(
-                status, compare_with_server(options, among(list(found.left)), found, check)
+                status, compare_with_server(comparison, among(list(found.left)), found, check)
             )
     return found.ended(status)
 
 
 def compare_with_server(
-    options: Options, choose: Callable[[Source], list[Table]], found: Compared, check: Check
+    comparison: TablesComparison,
+    choose: Callable[[Source], list[Table]],
+    found: Compared,
+    check: Check,
 ) -> int:
     with contextlib.ExitStack() as stack:
-        at, folder = read_file(options.tables)
-        trail = stack.enter_context(contextlib.closing(Trail(options.feed or folder, at)))
-        source = stack.enter_context(contextlib.closing(source_of(options, check)))
-        tables = followed(options, choose(source))
-        point, snapshot = source.make_slot(options.hold)
+        at, folder = read_position(comparison.path)
+        trail = stack.enter_context(contextlib.closing(Trail(comparison.feed or folder, at)))
+        source = stack.enter_context(contextlib.closing(source_of(comparison, check)))
+        tables = followed(comparison, choose(source))
+        point, snapshot = source.make_slot(comparison.hold)
         source.see(snapshot, leaves=True)
         if point < at:
             # (of a standby that is behind)
-            trail = stack.enter_context(contextlib.closing(Trail(options.feed or folder, point)))
-        wait(options.tables, trail, point, check)
-        view = stack.enter_context(contextlib.closing(View(options.tables, check)))
+            trail = stack.enter_context(contextlib.closing(Trail(comparison.feed or folder, point)))
+        wait(comparison.path, trail, point, check)
+        view = stack.enter_context(contextlib.closing(View(comparison.path, check)))
         if view.at < trail.last:
             raise Passing(
-                f"{options.tables} was taken back to {lsn_text(view.at)} meanwhile: nothing was compared"
+                f"{comparison.path} was taken back to {lsn_text(view.at)} meanwhile: nothing was compared"
             )
         view.trail = trail
         # (of one that is added since then the feed lacks changes up to here, or truncates it)
-        followed(options, tables)
-        tables = with_rows(options, view, tables)
+        followed(comparison, tables)
+        tables = with_rows(comparison, view, tables)
         found.left = left_of(tables, {**trail.unknown(view.at), **source.left})
         sides = Tables(source, view)
         tell_left(sides)
         rest = [it for it in tables if it.oid not in found.left]
-        status = compare(options, sides, rest, f"on the server at {lsn_text(point)}", [view])
+        status = compare(comparison, sides, rest, f"on the server at {lsn_text(point)}", [view])
     return status
 
 
-def followed(options: Options, tables: list[Table]) -> list[Table]:
+def followed(comparison: TablesComparison, tables: list[Table]) -> list[Table]:
     """Tables none of which is being added now, as far as the store is known."""
     return settled(
-        tables, read_known(options.store + ".connector"), Remembered(options.store).partial
+        tables, read_known(comparison.store + ".connector"), Remembered(comparison.store).partial
     )
 
 
-def source_of(options: Options, check: Check) -> Source:
+def source_of(comparison: TablesComparison, check: Check) -> Source:
     """The server of a file's rows."""
-    with contextlib.closing(View(options.tables, check)) as view:
-        head = source_in(view, options.feed)
+    with contextlib.closing(View(comparison.path, check)) as view:
+        head = source_in(view, comparison.feed)
     if head is None:
-        raise Passing(f"{options.tables} has followed nothing yet")
-    options.slot = head.slot
+        raise Passing(f"{comparison.path} has followed nothing yet")
     known = Known(FOLLOWING, head.system, head.database, head.slot)
-    return Source(dataclasses.replace(options, store=options.tables), known, check)
+    subscription = dataclasses.replace(comparison.subscription, slot=head.slot)
+    return Source(subscription, comparison.path, known, check)
 
 
 def wait(path: str, trail: Trail, point: int, check: Check) -> None:
     """Waits until the feed has all commits that end up to an LSN, and the tables have those."""
     until = time.monotonic() + PATIENCE
-    while not (has := trail.has(point)) or read_file(path)[0] < trail.last:
+    while not (has := trail.has(point)) or read_position(path)[0] < trail.last:
         if time.monotonic() > until:
             behind = (
-                f"{path} is at {lsn_text(read_file(path)[0])}"
+                f"{path} is at {lsn_text(read_position(path)[0])}"
                 if has
                 else f"the feed {trail.folder} doesn't have all"
             )
@@ -231,14 +255,14 @@ def wait(path: str, trail: Trail, point: int, check: Check) -> None:
         time.sleep(LOOK)
 
 
-def with_rows(options: Options, view: View, tables: list[Table]) -> list[Table]:
+def with_rows(comparison: TablesComparison, view: View, tables: list[Table]) -> list[Table]:
     """The tables that a file has; tells which it was made without, and which are set aside."""
     view.lacks += [view.asides[it.oid] for it in tables if it.oid in view.asides]
     for aside in view.lacks:
         log.warning(f"{aside.name()} is set aside in {view.path} {aside.text()}")
     tables = [it for it in tables if it.oid not in view.asides]
     left = [it for it in tables if not view.is_chosen(it)]
-    if left and options.table:
+    if left and comparison.chosen:
         raise Unfit(f"{view.path} was made without {names_of([it.text() for it in left])}")
     if left:
         log.info(
@@ -248,10 +272,14 @@ def with_rows(options: Options, view: View, tables: list[Table]) -> list[Table]:
 
 
 def compare(
-    options: Options, sides: Tables, tables: list[Table], where: str, views: list[View]
+    comparison: TablesComparison, sides: Tables, tables: list[Table], where: str, views: list[View]
 ) -> int:
     """Compares tables, and tells what differs; the exit status."""
-    verifier = ByDigests(options, sides) if options.digests else Verifier(options, sides)
+    verifier = (
+        ByDigests(comparison.show, sides)
+        if comparison.digests
+        else Verifier(comparison.show, sides)
+    )
     is_equal = verifier.run(tables)
     for view in views:
         for relation in view.wrong:
@@ -259,7 +287,7 @@ def compare(
                 f"{view.path}: the digest that it keeps of {relation.text()} isn't that of its rows: another program has written there"
             )
     is_right = not any(it.wrong for it in views)
-    how = " by the digests that are kept" if options.digests else ""
+    how = " by the digests that are kept" if comparison.digests else ""
     text = f"{counted(len(tables), 'table')}, {counted(verifier.rows, 'row')} {where}"
     log.info(
         f"{text}: {('equal' if is_right else 'equal rows') + how if is_equal else 'the copy differs'}"
@@ -270,7 +298,7 @@ def compare(
     ]
     if wrong:
         log.warning(
-            f"rows come anew by: {cure(options.store or store_at(views[-1].folder), sorted(set(wrong)))}"
+            f"rows come anew by: {cure(comparison.store or store_at(views[-1].folder), sorted(set(wrong)))}"
         )
     return DIFFERENT if wrong else EQUAL
 
@@ -279,8 +307,8 @@ def relation_name(relation: Relation) -> str:
     return ".".join(full_name(relation))
 
 
-def with_file(options: Options, check: Check) -> int:
-    paths = (options.other, options.tables)
+def with_file(comparison: TablesComparison, check: Check) -> int:
+    paths = (comparison.other, comparison.path)
     for path in paths:
         check_tables(path)
     with contextlib.ExitStack() as stack:
@@ -289,10 +317,10 @@ def with_file(options: Options, check: Check) -> int:
         point = min(other.at, view.at)
         for it in (other, view):
             if it.at > point:
-                it.trail = stack.enter_context(contextlib.closing(trail_to(options, it, point)))
+                it.trail = stack.enter_context(contextlib.closing(trail_to(comparison, it, point)))
         tables = tables_of((other, view))
-        tables = chosen(tables, options.table) if options.table else tables
-        both = with_rows(options, other, with_rows(options, view, tables))
+        tables = chosen(tables, list(comparison.chosen)) if comparison.chosen else tables
+        both = with_rows(comparison, other, with_rows(comparison, view, tables))
         found = Compared()
         found.left = left_of(
             both,
@@ -305,7 +333,7 @@ def with_file(options: Options, check: Check) -> int:
         )
         rest = [it for it in both if it.oid not in found.left]
         status = compare(
-            options,
+            comparison,
             Files(other, view),
             rest,
             f"in {other.path} at {lsn_text(point)}",
@@ -330,9 +358,9 @@ def check_same_source(one: View, two: View) -> None:
         raise Unfit(f"{one.path} has rows of {ours.text()}, and {two.path} of {theirs.text()}")
 
 
-def trail_to(options: Options, view: View, point: int) -> Trail:
+def trail_to(comparison: TablesComparison, view: View, point: int) -> Trail:
     """The way back of the file that is ahead."""
-    folder = options.feed or view.folder
+    folder = comparison.feed or view.folder
     if not os.path.isdir(folder):
         raise Unfit(
             f"{view.path} is at {lsn_text(view.at)}, and its feed {folder} isn't here to take it back to {lsn_text(point)}: name one by --feed"

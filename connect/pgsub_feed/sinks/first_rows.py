@@ -3,28 +3,23 @@
 from __future__ import annotations
 
 import contextlib
-import dataclasses
 import os
 import sqlite3
 from collections.abc import Iterator
-from typing import TYPE_CHECKING
 
 from pgsub_connect.drift.remembered import Relation
 from pgsub_connect.errors import FileError, Unfit
 from pgsub_connect.server.connection import Check
 from pgsub_connect.store.at_rest import own_name
-from pgsub_connect.store.export import run as export
+from pgsub_connect.store.export import ExportSettings, export_store
 from pgsub_connect.store.file import is_export
 from pgsub_connect.store.snapshot import remove
 
 from ..reader.commits import Cells
 from ..tables.file import unlisted
-from ..tables.first_rows import check_begin, opened
+from ..tables.first_rows import FirstRows, check_begin, opened
 from ..tables.names import POSITION, TABLES, names_of, told_columns
 from ..texts import identifier, parse_lsn
-
-if TYPE_CHECKING:
-    from pgsub_connect.commands.options import Options
 
 
 class Base:
@@ -82,22 +77,25 @@ class Exported(Base):
 
 
 @contextlib.contextmanager
-def base_of(options: Options, chosen: tuple[str, ...], check: Check) -> Iterator[Base]:
+def base_of(first: FirstRows, chosen: tuple[str, ...], check: Check) -> Iterator[Base]:
     """What a sink begins with: an export that is named or asked for, or nothing, where that is what
     its feed begins with."""
-    if options.base:
-        with exported(options.base, chosen) as found:
+    if first.base:
+        with exported(first.base, chosen) as found:
             yield found
-    elif options.store:
-        path = own_name(options.store + ".base")
+    elif first.store:
+        path = own_name(first.store + ".base")
         try:
-            export(dataclasses.replace(options, command="export", text=True, into=path), check)
+            settings = ExportSettings(
+                first.store, path, is_text=True, chosen=chosen, mode=first.mode
+            )
+            export_store(settings, check)
             with exported(path, chosen) as found:
                 yield found
         finally:
             remove(path)
     else:
-        check_begin(options, check)
+        check_begin(first, check)
         yield Base()
 
 

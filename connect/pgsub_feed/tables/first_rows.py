@@ -8,13 +8,12 @@ import json
 import os
 import sqlite3
 import urllib.parse
-from collections.abc import Iterable, Iterator
-from typing import TYPE_CHECKING
+from collections.abc import Iterable, Iterator, Sequence
 
 from pgsub_connect.errors import FileError, Passing, Unfit
 from pgsub_connect.server.connection import Check
 from pgsub_connect.store.at_rest import is_followed, own_name
-from pgsub_connect.store.export import run as export
+from pgsub_connect.store.export import ExportSettings, export_store
 from pgsub_connect.store.file import APPLICATION_AT, MAGIC, is_export
 from pgsub_connect.store.placing import placed
 from pgsub_connect.store.snapshot import copy, remove
@@ -27,8 +26,21 @@ from ..texts import identifier, lsn_text, parse_lsn
 from .file import APPLICATION, FEED, MORE, RELATIONS, SCHEMA, path_bytes
 from .names import POSITION, TABLES, names_of
 
-if TYPE_CHECKING:
-    from pgsub_connect.commands.options import Options
+
+@dataclasses.dataclass(frozen=True)
+class FirstRows:
+    """With which rows something begins that follows a feed: those of an export or of another file
+    of tables, those of a store, or none. `reader`: the name by which the feed keeps its segments
+    meanwhile; `at`: the LSN to which the rows may be taken back; `once`: no segment that lacks is
+    waited for."""
+
+    feed: str
+    base: str | None = None
+    store: str = ""
+    reader: str | None = None
+    at: int | None = None
+    once: bool = False
+    mode: int = 0o600
 
 
 def is_tables(path: str) -> bool:
@@ -59,16 +71,16 @@ def check_file(path: str) -> None:
 
 
 @contextlib.contextmanager
-def keeping(options: Options) -> Iterator[None]:
+def keeping(first: FirstRows) -> Iterator[None]:
     """Keeps the segments that a new reader with a name needs, while its first rows are made. Where
     that fails its name goes again."""
-    bases = [base for base, _ in segments(options.feed)] if options.reader else []
-    if not options.reader or not bases:
+    bases = [base for base, _ in segments(first.feed)] if first.reader else []
+    if not first.reader or not bases:
         yield
         return
-    at, noted = begins_at(options), Noted(options.feed, options.reader, None, options.mode)
+    at, noted = begins_at(first), Noted(first.feed, first.reader, None, first.mode)
     # (the rows may be taken back from there)
-    at = at if options.at is None else min(at, options.at)
+    at = at if first.at is None else min(at, first.at)
     was_there = os.path.exists(noted.path)
     noted.note(max((it for it in bases if it <= at), default=bases[0]), is_last=True)
     try:
@@ -79,40 +91,42 @@ def keeping(options: Options) -> Iterator[None]:
         raise
 
 
-def begins_at(options: Options) -> int:
+def begins_at(first: FirstRows) -> int:
     """An LSN that a new reader's first rows aren't below, 0 where none is known."""
-    if options.base:
+    if first.base:
         with contextlib.suppress(OSError, sqlite3.Error, TypeError, ValueError), contextlib.closing(
-            opened(options.base)
+            opened(first.base)
         ) as db:
             return parse_lsn(db.execute(f"SELECT lsn FROM {POSITION}").fetchone()[0])
         return 0
     # (the copy that a follower makes has all that is confirmed)
-    return read_confirmed(options.feed) or 0 if options.store and is_followed(options.store) else 0
+    return read_confirmed(first.feed) or 0 if first.store and is_followed(first.store) else 0
 
 
-def make(options: Options, check: Check) -> None:
-    """Makes the file."""
-    if options.base:
-        make_from(options.base, options, check)
-    elif options.store:
-        base = own_name(options.into + ".base")
+def make(into: str, chosen: Sequence[str], first: FirstRows, check: Check) -> None:
+    """Makes the file, with the tables that are named, or all."""
+    if first.base:
+        make_from(first.base, into, chosen, first, check)
+    elif first.store:
+        base = own_name(into + ".base")
         try:
-            export(dataclasses.replace(options, command="export", into=base, table=[]), check)
-            make_from(base, options, check)
+            export_store(ExportSettings(first.store, base, mode=first.mode), check)
+            make_from(base, into, chosen, first, check)
         finally:
             remove(base)
     else:
-        check_begin(options, check)
-        make_from(None, options, check)
+        check_begin(first, check)
+        make_from(None, into, chosen, first, check)
 
 
-def make_from(base: str | None, options: Options, check: Check) -> None:
+def make_from(
+    base: str | None, into: str, chosen: Sequence[str], first: FirstRows, check: Check
+) -> None:
     """Makes the file with the rows of another one, or empty."""
-    folder = os.path.abspath(options.feed)
+    folder = os.path.abspath(first.feed)
     if base and not (os.path.isfile(base) and (is_export(base) or is_tables(base))):
         raise FileError(f"--base {base}: it is no export, nor a file of tables that follow a feed")
-    with placed(options.into, options.mode) as new:
+    with placed(into, first.mode) as new:
         if base and is_tables(base):
             clone(base, new)
             return
@@ -120,7 +134,7 @@ def make_from(base: str | None, options: Options, check: Check) -> None:
             remove(new)
             copy(base, new, 0o600, check)
         with contextlib.closing(sqlite3.connect(new, isolation_level=None)) as db:
-            prepare(db, folder, options.table, bool(base))
+            prepare(db, folder, chosen, bool(base))
 
 
 def prepare(db: sqlite3.Connection, folder: str, chosen: Iterable[str], is_base: bool) -> None:
@@ -152,16 +166,16 @@ def clone(base: str, new: str) -> None:
         db.execute("PRAGMA journal_mode = DELETE")
 
 
-def check_begin(options: Options, check: Check) -> None:
+def check_begin(first: FirstRows, check: Check) -> None:
     """Waits for the feed's first segment, which has to be that of a copy that was empty."""
-    with contextlib.closing(Reader(options.feed)) as reader:
-        poll = Poll(reader, not options.once, check)
-        while poll.next() is None and reader.segment is None and not options.once:
+    with contextlib.closing(Reader(first.feed)) as reader:
+        poll = Poll(reader, not first.once, check)
+        while poll.next() is None and reader.segment is None and not first.once:
             poll.rest()
         if reader.segment is None:
-            raise Passing(f"{options.feed}: the feed has no segment yet")
+            raise Passing(f"{first.feed}: the feed has no segment yet")
         if reader.segment.base:
             raise Unfit(
-                f"{options.feed}: the feed begins at {lsn_text(reader.segment.base)}, and there may be rows from before: name the store"
+                f"{first.feed}: the feed begins at {lsn_text(reader.segment.base)}, and there may be rows from before: name the store"
                 " by --store, or an export since then by --base"
             )
