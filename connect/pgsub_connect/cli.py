@@ -22,7 +22,8 @@ from .commands import verify as verify_module
 from .commands import wait
 from .commands.options import Options
 from .commands.words import arguments, settle_options
-from .copy.copier import Copier, create_slot, maker_of
+from .copy.copier import Copier
+from .copy.slots import create_slot, maker_of
 from .drift.remembered import Remembered, print_names
 from .drift.tolerance import Tolerance
 from .errors import (

@@ -14,7 +14,7 @@ from pathlib import Path
 from typing import Any
 from unittest import mock
 
-from pgsub_connect.add import adder
+from pgsub_connect.add import adder, requests, retries
 from pgsub_connect.drift import watch
 from pgsub_connect.drift.remembered import Remembered
 from pgsub_connect.follow import follower, statuses
@@ -178,8 +178,9 @@ class Case(Quiet):
             (follower, "ASK", 0.02),
             (statuses, "QUIET", 0.05),
             (follower, "FIRST_DELAY", 0.01),
-            (adder, "FIRST_DELAY", 0.02),
+            (retries, "FIRST_DELAY", 0.02),
             (adder, "Source", WorldSource),
+            (requests, "Source", WorldSource),
             (watch.Watch, "compare", lambda *_: True),
             (watch.Watch, "look_again", lambda *_: True),
         ):

@@ -293,7 +293,7 @@ BUGS = (
     ),
     Bug(
         "an LSN whose rows were never stored stays noted",
-        "pgsub_connect/add/adder.py",
+        "pgsub_connect/add/left_out.py",
         "self.checkpoint.write_adding(dict.fromkeys(self.checkpoint.adding(), 0))",
         "pass",
         ("test_adding", "test_cutting"),
@@ -307,14 +307,14 @@ BUGS = (
     ),
     Bug(
         "the LSN isn't noted before commits behind the slot are passed on",
-        "pgsub_connect/add/adder.py",
-        "        self.checkpoint.write_adding({**self.checkpoint.adding(), self.oid: point})\n        self.leaving.set(self.left_out())",
-        "        self.leaving.set({**self.left_out(), self.oid: point})",
+        "pgsub_connect/add/left_out.py",
+        "        self.checkpoint.write_adding({**self.checkpoint.adding(), oid: point})\n        self.leaving.set(self.points())",
+        "        self.leaving.set({**self.points(), oid: point})",
         ("test_adding", "test_cutting"),
     ),
     Bug(
         "tables of the initial copy are followed until it is their turn",
-        "pgsub_connect/add/adder.py",
+        "pgsub_connect/add/left_out.py",
         "**dict.fromkeys(sorted(self.remembered.partial), 0), ",
         "",
         ("test_adding",),
@@ -336,8 +336,8 @@ BUGS = (
     Bug(
         "the stream is held on where no slot was made",
         "pgsub_connect/add/adder.py",
-        "self.hold.end()\n            self.phase = IDLE\n            self.fail(error)",
-        "self.phase = IDLE\n            self.fail(error)",
+        "self.hold.end()\n        self.phase = IDLE\n        self.fail(error)",
+        "self.phase = IDLE\n        self.fail(error)",
         ("test_refusing",),
     ),
     Bug(
@@ -349,7 +349,7 @@ BUGS = (
     ),
     Bug(
         "a table above what may be buffered is passed on",
-        "pgsub_connect/add/adder.py",
+        "pgsub_connect/add/rows_sender.py",
         "if rows.cost > self.limits.max_buffered:",
         "if rows.cost < 0:",
         ("test_refusing",),
@@ -384,23 +384,23 @@ BUGS = (
     ),
     Bug(
         "tables that were left out are forgotten",
-        "pgsub_connect/copy/copier.py",
+        "pgsub_connect/copy/tables.py",
         "self.remembered.want_later(self.later)",
         "self.remembered.save()",
         ("test_copying",),
     ),
     Bug(
         "a table that left while the slot was made is copied",
-        "pgsub_connect/copy/copier.py",
+        "pgsub_connect/copy/tables.py",
         "return [it for it in tables if it.oid in there]",
         "return tables",
         ("test_copying",),
     ),
     Bug(
         "a table that is published late has no name",
-        "pgsub_connect/copy/copier.py",
-        "        self.name_new(missing, point)\n",
-        "",
+        "pgsub_connect/copy/tables.py",
+        "missing}\n        self.name_new(missing, point)\n",
+        "missing}\n",
         ("test_copying",),
     ),
     Bug(
@@ -440,8 +440,8 @@ BUGS = (
     ),
     Bug(
         "a slot that somebody else moved is dropped",
-        "pgsub_connect/copy/copier.py",
-        "if at == str(self.checkpoint.known.confirmed):",
+        "pgsub_connect/copy/copy_slot.py",
+        "if at == str(position):",
         "if at:",
         ("test_copying",),
     ),
@@ -454,9 +454,9 @@ BUGS = (
     ),
     Bug(
         "parts of two tables get into one transaction",
-        "pgsub_connect/copy/copier.py",
-        "        self.end_part()\n        self.progress.copied_rows",
-        "        self.progress.copied_rows",
+        "pgsub_connect/copy/sender.py",
+        "return self.end_transaction(self.lsn + 1)",
+        "return self.lsn + 1",
         ("test_copying",),
     ),
     Bug(
@@ -951,7 +951,7 @@ BUGS = (
     ),
     Bug(
         "what was truncated ends a whole comparison",
-        "pgsub_connect/verify/meeting_point.py",
+        "pgsub_connect/copy/source.py",
         "if found and not leaves:",
         "if found:",
         ("test_meeting",),

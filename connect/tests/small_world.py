@@ -205,7 +205,7 @@ class WorldServer(SmallServer):
 
 
 class WorldSource:
-    """In the place of `meeting.Source`: reads the tables of a world. `hook` is called with the name
+    """In the place of `copy.source.Source`: reads the tables of a world. `hook` is called with the name
     of each call, and may raise."""
 
     world: World
@@ -215,14 +215,14 @@ class WorldSource:
     def __init__(
         self, subscription: object, store: str, known: object, check: Check, purpose: str
     ) -> None:
-        self.check, self.patience = check, 0.0
+        self.check = check
         self.hook("Source")
         self.tables = list(self.world.tables.values())
         self.plain = self
         type(self).open += 1
         self.is_open = True
 
-    def narrow(self, oid: int) -> Table | None:
+    def narrow(self, oid: int, patience: float) -> Table | None:
         self.tables = [it for it in self.tables if it.oid == oid]
         return self.tables[0] if self.tables else None
 

@@ -8,7 +8,7 @@ import dataclasses
 import unittest
 from unittest import mock
 
-from pgsub_connect.add import adder as adder_module
+from pgsub_connect.add import left_out
 from pgsub_connect.add.adder import Adder
 from pgsub_connect.add.replacement import Rows
 from pgsub_connect.drift.findings import About
@@ -53,7 +53,7 @@ class Added(Case):
     def test_tables_that_the_initial_copy_has_left_for_later(self) -> None:
         """All of them are left out from the first session on, since their rows are a part at most;
         none needs a session of its own."""
-        self.patch(adder_module, "MOST", 1)
+        self.patch(left_out, "MOST", 1)
         self.followed()
         self.spoil()
         Remembered(self.store).want_later([T, OTHER, THIRD])

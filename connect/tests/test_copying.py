@@ -13,17 +13,13 @@ from collections.abc import Callable, Sequence
 from typing import Any, cast
 from unittest import mock
 
-from pgsub_connect.copy import copier as copier_module
-from pgsub_connect.copy import table_reader
-from pgsub_connect.copy.copier import (
-    CHANGED,
-    Copier,
-    CopySettings,
-    Tries,
-    altered_tables,
-    create_slot,
-)
+from pgsub_connect.copy import copy_slot, slots, table_reader
+from pgsub_connect.copy import tables as tables_module
+from pgsub_connect.copy.copier import Copier, CopySettings
 from pgsub_connect.copy.messages import InsertHeads, begin, commit, frame, inserts, relation
+from pgsub_connect.copy.slots import create_slot
+from pgsub_connect.copy.tables import altered_tables
+from pgsub_connect.copy.tries import CHANGED, Tries
 from pgsub_connect.drift.remembered import Remembered
 from pgsub_connect.errors import Passing, ServerError, Stopped, Unfit, UsageError
 from pgsub_connect.follow.filter import Filter, FilterEnded
@@ -142,18 +138,19 @@ class Copying(Quiet):
         server.answer("pg_drop_replication_slot", self.slot_dropped)
         server.lines = [b"1\t5\n", b"2\t\\N\n"]
         self.tables = [STOCK]
-        for module in (copier_module, publication_setup, waits_module, table_reader):
+        for module in (copy_slot, slots, publication_setup, waits_module, table_reader):
             self.patch(module, "Connection", server.connect)
         self.patch(table_reader, "LOOK", 0.001)
-        self.patch(copier_module, "published_tables", lambda *_: list(self.tables))
+        self.patch(tables_module, "published_tables", lambda *_: list(self.tables))
         self.patch(publication_setup, "publishable_tables", lambda _: ['"public"."stock"'])
         self.patch(Copier, "sleep", lambda copier, seconds: self.slept.append(seconds))
         self.slept: list[float] = []
-        self.patch(
-            copier_module,
-            "read_catalog",
-            lambda _, names: Catalog(tuple(names), 0, 0, {}, {}, {}, {}),
-        )
+        for module in (tables_module, slots):
+            self.patch(
+                module,
+                "read_catalog",
+                lambda _, names: Catalog(tuple(names), 0, 0, {}, {}, {}, {}),
+            )
 
     def made(self) -> dict[str, int]:
         """The publications that are remembered as made, in the file."""
@@ -404,7 +401,7 @@ class Order(Copying):
         for after in ([other], [STOCK, Table(16390, "public", "new", "r", "d", None, None, [])]):
             left = [[STOCK], after, after]
             self.setUp()
-            self.patch(copier_module, "published_tables", lambda *_, left=left: left.pop(0))
+            self.patch(tables_module, "published_tables", lambda *_, left=left: left.pop(0))
             self.copier().run()
             self.assertEqual(list(self.later()), [after[-1].oid])
             self.assertEqual(self.progress.copied_rows, 2 if len(after) > 1 else 0)
@@ -468,7 +465,7 @@ class Order(Copying):
 
     def test_a_table_that_goes_meanwhile_is_forgotten(self) -> None:
         """Nothing of it was stored, so nothing is wrong."""
-        self.patch(copier_module, "read_catalog", lambda *_: a_catalog(a_table(16385, "stock")))
+        self.patch(tables_module, "read_catalog", lambda *_: a_catalog(a_table(16385, "stock")))
 
         def lock(_: str) -> list[Row]:
             self.tables = []
@@ -491,10 +488,10 @@ class Order(Copying):
 
     def test_a_table_that_is_published_beside_the_slot_is_named(self) -> None:
         """What is told of it says its name."""
-        self.patch(copier_module, "read_catalog", lambda *_: a_catalog(a_table(16385, "stock")))
+        self.patch(tables_module, "read_catalog", lambda *_: a_catalog(a_table(16385, "stock")))
         both = [STOCK, dataclasses.replace(STOCK, oid=16395, name="more")]
         looks = iter([[STOCK], both, both])
-        self.patch(copier_module, "published_tables", lambda *_: next(looks))
+        self.patch(tables_module, "published_tables", lambda *_: next(looks))
         self.copier().run()
         remembered = Remembered(self.store)
         text = (
@@ -598,7 +595,7 @@ class Ends(Copying):
     def test_publications_that_change_at_each_attempt(self) -> None:
         numbers = iter(range(1000))
         self.patch(
-            copier_module,
+            tables_module,
             "read_catalog",
             lambda *_: a_catalog(publication=dataclasses.replace(PGSUB, oid=next(numbers))),
         )
@@ -622,7 +619,7 @@ class Ends(Copying):
         def connect(*_: object, **__: object) -> object:
             raise ServerError("no route")
 
-        self.patch(copier_module, "Connection", connect)
+        self.patch(copy_slot, "Connection", connect)
         with self.assertRaises(Passing):
             self.copier().run()
 
@@ -685,7 +682,7 @@ class Ends(Copying):
 
     def test_a_slot_that_is_lost_while_rows_come(self) -> None:
         """Nothing can follow on the copy, so it ends at once, and the next start copies anew."""
-        self.patch(copier_module, "LOOK", 0.0)
+        self.patch(copy_slot, "LOOK", 0.0)
         self.server.answer(
             "SELECT s.wal_status",
             lambda _: [["lost" if self.server.told("COPY (") else "reserved"]],
@@ -708,7 +705,7 @@ class Ends(Copying):
             with self.subTest(version):
                 self.setUp()
                 self.server.server_version = version
-                self.patch(copier_module, "LOOK", 0.0)
+                self.patch(copy_slot, "LOOK", 0.0)
                 self.server.answer("SELECT s.wal_status", [["reserved"]])
                 self.server.answer(
                     "ALTER_REPLICATION_SLOT", ServerError("it is active for PID 7", "55006")
@@ -721,7 +718,7 @@ class Ends(Copying):
 
     def test_a_slot_is_looked_at_while_a_filter_opens_its_store(self) -> None:
         self.server.server_version = 180000
-        self.patch(copier_module, "LOOK", 0.0)
+        self.patch(copy_slot, "LOOK", 0.0)
         self.server.answer("SELECT s.wal_status", [["reserved"]])
         looks, start = list[int](), FakeFilter.start
 
@@ -737,9 +734,9 @@ class Ends(Copying):
 
     def test_how_often_depends_on_when_it_is_ended(self) -> None:
         for said, often, warned in (
-            (None, copier_module.LOOK, False),
-            ("0", copier_module.LOOK, False),
-            ("86400", copier_module.LOOK, False),
+            (None, copy_slot.LOOK, False),
+            ("0", copy_slot.LOOK, False),
+            ("86400", copy_slot.LOOK, False),
             ("30", 10.0, False),
             ("3", 1.0, True),
         ):
@@ -749,7 +746,7 @@ class Ends(Copying):
                 self.server.answer("idle_replication_slot_timeout')::", [[said]])
                 copier = self.copier()
                 copier.run()
-                self.assertEqual(copier.look, often)
+                self.assertEqual(copier.slot.look_each, often)
                 self.assertEqual(
                     any("any pause may lose the slot" in it for it in self.said), warned
                 )
@@ -759,7 +756,7 @@ class Ends(Copying):
         self.copier().run()
         self.assertEqual(self.server.told("SELECT s.wal_status"), [])
         self.setUp()
-        self.patch(copier_module, "LOOK", 0.0)
+        self.patch(copy_slot, "LOOK", 0.0)
         self.server.answer("SELECT s.wal_status", [["extended"]])
         self.copier().run()
         self.assertLess(
@@ -876,7 +873,7 @@ class Kept(Copying):
     def test_a_table_that_was_published_meanwhile(self) -> None:
         """What is told of it says its name, and goes once the table is added."""
         self.patch(
-            copier_module,
+            tables_module,
             "read_catalog",
             lambda *_: a_catalog(a_table(16385, "stock"), a_table(16390, "other")),
         )
@@ -898,12 +895,12 @@ class Kept(Copying):
     def test_a_table_that_leaves_while_the_slot_is_made(self) -> None:
         """It isn't copied, and not remembered."""
         self.patch(
-            copier_module,
+            tables_module,
             "read_catalog",
             lambda *_: a_catalog(a_table(16385, "stock"), a_table(16390, "other")),
         )
         looks = iter([[STOCK, OTHER], [STOCK]])
-        self.patch(copier_module, "published_tables", lambda *_: next(looks, [STOCK]))
+        self.patch(tables_module, "published_tables", lambda *_: next(looks, [STOCK]))
         self.copier().run()
         remembered = Remembered(self.store)
         self.assertEqual(remembered.catalog and list(remembered.catalog.tables), [16385])
@@ -1111,7 +1108,7 @@ class Slots(Copying):
         self.assertEqual((again.made, again.publications()), ({"pgsub": 777}, ["pgsub"]))
 
     def test_a_slot_goes_where_nothing_comes_of_it(self) -> None:
-        self.patch(copier_module, "read_catalog", mock.Mock(side_effect=Stopped))
+        self.patch(slots, "read_catalog", mock.Mock(side_effect=Stopped))
         with self.assertRaises(Stopped):
             self.make(Remembered(self.store))
         self.assertEqual(self.server.told("DROP_REPL"), ['DROP_REPLICATION_SLOT "pgsub"'])

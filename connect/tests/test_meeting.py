@@ -10,7 +10,9 @@ import unittest
 from collections.abc import Iterator
 from unittest import mock
 
-from pgsub_connect.copy.copier import CHANGED
+from pgsub_connect.copy.source import Source
+from pgsub_connect.copy.tries import CHANGED
+from pgsub_connect.copy.unchanged import ALTERED, LOCKED, MOVED
 from pgsub_connect.errors import NoSlot, Passing, ServerError, Stopped, Unfit
 from pgsub_connect.follow.hold import write_request
 from pgsub_connect.server.connection import Check, never
@@ -19,9 +21,8 @@ from pgsub_connect.server.subscription import Subscription
 from pgsub_connect.store.checkpoint import FOLLOWING, Known
 from pgsub_connect.store.snapshot import Snapshots, position_in
 from pgsub_connect.verify import meeting_point
-from pgsub_connect.verify.meeting_point import Request, Source
+from pgsub_connect.verify.meeting_point import Request
 from pgsub_connect.verify.store import meet
-from pgsub_connect.verify.unchanged import ALTERED, LOCKED, MOVED
 
 from .fake_server import FakeServer, Quiet, Row
 from .stores import StoreCase
@@ -168,13 +169,11 @@ class Servers(Quiet):
         self.server.answer("pg_is_in_recovery", [["f"]])
         self.server.answer("CREATE_REPLICATION_SLOT", [["x", "0/200", "snap", "pgoutput"]])
         self.tables = [self.table]
-        self.replace("pgsub_connect.verify.meeting_point.LOOK", 0.001)
-        for where in ("verify.meeting_point", "copy.copier", "server.waits"):
+        self.replace("pgsub_connect.copy.source.LOOK", 0.001)
+        for where in ("copy.source", "copy.tables", "server.waits"):
             self.replace(f"pgsub_connect.{where}.Connection", self.server.connect)
-        self.replace(
-            "pgsub_connect.verify.meeting_point.published_tables", lambda *_: list(self.tables)
-        )
-        self.replace("pgsub_connect.copy.copier.are_so_named", lambda *_: True)
+        self.replace("pgsub_connect.copy.source.published_tables", lambda *_: list(self.tables))
+        self.replace("pgsub_connect.copy.tables.are_so_named", lambda *_: True)
 
     def replace(self, name: str, by: object) -> None:
         patch = mock.patch(name, by)
@@ -325,7 +324,7 @@ class Servers(Quiet):
     def test_what_is_renamed_behind_the_snapshot_is_left_out(self) -> None:
         source = self.two()
         self.replace(
-            "pgsub_connect.copy.copier.are_so_named",
+            "pgsub_connect.copy.tables.are_so_named",
             lambda _, tables: 2 not in [it.oid for it in tables],
         )
         source.see("snap", leaves=True)

@@ -14,11 +14,11 @@ from typing import cast
 from unittest import mock
 
 from pgsub_connect.copy.messages import relation
+from pgsub_connect.copy.source import Source
 from pgsub_connect.server.connection import never
 from pgsub_connect.server.publications import Column, Table
 from pgsub_connect.verify import sides
 from pgsub_connect.verify.digests import Plan, Queries, text_of
-from pgsub_connect.verify.meeting_point import Source
 from pgsub_connect.verify.repair_rows import Changes, Mender, NoChange, changes_of
 from pgsub_connect.verify.sides import Copy, Sides
 

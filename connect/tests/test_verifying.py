@@ -21,7 +21,7 @@ from pgsub_connect.server.publications import Column, Table
 from pgsub_connect.store.checkpoint import FOLLOWING, Known
 from pgsub_connect.verify.comparison import Compared, Verifier, settled
 from pgsub_connect.verify.digests import NotText, Plan, Summing, fields_of, text_of
-from pgsub_connect.verify.meeting_point import Source
+from pgsub_connect.copy.source import Source
 from pgsub_connect.verify.sides import Copy, Sides
 from pgsub_feed.tables.values import Malformed
 

@@ -7,6 +7,7 @@ from typing import Protocol
 from ..drift.remembered import Relation
 from ..follow.gate import CURE, TABLE
 from ..server.catalog import Column, Shape
+from ..server.connection import Check
 from ..server.publications import Column as TableColumn
 from ..server.publications import Table
 
@@ -24,6 +25,19 @@ class Stream(Protocol):
 
     def push(self, frames: bytes) -> None:
         """Gives the filter frames, and waits until it has room."""
+
+
+class Publications(Protocol):
+    """What is known of the publications, and what was found there."""
+
+    def look_again(self, check: Check, position: int) -> bool:
+        """Reads them on a connection of its own. Returns whether that was possible."""
+
+    def show(self) -> None:
+        """Tells what was found."""
+
+    def keep(self) -> None:
+        """Puts what was found on the disk, and tells it."""
 
 
 class TooLarge(Exception):

@@ -18,6 +18,7 @@ from typing import TYPE_CHECKING
 from pgsub_feed import log
 from pgsub_feed.texts import counted
 
+from ..copy.source import chosen
 from ..drift.remembered import Remembered
 from ..errors import Passing, ServerError, Stopped
 from ..server.connection import Check, Connection
@@ -35,7 +36,6 @@ from ..store.at_rest import (
 )
 from ..store.checkpoint_at_rest import locked, read_known
 from ..store.snapshot import remove
-from ..verify.meeting_point import chosen
 
 if TYPE_CHECKING:
     from .options import Options

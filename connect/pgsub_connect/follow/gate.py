@@ -30,7 +30,7 @@ import tempfile
 import threading
 import time
 from collections.abc import Callable
-from typing import TYPE_CHECKING
+from typing import Protocol
 
 from pgsub_feed.texts import parse_lsn
 
@@ -39,9 +39,6 @@ from ..server.connection import QUICK, Check, Connection
 from ..server.subscription import Subscription
 from ..status.progress import Progress
 from .hold import Hold
-
-if TYPE_CHECKING:
-    from ..verify.meeting_point import Source
 
 # How often it is looked whether the slot still waits, and again where the server couldn't be asked,
 # in seconds.
@@ -137,10 +134,17 @@ class Gating:
         self.connection, self.end, self.next = None, 0, 0.0
 
 
+class SlotMaker(Protocol):
+    """A server that makes a slot, and may take long for it."""
+
+    def make_slot(self, seconds: float, check_end: Check | None = None) -> tuple[int, str]:
+        """The slot's consistent point and its snapshot."""
+
+
 class Making(threading.Thread):
     """Makes a slot while the follower goes on."""
 
-    def __init__(self, source: Source, seconds: float) -> None:
+    def __init__(self, source: SlotMaker, seconds: float) -> None:
         super().__init__(daemon=True)
         self.source, self.seconds = source, seconds
         self.given_up = threading.Event()

@@ -279,6 +279,15 @@ class Connection:
             raise
         return raw
 
+    @contextlib.contextmanager
+    def checked_by(self, check: Check) -> Iterator[None]:
+        """Calls this in place of its own check meanwhile."""
+        own, self.check = self.check, check
+        try:
+            yield
+        finally:
+            self.check = own
+
     def error(self) -> str:
         return said_text(self.raw.error_message)
 

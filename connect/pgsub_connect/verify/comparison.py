@@ -16,12 +16,12 @@ from collections.abc import Callable, Collection, Iterable, Mapping
 from pgsub_feed import log
 from pgsub_feed.texts import counted
 
+from ..copy.source import Source
 from ..errors import Passing
 from ..server.publication_setup import names_of
 from ..server.publications import Table
 from ..store.checkpoint import Known
 from .digests import Field, Fields, Plan, Sums, fields_in
-from .meeting_point import Source
 from .sides import Group, Sides
 
 EQUAL, DIFFERENT = 0, 1

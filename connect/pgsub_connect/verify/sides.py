@@ -15,13 +15,13 @@ from typing import Protocol
 from pgsub_feed.texts import lsn_text
 
 from ..copy.messages import unescaped
+from ..copy.source import Source
 from ..drift.remembered import Relation
 from ..errors import Unfit, understood
 from ..server.connection import Check
 from ..server.publications import Table, estimated_rows
 from ..store.file import check_store, opened, read_position, read_relations
 from .digests import Plan, Queries, Summing, Sums, chunks_for, fields_in, fields_of, text_of
-from .meeting_point import Source
 
 # How many bytes of rows are read at a time, and after how many rows it is looked whether the end
 # was asked for.

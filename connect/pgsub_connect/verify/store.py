@@ -11,6 +11,7 @@ from collections.abc import Callable, Iterator
 from pgsub_feed import log
 from pgsub_feed.texts import counted, lsn_text
 
+from ..copy.source import Source
 from ..drift.remembered import Remembered
 from ..errors import Delayed, Unrepaired
 from ..follow.gate import CURE, TABLE
@@ -22,7 +23,7 @@ from ..server.subscription import Subscription
 from ..store.at_rest import check_there, is_followed
 from ..store.checkpoint_at_rest import read_known
 from .comparison import Compared, Verifier, among, left_of, settled, tell_left
-from .meeting_point import Request, Source
+from .meeting_point import Request
 from .repair_rows import Changes, Mender
 from .sides import Copy, Sides
 

@@ -38,6 +38,7 @@ from pgsub_feed.tables.set_aside import cure, store_at
 from pgsub_feed.tables.view import View, check_tables
 from pgsub_feed.texts import counted, lsn_text
 
+from ..copy.source import Source, chosen
 from ..drift.remembered import Relation, Remembered
 from ..errors import FileError, Passing, Stopped, Unfit
 from ..server.connection import Check
@@ -58,7 +59,6 @@ from .comparison import (
     tell_left,
 )
 from .digests import Plan, Sums, chunks_for
-from .meeting_point import Source, chosen
 from .sides import Difference, Sides, differing
 
 # For how long feed and tables may take to have all commits up to the LSN, in seconds.
