@@ -25,7 +25,7 @@ from pgsub_connect.server.publications import Column, Table
 from pgsub_connect.server.subscription import Subscription
 from pgsub_connect.verify import tables_file
 from pgsub_connect.copy.source import chosen
-from pgsub_connect.verify.tables_file import TablesComparison
+from pgsub_connect.verify.tables_comparison import TablesComparison
 from pgsub_feed.reader.trail import Gone, Trail
 
 from .fake_server import connection_to

@@ -20,7 +20,7 @@ from ..server.subscription import Subscription
 from ..status.files import ReportSettings
 from ..store.export import ExportSettings
 from ..verify.store import StoreComparison
-from ..verify.tables_file import TablesComparison
+from ..verify.tables_comparison import TablesComparison
 
 if TYPE_CHECKING:
     from .status import Limit

@@ -11,7 +11,7 @@ from pgsub_feed.tables.values import Malformed
 
 from ..errors import FileError, Passing, Stopped, Unfit, Unrepaired
 from ..server.connection import Check
-from ..verify.comparison import AGAIN, DIFFERENT, EQUAL, Compared, among
+from ..verify.comparison import DIFFERENT, EQUAL, Compared
 from ..verify.digests import NotText
 from ..verify.store import StoreComparison, compare, repair
 from ..verify.tables_file import compare_tables
@@ -43,11 +43,8 @@ def run(options: Options, check: Check) -> int:
 
 def verify(options: Options, check: Check) -> int:
     found, comparison = Compared(), options.store_comparison()
-    compare(comparison, lambda it: it.chosen(options.table), found, check)
-    for _ in range(AGAIN):
-        if found.left:
-            log.info(f"compared once more: {found.names()}")
-            compare(comparison, among(list(found.left)), found, check)
+    for choose in found.tries(lambda it: it.chosen(options.table)):
+        compare(comparison, choose, found, check)
     status = DIFFERENT if found.different else EQUAL
     if found.different and options.repair:
         status = repaired(options, comparison, found, check)

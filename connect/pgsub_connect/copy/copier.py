@@ -306,7 +306,7 @@ class Copier:
         self.progress.copied_rows += part.rows
         if part.is_last:
             self.progress.copied_tables += 1
-            self.remembered.copied[part.table.oid] = end
+            self.remembered.note_copied(part.table.oid, end)
             if time.monotonic() - self.noted > NOTED:
                 self.remembered.save()
                 self.noted = time.monotonic()
@@ -378,7 +378,5 @@ class Copier:
 
     def keep(self) -> None:
         """The copy is there, under its own name."""
-        if self.remembered.copied:
-            self.remembered.copied = {}
-            self.remembered.save()
+        self.remembered.end_copy()
         self.files.keep()

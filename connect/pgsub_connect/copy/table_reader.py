@@ -46,10 +46,20 @@ class Part:
     follow."""
 
     table: Table
-    frames: list[bytes]
-    rows: int
-    longest: int
-    is_last: bool
+    frames: list[bytes] = dataclasses.field(default_factory=list)
+    rows: int = 0
+    longest: int = 0
+    size: int = 0
+    is_last: bool = False
+
+    def add(self, frames: bytes, lines: list[bytes]) -> None:
+        self.frames.append(frames)
+        self.rows += len(lines)
+        self.longest = max(self.longest, len(max(lines, key=len)))
+        self.size += len(frames)
+
+    def end(self) -> None:
+        self.is_last = True
 
 
 @dataclasses.dataclass
@@ -235,18 +245,13 @@ class Readers:
 def parts_of(connection: Connection, table: Table) -> Iterator[Part]:
     """All rows of a table, in parts. An LSN that is 0 in XLogData says nothing."""
     heads = InsertHeads(table, 0)
-    part = Part(table, [frame(0, relation(table))], 0, 0, False)
-    size = 0
+    part = Part(table, [frame(0, relation(table))])
     for lines in connection.copied_blocks(table.query(), BLOCK):
-        if size >= PART:
+        if part.size >= PART:
             yield part
-            part, size = Part(table, [], 0, part.longest, False), 0
-        block = inserts(lines, heads)
-        part.frames.append(block)
-        part.rows += len(lines)
-        part.longest = max(part.longest, len(max(lines, key=len)))
-        size += len(block)
-    part.is_last = True
+            part = Part(table, longest=part.longest)
+        part.add(inserts(lines, heads), lines)
+    part.end()
     yield part
 
 

@@ -392,6 +392,16 @@ class Remembered:
         self.partial |= set(oids)
         self.want(self.partial)
 
+    def note_copied(self, oid: int, end: int) -> None:
+        """Notes that a table is stored whole from this position on."""
+        self.copied[oid] = end
+
+    def end_copy(self) -> None:
+        """Notes durably that all rows are there."""
+        if self.copied:
+            self.copied = {}
+            self.save()
+
     def described(self, oid: int) -> Relation | None:
         """A table as it was described last, by which its rows can go; None where that isn't
         known."""

@@ -156,7 +156,7 @@ class Checkpoint:
         isn't made anew each time."""
         head, tail = self.around = self.around or around_positions(self.known)
         self.put_line(durably, f"{head}{confirmed}{BETWEEN}{position}{tail}", counted)
-        self.known.confirmed, self.known.position = confirmed, position
+        self.known.move(confirmed, position)
 
     def put_line(self, durably: bool, known: str, counted: Counted | None) -> None:
         """Writes a line over the one that the disk needn't have: so a power cut leaves one that is

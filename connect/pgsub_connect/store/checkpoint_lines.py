@@ -65,6 +65,10 @@ class Known:
     adding: dict[str, int] = dataclasses.field(default_factory=dict)
     encrypted: bool = False
 
+    def move(self, confirmed: int, position: int) -> None:
+        """The store is further."""
+        self.confirmed, self.position = confirmed, position
+
 
 @dataclasses.dataclass(frozen=True)
 class Counted:

@@ -11,7 +11,7 @@ from __future__ import annotations
 import hashlib
 import itertools
 import json
-from collections.abc import Callable, Collection, Iterable, Mapping
+from collections.abc import Callable, Collection, Iterable, Iterator, Mapping
 
 from pgsub_feed import log
 from pgsub_feed.texts import counted
@@ -29,6 +29,9 @@ EQUAL, DIFFERENT = 0, 1
 AGAIN = 1
 # How much of a value is shown.
 SHOWN = 300
+
+# Which tables of a server are compared.
+Choose = Callable[[Source], list[Table]]
 
 
 def shown(field: Field) -> str | None:
@@ -134,6 +137,30 @@ class Compared:
         self.different: list[Table] = []
         self.left: dict[int, str] = {}
 
+    def tries(self, choose: Choose) -> Iterator[Choose]:
+        """How tables are chosen: at first so, and then those that were left."""
+        yield choose
+        for _ in range(AGAIN):
+            if self.left:
+                log.info(f"compared once more: {self.names()}")
+                yield among(list(self.left))
+
+    def leave(self, chosen: Iterable[Table], why: Mapping[int, str]) -> list[Table]:
+        """Notes which of chosen tables can't be compared now. Returns the others."""
+        self.left = {}
+        return self.leave_more(chosen, why)
+
+    def leave_more(self, chosen: Iterable[Table], why: Mapping[int, str]) -> list[Table]:
+        """Notes so beside those that were left before."""
+        tables = list(chosen)
+        self.left.update(
+            {it.oid: f"{it.text()} was {why[it.oid]} meanwhile" for it in tables if it.oid in why}
+        )
+        return [it for it in tables if it.oid not in why]
+
+    def note_different(self, tables: list[Table]) -> None:
+        self.different += tables
+
     def names(self) -> str:
         return names_of(list(self.left.values()))
 
@@ -146,12 +173,7 @@ class Compared:
         return status
 
 
-def left_of(chosen: Iterable[Table], why: Mapping[int, str]) -> dict[int, str]:
-    """Those of chosen tables that can't be compared now, in words."""
-    return {it.oid: f"{it.text()} was {why[it.oid]} meanwhile" for it in chosen if it.oid in why}
-
-
-def among(oids: Collection[int]) -> Callable[[Source], list[Table]]:
+def among(oids: Collection[int]) -> Choose:
     return lambda source: [it for it in source.tables if it.oid in oids]
 
 

@@ -6,7 +6,7 @@ from __future__ import annotations
 import contextlib
 import dataclasses
 import time
-from collections.abc import Callable, Iterator
+from collections.abc import Iterator
 
 from pgsub_feed import log
 from pgsub_feed.texts import counted, lsn_text
@@ -22,7 +22,7 @@ from ..server.session import waits_for
 from ..server.subscription import Subscription
 from ..store.at_rest import check_there, is_followed
 from ..store.checkpoint_at_rest import read_known
-from .comparison import Compared, Verifier, among, left_of, settled, tell_left
+from .comparison import Choose, Compared, Verifier, among, settled, tell_left
 from .meeting_point import Request
 from .repair_rows import Changes, Mender
 from .sides import Copy, Sides
@@ -44,20 +44,19 @@ class StoreComparison:
 
 def compare(
     comparison: StoreComparison,
-    choose: Callable[[Source], list[Table]],
+    choose: Choose,
     found: Compared,
     check: Check,
 ) -> None:
     """Compares, and tells what differs."""
     with met(comparison, choose, check) as (sides, chosen, _, point):
-        found.left = left_of(chosen, sides.source.left)
-        tables = [it for it in chosen if it.oid not in found.left]
+        tables = found.leave(chosen, sides.source.left)
         tell_left(sides)
         verifier = Verifier(comparison.show, sides)
         is_equal = verifier.run(tables)
     text = f"{counted(len(tables), 'table')}, {counted(verifier.rows, 'row')} on the server at {lsn_text(point)}"
     log.info(f"{text}: {'equal' if is_equal else 'the copy differs'}")
-    found.different += verifier.different
+    found.note_different(verifier.different)
 
 
 def repair(comparison: StoreComparison, found: Compared, check: Check) -> list[Table]:
@@ -87,11 +86,10 @@ def repair_once(comparison: StoreComparison, found: Compared, check: Check) -> l
         request,
         point,
     ):
-        left = left_of(chosen, sides.source.left)
-        found.left.update(left)
+        tables = found.leave_more(chosen, sides.source.left)
         with contextlib.closing(Changes(request.changes(), comparison.store)) as changes:
             mender = Mender(sides, changes, bool(Remembered(comparison.store).feed))
-            mender.run([it for it in chosen if it.oid not in left])
+            mender.run(tables)
         if mender.written:
             request.pass_on(list(mender.written))
             log.info(f"repaired at {lsn_text(point)}: {mender.text()}")
@@ -105,7 +103,7 @@ Met = tuple[Sides, list[Table], Request, int]
 @contextlib.contextmanager
 def met(
     comparison: StoreComparison,
-    choose: Callable[[Source], list[Table]],
+    choose: Choose,
     check: Check,
     repairs: bool = False,
 ) -> Iterator[Met]:

@@ -7,9 +7,6 @@ the slot's snapshot doesn't see (the module `follow.hold` says why), are taken b
 images. So nothing is held, neither the stream nor what follows the feed, and nothing is changed but
 for the slot.
 
-Two files are compared at the lower one of their LSNs: the other one is taken back to it by its own
-feed.
-
 A table that was truncated, altered or repaired meanwhile is compared once more, and told where it
 can't be then either. One that the file has set aside differs.
 
@@ -25,131 +22,29 @@ import dataclasses
 import os
 import sqlite3
 import time
-from collections.abc import Callable, Iterator, Sequence
 
-from pgsub_feed import log
-from pgsub_feed.reader.commits import Head
-from pgsub_feed.reader.segments import read_source
 from pgsub_feed.reader.trail import Trail
-from pgsub_feed.tables.file import full_name
 from pgsub_feed.tables.first_rows import is_tables
 from pgsub_feed.tables.position import read_position
-from pgsub_feed.tables.set_aside import cure, store_at
 from pgsub_feed.tables.view import View, check_tables
-from pgsub_feed.texts import counted, lsn_text
+from pgsub_feed.texts import lsn_text
 
-from ..copy.source import Source, chosen
-from ..drift.remembered import Relation, Remembered
-from ..errors import FileError, Passing, Stopped, Unfit
+from ..copy.source import Source
+from ..drift.remembered import Remembered
+from ..errors import FileError, Passing, Stopped
 from ..server.connection import Check
-from ..server.publication_setup import names_of
-from ..server.publications import Column, Table
-from ..server.subscription import Subscription
-from ..store.checkpoint import FOLLOWING, Known
+from ..server.publications import Table
 from ..store.checkpoint_at_rest import read_known
-from .comparison import (
-    AGAIN,
-    DIFFERENT,
-    EQUAL,
-    Compared,
-    Verifier,
-    among,
-    left_of,
-    settled,
-    tell_left,
-)
-from .digests import Plan, Sums, chunks_for
-from .sides import Difference, Sides, differing
+from ..store.checkpoint_lines import FOLLOWING, Known
+from .comparison import Choose, Compared, settled, tell_left
+from .tables_comparison import TablesComparison, compare, source_in, with_rows
+from .tables_sides import Tables
+from .two_files import with_file
 
 # For how long feed and tables may take to have all commits up to the LSN, in seconds.
 PATIENCE = 60.0
 # How often it is looked whether they have, in seconds.
 LOOK = 0.02
-
-
-@dataclasses.dataclass(frozen=True)
-class TablesComparison:
-    """Which tables are compared: those of a file with the server of `subscription`, or with those
-    of another file. `store`: whose publications are meant; `feed`: what the file follows, "" for
-    the folder that it names; `digests`: by the digests that are kept; `chosen`: the tables that are
-    named; `hold`: for how many seconds a slot is waited for; `show`: how many keys that differ are
-    printed."""
-
-    subscription: Subscription
-    path: str
-    other: str = ""
-    store: str = ""
-    feed: str = ""
-    digests: bool = False
-    chosen: Sequence[str] = ()
-    hold: float = 10.0
-    show: int = 20
-
-
-class Tables(Sides):
-    """A server, and a file of tables."""
-
-    def __init__(self, source: Source, view: View) -> None:
-        super().__init__(source, view)
-        self.view = view
-
-    def digested(self, plans: list[Plan]) -> tuple[dict[int, Sums], dict[int, Sums]]:
-        """The sums of both sides of tables with one chunk, by the digests that are kept."""
-        return {it.table.oid: self.sums(it) for it in plans}, self.view.digested(plans)
-
-
-class Files(Tables):
-    """Another file, and this one."""
-
-    names, more, places = (
-        ("other", "copy"),
-        ("more_in_other", "more_in_copy"),
-        ("in the other file", "in the copy"),
-    )
-
-    def __init__(self, other: View, view: View) -> None:
-        self.other, self.view, self.copy = other, view, view
-        # (the sums of all tables are made at once, by one pass over the feed)
-        self.plans: list[Plan] = []
-        self.found: dict[int, Sums] = {}
-
-    def plan(self, table: Table) -> Plan:
-        self.plans.append(
-            Plan(
-                table,
-                chunks_for(max(it.counts.get(table.oid, 0) for it in (self.other, self.view))),
-            )
-        )
-        return self.plans[-1]
-
-    def sums(self, plan: Plan) -> Sums:
-        if not self.found:
-            self.found = self.other.sums(self.plans)
-        return self.found[plan.table.oid]
-
-    def digested(self, plans: list[Plan]) -> tuple[dict[int, Sums], dict[int, Sums]]:
-        return self.other.digested(plans), self.view.digested(plans)
-
-    def differing(self, plan: Plan, chunks: list[int]) -> Iterator[Difference]:
-        return differing(self.other.rows(plan, chunks), self.copy.rows(plan, chunks))
-
-
-class ByDigests(Verifier):
-    """Compares tables by the digests that are kept, and of those that differ the rows."""
-
-    def __init__(self, show: int, sides: Tables) -> None:
-        super().__init__(show, sides)
-        self.both = sides
-
-    def run(self, tables: list[Table]) -> bool:
-        plans = [Plan(it, 1) for it in tables if self.has_columns(it)]
-        theirs, ours = self.both.digested(plans)
-        equal = {oid for oid, sums in theirs.items() if not sums.differing(ours[oid])}
-        rows = sum(it.total() for it in theirs.values())
-        if read := [it.table for it in plans if it.table.oid not in equal]:
-            super().run(read)
-        self.rows, self.different = rows, [it for it in tables if it.oid not in equal]
-        return not self.different
 
 
 def compare_tables(comparison: TablesComparison, check: Check) -> int:
@@ -174,23 +69,12 @@ def store_of(path: str) -> str:
 def with_server(comparison: TablesComparison, check: Check) -> int:
     check_tables(comparison.path)
     found = Compared()
-    status = compare_with_server(
-        comparison, lambda it: it.chosen(list(comparison.chosen)), found, check
-    )
-    for _ in range(AGAIN):
-        if found.left:
-            log.info(f"compared once more: {found.names()}")
-            status = max(
-                status, compare_with_server(comparison, among(list(found.left)), found, check)
-            )
-    return found.ended(status)
+    tries = found.tries(lambda it: it.chosen(list(comparison.chosen)))
+    return found.ended(max(compare_with_server(comparison, it, found, check) for it in tries))
 
 
 def compare_with_server(
-    comparison: TablesComparison,
-    choose: Callable[[Source], list[Table]],
-    found: Compared,
-    check: Check,
+    comparison: TablesComparison, choose: Choose, found: Compared, check: Check
 ) -> int:
     with contextlib.ExitStack() as stack:
         at, folder = read_position(comparison.path)
@@ -208,15 +92,15 @@ def compare_with_server(
             raise Passing(
                 f"{comparison.path} was taken back to {lsn_text(view.at)} meanwhile: nothing was compared"
             )
-        view.trail = trail
+        view.go_back(trail)
         # (of one that is added since then the feed lacks changes up to here, or truncates it)
         followed(comparison, tables)
         tables = with_rows(comparison, view, tables)
-        found.left = left_of(tables, {**trail.unknown(view.at), **source.left})
+        tables = found.leave(tables, {**trail.unknown(view.at), **source.left})
         sides = Tables(source, view)
         tell_left(sides)
-        rest = [it for it in tables if it.oid not in found.left]
-        status = compare(comparison, sides, rest, f"on the server at {lsn_text(point)}", [view])
+        where = f"on the server at {lsn_text(point)}"
+        status = compare(comparison, sides, tables, where, [view])
     return status
 
 
@@ -253,151 +137,3 @@ def wait(path: str, trail: Trail, point: int, check: Check) -> None:
             )
         check()
         time.sleep(LOOK)
-
-
-def with_rows(comparison: TablesComparison, view: View, tables: list[Table]) -> list[Table]:
-    """The tables that a file has; tells which it was made without, and which are set aside."""
-    view.lacks += [view.asides[it.oid] for it in tables if it.oid in view.asides]
-    for aside in view.lacks:
-        log.warning(f"{aside.name()} is set aside in {view.path} {aside.text()}")
-    tables = [it for it in tables if it.oid not in view.asides]
-    left = [it for it in tables if not view.is_chosen(it)]
-    if left and comparison.chosen:
-        raise Unfit(f"{view.path} was made without {names_of([it.text() for it in left])}")
-    if left:
-        log.info(
-            f"{view.path} was made without {counted(len(left), 'table')}: {names_of([it.text() for it in left])}"
-        )
-    return [it for it in tables if it not in left]
-
-
-def compare(
-    comparison: TablesComparison, sides: Tables, tables: list[Table], where: str, views: list[View]
-) -> int:
-    """Compares tables, and tells what differs; the exit status."""
-    verifier = (
-        ByDigests(comparison.show, sides)
-        if comparison.digests
-        else Verifier(comparison.show, sides)
-    )
-    is_equal = verifier.run(tables)
-    for view in views:
-        for relation in view.wrong:
-            log.warning(
-                f"{view.path}: the digest that it keeps of {relation.text()} isn't that of its rows: another program has written there"
-            )
-    is_right = not any(it.wrong for it in views)
-    how = " by the digests that are kept" if comparison.digests else ""
-    text = f"{counted(len(tables), 'table')}, {counted(verifier.rows, 'row')} {where}"
-    log.info(
-        f"{text}: {('equal' if is_right else 'equal rows') + how if is_equal else 'the copy differs'}"
-    )
-    wrong = [relation_name(it) for view in views for it in view.wrong]
-    wrong += [it.text() for it in verifier.different] + [
-        it.name() for view in views for it in view.lacks
-    ]
-    if wrong:
-        log.warning(
-            f"rows come anew by: {cure(comparison.store or store_at(views[-1].folder), sorted(set(wrong)))}"
-        )
-    return DIFFERENT if wrong else EQUAL
-
-
-def relation_name(relation: Relation) -> str:
-    return ".".join(full_name(relation))
-
-
-def with_file(comparison: TablesComparison, check: Check) -> int:
-    paths = (comparison.other, comparison.path)
-    for path in paths:
-        check_tables(path)
-    with contextlib.ExitStack() as stack:
-        other, view = (stack.enter_context(contextlib.closing(View(it, check))) for it in paths)
-        check_same_source(other, view)
-        point = min(other.at, view.at)
-        for it in (other, view):
-            if it.at > point:
-                it.trail = stack.enter_context(contextlib.closing(trail_to(comparison, it, point)))
-        tables = tables_of((other, view))
-        tables = chosen(tables, list(comparison.chosen)) if comparison.chosen else tables
-        both = with_rows(comparison, other, with_rows(comparison, view, tables))
-        found = Compared()
-        found.left = left_of(
-            both,
-            {
-                oid: why
-                for it in (other, view)
-                if it.trail
-                for oid, why in it.trail.unknown(it.at).items()
-            },
-        )
-        rest = [it for it in both if it.oid not in found.left]
-        status = compare(
-            comparison,
-            Files(other, view),
-            rest,
-            f"in {other.path} at {lsn_text(point)}",
-            [other, view],
-        )
-    return found.ended(status)
-
-
-def source_in(view: View, feed: str) -> Head | None:
-    """What a file's rows are of. One that has taken no commit yet doesn't say it, but its feed
-    does."""
-    folder = feed or view.folder
-    return view.source or (read_source(folder) if os.path.isdir(folder) else None)
-
-
-def check_same_source(one: View, two: View) -> None:
-    """Rejects two files that can't be compared by LSNs."""
-    ours, theirs = source_in(one, ""), source_in(two, "")
-    if ours is None or theirs is None:
-        raise Passing(f"{(two if ours else one).path} has followed nothing yet")
-    if (ours.system, ours.database) != (theirs.system, theirs.database):
-        raise Unfit(f"{one.path} has rows of {ours.text()}, and {two.path} of {theirs.text()}")
-
-
-def trail_to(comparison: TablesComparison, view: View, point: int) -> Trail:
-    """The way back of the file that is ahead."""
-    folder = comparison.feed or view.folder
-    if not os.path.isdir(folder):
-        raise Unfit(
-            f"{view.path} is at {lsn_text(view.at)}, and its feed {folder} isn't here to take it back to {lsn_text(point)}: name one by --feed"
-        )
-    trail = Trail(folder, point)
-    if not trail.has(point):
-        trail.close()
-        raise Unfit(f"{folder}: the feed doesn't have the commits up to {lsn_text(view.at)}")
-    return trail
-
-
-def tables_of(views: Sequence[View]) -> list[Table]:
-    """All tables that any of the files has."""
-    found = dict[int, Table]()
-    for view in views:
-        for oid, valued in view.tables.items():
-            relation = valued.relation
-            columns = [
-                Column(it.name, it.type_oid, it.modifier, it.key) for it in relation.shape.columns
-            ]
-            schema = relation.namespace or "pg_catalog"
-            if oid not in found or oid not in view.untold:
-                found.setdefault(
-                    oid,
-                    Table(
-                        oid,
-                        schema,
-                        relation.name,
-                        "r",
-                        relation.shape.identity,
-                        None,
-                        None,
-                        columns,
-                    ),
-                )
-    asides = {oid: it for view in views for oid, it in view.asides.items() if oid not in found}
-    return [
-        *found.values(),
-        *(Table(oid, it.schema, it.table, "r", "", None, None, []) for oid, it in asides.items()),
-    ]

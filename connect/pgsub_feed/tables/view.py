@@ -93,6 +93,15 @@ class View:
                 self.tables[oid] = Valued(name, read_relation(json.loads(definition)))
         self.counts = {oid: self.count(it) for oid, it in self.tables.items()}
 
+    def go_back(self, trail: Trail) -> None:
+        """Has the tables as of the trail's point from here on."""
+        self.trail = trail
+
+    def without_asides(self, tables: list[Table]) -> list[Table]:
+        """The tables without those that are set aside, which the file lacks."""
+        self.lacks += [self.asides[it.oid] for it in tables if it.oid in self.asides]
+        return [it for it in tables if it.oid not in self.asides]
+
     def count(self, table: Valued) -> int:
         return int(self.db.execute(f"SELECT count(*) FROM {identifier(table.name)}").fetchone()[0])
 

@@ -1,0 +1,100 @@
+"""What is compared of tables that follow a feed, and what is told of it."""
+
+from __future__ import annotations
+
+import dataclasses
+import os
+from collections.abc import Sequence
+
+from pgsub_feed import log
+from pgsub_feed.reader.commits import Head
+from pgsub_feed.reader.segments import read_source
+from pgsub_feed.tables.file import full_name
+from pgsub_feed.tables.set_aside import cure, store_at
+from pgsub_feed.tables.view import View
+from pgsub_feed.texts import counted
+
+from ..drift.remembered import Relation
+from ..errors import Unfit
+from ..server.publication_setup import names_of
+from ..server.publications import Table
+from ..server.subscription import Subscription
+from .comparison import DIFFERENT, EQUAL, Verifier
+from .tables_sides import ByDigests, Tables
+
+
+@dataclasses.dataclass(frozen=True)
+class TablesComparison:
+    """Which tables are compared: those of a file with the server of `subscription`, or with those
+    of another file. `store`: whose publications are meant; `feed`: what the file follows, "" for
+    the folder that it names; `digests`: by the digests that are kept; `chosen`: the tables that are
+    named; `hold`: for how many seconds a slot is waited for; `show`: how many keys that differ are
+    printed."""
+
+    subscription: Subscription
+    path: str
+    other: str = ""
+    store: str = ""
+    feed: str = ""
+    digests: bool = False
+    chosen: Sequence[str] = ()
+    hold: float = 10.0
+    show: int = 20
+
+
+def source_in(view: View, feed: str) -> Head | None:
+    """What a file's rows are of. One that has taken no commit yet doesn't say it, but its feed
+    does."""
+    folder = feed or view.folder
+    return view.source or (read_source(folder) if os.path.isdir(folder) else None)
+
+
+def with_rows(comparison: TablesComparison, view: View, tables: list[Table]) -> list[Table]:
+    """The tables that a file has; tells which it was made without, and which are set aside."""
+    tables = view.without_asides(tables)
+    for aside in view.lacks:
+        log.warning(f"{aside.name()} is set aside in {view.path} {aside.text()}")
+    left = [it for it in tables if not view.is_chosen(it)]
+    if left and comparison.chosen:
+        raise Unfit(f"{view.path} was made without {names_of([it.text() for it in left])}")
+    if left:
+        log.info(
+            f"{view.path} was made without {counted(len(left), 'table')}: {names_of([it.text() for it in left])}"
+        )
+    return [it for it in tables if it not in left]
+
+
+def compare(
+    comparison: TablesComparison, sides: Tables, tables: list[Table], where: str, views: list[View]
+) -> int:
+    """Compares tables, and tells what differs; the exit status."""
+    verifier = (
+        ByDigests(comparison.show, sides)
+        if comparison.digests
+        else Verifier(comparison.show, sides)
+    )
+    is_equal = verifier.run(tables)
+    for view in views:
+        for relation in view.wrong:
+            log.warning(
+                f"{view.path}: the digest that it keeps of {relation.text()} isn't that of its rows: another program has written there"
+            )
+    is_right = not any(it.wrong for it in views)
+    how = " by the digests that are kept" if comparison.digests else ""
+    text = f"{counted(len(tables), 'table')}, {counted(verifier.rows, 'row')} {where}"
+    log.info(
+        f"{text}: {('equal' if is_right else 'equal rows') + how if is_equal else 'the copy differs'}"
+    )
+    wrong = [relation_name(it) for view in views for it in view.wrong]
+    wrong += [it.text() for it in verifier.different] + [
+        it.name() for view in views for it in view.lacks
+    ]
+    if wrong:
+        log.warning(
+            f"rows come anew by: {cure(comparison.store or store_at(views[-1].folder), sorted(set(wrong)))}"
+        )
+    return DIFFERENT if wrong else EQUAL
+
+
+def relation_name(relation: Relation) -> str:
+    return ".".join(full_name(relation))
