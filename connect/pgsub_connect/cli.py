@@ -50,7 +50,7 @@ from .server.followed_publications import require_published
 from .server.subscription import Subscription
 from .status.files import Reporter
 from .status.progress import Progress
-from .store import checkpoint as known_of
+from .store import checkpoint_lines as known_of
 from .store.checkpoint import Checkpoint
 from .store.checkpoint_at_rest import read_known
 from .store.export import export_store

@@ -15,9 +15,9 @@ from pgsub_connect.commands.words import KINDS
 from pgsub_connect.errors import FileError, Passing, Stopped, Unfit
 from pgsub_connect.store import checkpoint as known_of
 from pgsub_connect.store.at_rest import locked_checkpoint
-from pgsub_connect.store.checkpoint import MISSING, SIZE, Checkpoint, Counted, Known, check_gap
+from pgsub_connect.store.checkpoint import MISSING, Checkpoint, check_gap
 from pgsub_connect.store.checkpoint_at_rest import locked, read_known
-from pgsub_connect.store.checkpoint_lines import line_of
+from pgsub_connect.store.checkpoint_lines import COPYING, FOLLOWING, SIZE, Counted, Known, line_of
 
 from .fake_server import Quiet
 
@@ -85,9 +85,7 @@ class File(FileCase):
     def test_what_is_written_is_read(self) -> None:
         before = os.umask(0o022)
         self.addCleanup(os.umask, before)
-        fields = Known(
-            known_of.FOLLOWING, "77", "sh\u00f6p", "pgsub", 2, 3, 4, 5, {"values": "0/7"}, "0/8"
-        )
+        fields = Known(FOLLOWING, "77", "sh\u00f6p", "pgsub", 2, 3, 4, 5, {"values": "0/7"}, "0/8")
         checkpoint = self.open()
         checkpoint.write(True, **dataclasses.asdict(fields))
         self.assertEqual(checkpoint.read(), fields)
@@ -170,7 +168,7 @@ class File(FileCase):
             checkpoint = self.open_again()
             checkpoint.put(
                 True,
-                Known(known_of.FOLLOWING, str(most), database, "s" * 63, (1 << 32) - 1, most),
+                Known(FOLLOWING, str(most), database, "s" * 63, (1 << 32) - 1, most),
                 None,
             )
             for kind in known_of.KINDS:
@@ -354,7 +352,7 @@ class Counts(FileCase):
             Counted(1, 2),
             Counted(most, most, most, most, (1 << 32) - 1, (most, most)),
         ):
-            checkpoint.put(True, Known(known_of.FOLLOWING), counted)
+            checkpoint.put(True, Known(FOLLOWING), counted)
             self.assertEqual(self.reopened(), counted)
 
     def test_an_older_file_counts_none(self) -> None:
@@ -450,12 +448,12 @@ class Counts(FileCase):
     def test_forgotten_with_the_copy_alone(self) -> None:
         checkpoint = self.open()
         counted = Counted(100, 120, 3, 110, 7)
-        checkpoint.put(True, Known(known_of.FOLLOWING), counted)
+        checkpoint.put(True, Known(FOLLOWING), counted)
         checkpoint.forget_server()
         checkpoint.write(True)
         self.assertEqual(self.reopened(), counted)
         checkpoint.begin_anew()
-        checkpoint.write(True, phase=known_of.COPYING)
+        checkpoint.write(True, phase=COPYING)
         self.assertIsNone(self.reopened())
         self.assertEqual(checkpoint.findings(), {})
 

@@ -10,9 +10,9 @@ from unittest import mock
 from pgsub_connect.errors import FileError
 from pgsub_connect.store import checkpoint as known_of
 from pgsub_connect.store.at_rest import locked_checkpoint
-from pgsub_connect.store.checkpoint import SIZE, Checkpoint, Counted, Known
+from pgsub_connect.store.checkpoint import Checkpoint
 from pgsub_connect.store.checkpoint_at_rest import read_known
-from pgsub_connect.store.checkpoint_lines import line_of
+from pgsub_connect.store.checkpoint_lines import SIZE, Counted, Known, line_of
 
 from .test_checkpoint import FileCase
 

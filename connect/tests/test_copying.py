@@ -32,7 +32,7 @@ from pgsub_connect.server.publication_setup import Wanted
 from pgsub_connect.server.publications import Column, Table
 from pgsub_connect.server.subscription import Subscription
 from pgsub_connect.status.progress import Progress
-from pgsub_connect.store import checkpoint as known_of
+from pgsub_connect.store import checkpoint_lines as known_of
 from pgsub_connect.store.checkpoint import Checkpoint
 from pgsub_connect.store.snapshot import part_of
 from tests.fake_server import FakeServer, Quiet, Row

@@ -18,7 +18,7 @@ from pgsub_connect.follow.hold import write_request
 from pgsub_connect.server.connection import Check, never
 from pgsub_connect.server.publications import Table
 from pgsub_connect.server.subscription import Subscription
-from pgsub_connect.store.checkpoint import FOLLOWING, Known
+from pgsub_connect.store.checkpoint_lines import FOLLOWING, Known
 from pgsub_connect.store.snapshot import Snapshots, position_in
 from pgsub_connect.verify import meeting_point
 from pgsub_connect.verify.meeting_point import Request

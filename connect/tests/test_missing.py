@@ -23,7 +23,8 @@ from pgsub_connect.follow.filter import FilterEnded, Missing, flushed
 from pgsub_connect.follow.follower import Follower
 from pgsub_connect.server.connection import Connection
 from pgsub_connect.status.progress import Progress
-from pgsub_connect.store.checkpoint import Checkpoint, Counted, Known
+from pgsub_connect.store.checkpoint import Checkpoint
+from pgsub_connect.store.checkpoint_lines import Counted, Known
 
 from .test_following import FAKE, Case
 from .vectors import a_catalog, a_table, begin, commit, delete, insert, keepalive

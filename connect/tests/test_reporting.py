@@ -17,7 +17,7 @@ from pgsub_connect.status import files
 from pgsub_connect.status.files import Replaced, Reporter, ReportSettings, program_version
 from pgsub_connect.status.metrics import metrics_text
 from pgsub_connect.status.progress import STATES, Progress
-from pgsub_connect.store.checkpoint import Counted
+from pgsub_connect.store.checkpoint_lines import Counted
 
 from .fake_server import FakeServer, Quiet
 

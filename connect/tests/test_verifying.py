@@ -15,13 +15,13 @@ from pgsub_connect import cli
 from pgsub_connect.commands import add as add_module
 from pgsub_connect.commands import verify
 from pgsub_connect.commands.options import Options
+from pgsub_connect.copy.source import Source
 from pgsub_connect.errors import FileError, NoSlot, Passing, Stopped, Unfit, Unrepaired
 from pgsub_connect.server.connection import never
 from pgsub_connect.server.publications import Column, Table
-from pgsub_connect.store.checkpoint import FOLLOWING, Known
+from pgsub_connect.store.checkpoint_lines import FOLLOWING, Known
 from pgsub_connect.verify.comparison import Compared, Verifier, settled
 from pgsub_connect.verify.digests import NotText, Plan, Summing, fields_of, text_of
-from pgsub_connect.copy.source import Source
 from pgsub_connect.verify.sides import Copy, Sides
 from pgsub_feed.tables.values import Malformed
 

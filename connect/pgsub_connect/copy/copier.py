@@ -44,9 +44,10 @@ from ..store.checkpoint import Checkpoint
 from ..store.checkpoint_lines import COPIED, COPYING, SLOT
 from .copy_slot import CopySlot, is_left_open
 from .files import CopyFiles
+from .items import Items
 from .sender import Sender
 from .slots import drop_slot, maker_of, set_failover
-from .table_reader import LOCK_TIMEOUT, Left, Part, Readers
+from .table_reader import LOCK_TIMEOUT, Item, Left, Part, Readers
 from .tables import CopiedTables
 from .tries import CHANGED, Tries
 
@@ -286,17 +287,17 @@ class Copier:
         self.files.set_mode()
         self.sender.begin()
         readers.begin()
-        while item := self.next_item(readers):
+        while item := self.next_item(readers.items):
             if isinstance(item, Left):
                 self.tables.leave(item.table.oid, item.why)
             else:
                 self.send_part(item)
 
-    def next_item(self, readers: Readers) -> Part | Left | None:
+    def next_item(self, items: Items[Item]) -> Item | None:
         """What the connections have read next, None after the last."""
-        self.sender.wait_for(readers.has_news, readers.reads)
-        while not (item := readers.take()) and readers.working:
-            self.sender.wait_for(readers.has_news, readers.reads)
+        self.sender.wait_for(items.has_news, items.reads)
+        while not (item := items.take()) and items.writers:
+            self.sender.wait_for(items.has_news, items.reads)
         return item
 
     def send_part(self, part: Part) -> None:

@@ -15,7 +15,6 @@ from __future__ import annotations
 import collections
 import contextlib
 import dataclasses
-import os
 import threading
 import time
 from collections.abc import Iterator
@@ -28,6 +27,7 @@ from ..server.connection import Connection
 from ..server.publications import Table, are_so_named, stored_in
 from ..server.session import settle
 from ..server.subscription import Subscription
+from .items import Items
 from .messages import InsertHeads, frame, inserts, relation
 
 # How many bytes a part has about, how many are encoded at a time, and how many parts of a
@@ -73,10 +73,6 @@ class Left:
 Item = Part | Left
 
 
-class Ended(Exception):
-    """Nobody wants the rows any more."""
-
-
 class Readers:
     """The connections, from `begin` to `close`. `stored`: the files of all tables before the
     snapshot; `looker`: sees what is there now."""
@@ -90,103 +86,48 @@ class Readers:
         stored: dict[int, str | None],
         looker: Connection,
     ) -> None:
-        self.subscription, self.snapshot, self.stored, self.looker = (
-            subscription,
-            snapshot,
-            stored,
-            looker,
-        )
-        self.lock, self.looking = threading.Condition(), threading.Lock()
+        self.subscription, self.snapshot = subscription, snapshot
+        self.stored, self.looker, self.looking = stored, looker, threading.Lock()
         self.left = collections.deque(tables)
         # by the OID of a table: when it was tried last, and since when it is known to be locked by
         # somebody else
         self.tried: dict[int, float] = {}
         self.locked: dict[int, float] = {}
-        self.items: collections.deque[Item] = collections.deque()
-        self.failure: BaseException | None = None
-        self.ended, self.working = False, 0
-        self.reads, self.wakes = os.pipe()
-        os.set_blocking(self.reads, False)
         self.threads = [
             threading.Thread(target=self.work, daemon=True)
             for _ in range(max(1, min(jobs, len(tables))))
         ]
+        self.items = Items[Item](AHEAD * len(self.threads))
 
     def begin(self) -> None:
-        self.working = len(self.threads)
+        self.items.begin(len(self.threads))
         for it in self.threads:
             it.start()
 
     def close(self) -> None:
-        with self.lock:
-            self.ended = True
-            self.lock.notify_all()
+        self.items.end()
         for it in self.threads:
             if it.ident is not None:
                 it.join()
-        for end in (self.reads, self.wakes):
-            os.close(end)
+        self.items.close()
 
-    # the main thread
-
-    def has_news(self) -> bool:
-        """Whether something can be taken, or all is over."""
-        with contextlib.suppress(BlockingIOError):
-            os.read(self.reads, 1 << 12)
-        return bool(self.items or self.failure or not self.working)
-
-    def take(self) -> Item | None:
-        """What came next, None after the last. Raises what a connection ended with."""
-        with self.lock:
-            if self.failure:
-                raise self.failure
-            if not self.items:
-                return None
-            item = self.items.popleft()
-            self.lock.notify_all()
-            return item
-
-    # the others
+    # what each thread does
 
     def work(self) -> None:
         """One connection: one table after the other."""
-        try:
-            connection = Connection(
-                self.subscription.dsn, name=f"{self.subscription.slot} copy", check=self.check
-            )
-            with contextlib.closing(connection):
-                settle(connection)
-                connection.run("SET row_security = off")
-                while table := self.next_table():
-                    for item in self.read(connection, table):
-                        self.put(item)
-        except Ended:
-            pass
-        except BaseException as error:
-            self.failure = self.failure or error
-        finally:
-            with self.lock:
-                self.working -= 1
-            self.wake()
-
-    def check(self) -> None:
-        if self.ended:
-            raise Ended
+        name = f"{self.subscription.slot} copy"
+        with self.items.writer(), contextlib.closing(
+            Connection(self.subscription.dsn, name=name, check=self.items.check)
+        ) as connection:
+            settle(connection)
+            connection.run("SET row_security = off")
+            while table := self.next_table():
+                for item in self.read(connection, table):
+                    self.items.put(item)
 
     def next_table(self) -> Table | None:
-        with self.lock:
-            return self.left.popleft() if self.left and not self.ended else None
-
-    def put(self, item: Item) -> None:
-        with self.lock:
-            while len(self.items) >= AHEAD * len(self.threads) and not self.ended:
-                self.lock.wait()
-            self.check()
-            self.items.append(item)
-        self.wake()
-
-    def wake(self) -> None:
-        os.write(self.wakes, b"x")
+        with self.items.lock:
+            return self.left.popleft() if self.left and not self.items.has_ended else None
 
     def read(self, connection: Connection, table: Table) -> Iterator[Item]:
         """The parts of a table; nothing where it is locked by somebody else, and comes later."""
@@ -203,12 +144,12 @@ class Readers:
         if why:
             yield Left(table, why)
             return
-        with self.lock:
+        with self.items.lock:
             self.left.append(table)
 
     def rest(self, until: float) -> None:
         while (left := until - time.monotonic()) > 0:
-            self.check()
+            self.items.check()
             time.sleep(min(left, LOOK))
 
     def lock_table(self, connection: Connection, table: Table) -> str | None:

@@ -20,7 +20,8 @@ from pgsub_feed import log
 from pgsub_feed.texts import counted, lsn_text
 
 from ..status.progress import Progress
-from ..store.checkpoint import MISSING, Checkpoint, Counted
+from ..store.checkpoint import MISSING, Checkpoint
+from ..store.checkpoint_lines import Counted
 from .remembered import Remembered
 from .tolerance import Tolerance
 

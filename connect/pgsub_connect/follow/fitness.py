@@ -18,7 +18,7 @@ from ..server import transport
 from ..server.connection import Check, Connection
 from ..server.session import Server, is_same_database, left_at, settle, slot_position
 from ..server.subscription import Subscription
-from ..store import checkpoint as known_of
+from ..store import checkpoint_lines as known_of
 from ..store.checkpoint import Checkpoint, check_gap
 
 

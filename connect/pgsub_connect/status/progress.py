@@ -10,7 +10,7 @@ from pgsub_feed.texts import lsn_text
 from .. import VERSION
 from ..server import transport
 from ..server.session import waits_for
-from ..store.checkpoint import Counted
+from ..store.checkpoint_lines import Counted
 from .lag import Lag
 
 # What a follower may be at.

@@ -49,16 +49,7 @@ from pgsub_feed.texts import lsn_text
 
 from ..errors import FileError, Passing, Unfit
 from ..server.connection import Check, never
-from .checkpoint_lines import COPIED as COPIED
-from .checkpoint_lines import COPYING as COPYING
-from .checkpoint_lines import FOLLOWING as FOLLOWING
-from .checkpoint_lines import NEW as NEW
-from .checkpoint_lines import SIZE as SIZE
-from .checkpoint_lines import SLOT as SLOT
-from .checkpoint_lines import TEXT
-from .checkpoint_lines import Counted as Counted
-from .checkpoint_lines import Known as Known
-from .checkpoint_lines import line_of, padded, read_file
+from .checkpoint_lines import NEW, SIZE, TEXT, Counted, Known, line_of, padded, read_file
 
 MODE = 0o600
 PATIENCE = 60

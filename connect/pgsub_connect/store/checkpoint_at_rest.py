@@ -10,8 +10,8 @@ from collections.abc import Iterator
 from pgsub_feed.json_texts import Unreadable, open_plain
 
 from ..errors import FileError, Passing
-from .checkpoint import Known, has_name
-from .checkpoint_lines import read_file
+from .checkpoint import has_name
+from .checkpoint_lines import Known, read_file
 
 
 def read_known(path: str) -> Known:

@@ -20,7 +20,7 @@ from ..copy.source import Source
 from ..errors import Passing
 from ..server.publication_setup import names_of
 from ..server.publications import Table
-from ..store.checkpoint import Known
+from ..store.checkpoint_lines import Known
 from .digests import Field, Fields, Plan, Sums, fields_in
 from .sides import Group, Sides
 
