@@ -14,7 +14,7 @@ from pathlib import Path
 from typing import Any
 from unittest import mock
 
-from pgsub_connect.add import adder, requests, retries
+from pgsub_connect.add import retries, sources
 from pgsub_connect.drift import watch
 from pgsub_connect.drift.remembered import Remembered
 from pgsub_connect.follow import follower, statuses
@@ -179,8 +179,7 @@ class Case(Quiet):
             (statuses, "QUIET", 0.05),
             (follower, "FIRST_DELAY", 0.01),
             (retries, "FIRST_DELAY", 0.02),
-            (adder, "Source", WorldSource),
-            (requests, "Source", WorldSource),
+            (sources, "Source", WorldSource),
             (watch.Watch, "compare", lambda *_: True),
             (watch.Watch, "look_again", lambda *_: True),
         ):

@@ -26,7 +26,6 @@ from typing import Any
 from pgsub_feed import log
 from pgsub_feed.texts import counted, lsn_text
 
-from ..copy.source import Source
 from ..drift.differences import PUBLICATION
 from ..drift.findings import About
 from ..drift.remembered import Remembered
@@ -43,6 +42,7 @@ from .left_out import LeftOut
 from .requests import Requests
 from .retries import Retries
 from .rows_sender import RowsSender
+from .sources import Sources
 from .turn import SLOT, Turn
 
 IDLE, HELD, MAKING, GOING, SENT = "idle", "held", "making", "going", "sent"
@@ -65,14 +65,12 @@ class Adder:
         hold: Hold,
         stream: Stream,
     ) -> None:
-        self.subscription, self.store, self.stream = subscription, store, stream
+        self.sources, self.stream = Sources(subscription, store, checkpoint), stream
         self.checkpoint, self.progress, self.remembered = checkpoint, progress, remembered
         self.watch, self.confirming, self.hold = watch, confirming, hold
         self.left_out = LeftOut(checkpoint, remembered)
         self.leaving = self.left_out.leaving
-        self.requests = Requests(
-            subscription, store, limits, checkpoint, progress, remembered, stream
-        )
+        self.requests = Requests(self.sources, limits, progress, remembered, stream)
         self.sender = RowsSender(limits, progress, noting, stream, self.show)
         self.phase, self.turn, self.retries = IDLE, Turn(), Retries()
         # whether the session ends once the rows of a table are stored
@@ -155,10 +153,8 @@ class Adder:
             return
         self.turn = turn = Turn(oid)
         try:
-            source = Source(
-                self.subscription, self.store, self.checkpoint.known, self.stream.attend, "add"
-            )
-            turn.read(self.progress.note_standbys(turn.open(source)))
+            standbys = turn.open(self.sources.open(self.stream.attend))
+            turn.read(self.progress.note_standbys(standbys))
         except (ServerError, Passing, Unfit) as error:
             self.fail(error)
             return

@@ -10,10 +10,9 @@ from ..drift.remembered import Remembered
 from ..errors import Passing, ServerError, Stopped, Unfit
 from ..follow.memory_limit import BufferLimits
 from ..server.publications import sizes_of
-from ..server.subscription import Subscription
 from ..status.progress import Progress
-from ..store.checkpoint import Checkpoint
 from .addable import Stream, too_large, too_long
+from .sources import Sources
 
 # A table whose files are so many times what may be buffered is refused before anything is done.
 FAR = 2
@@ -24,17 +23,14 @@ class Requests:
 
     def __init__(
         self,
-        subscription: Subscription,
-        store: str,
+        sources: Sources,
         limits: BufferLimits,
-        checkpoint: Checkpoint,
         progress: Progress,
         remembered: Remembered,
         stream: Stream,
     ) -> None:
-        self.subscription, self.store, self.limits = subscription, store, limits
-        self.checkpoint, self.progress, self.remembered = checkpoint, progress, remembered
-        self.stream = stream
+        self.sources, self.limits = sources, limits
+        self.progress, self.remembered, self.stream = progress, remembered, stream
 
     def take(self, asked: dict[str, Any]) -> str | None:
         """Takes a request for tables, by their OIDs. Returns why it is rejected."""
@@ -52,11 +48,8 @@ class Requests:
     def rejections(self, adds: list[int], removes: list[int]) -> list[str]:
         """Why tables can't be added, or their rows removed. Where the server can't be asked just
         now, that shows later."""
-        known, check = self.checkpoint.known, self.stream.serve_server
         try:
-            with contextlib.closing(
-                Source(self.subscription, self.store, known, check, "add")
-            ) as source:
+            with contextlib.closing(self.sources.open(self.stream.serve_server)) as source:
                 errors = [text for oid in adds if (text := self.rejection(source, oid))]
                 published = {it.oid for it in source.tables}
         except ServerError as error:
@@ -76,7 +69,7 @@ class Requests:
         table = next((it for it in source.tables if it.oid == oid), None)
         if table is None:
             return f"table {oid} isn't published"
-        if not self.checkpoint.has_room_for(oid):
+        if not self.sources.checkpoint.has_room_for(oid):
             return f"{table.text()}: the checkpoint has no room for it"
         size = sizes_of(source.plain, [table]).get(oid, 0)
         most = self.limits.max_buffered

@@ -15,17 +15,15 @@ from ..status.progress import Progress
 from .addable import Stream, TooLarge, too_large
 from .replacement import Rows, payload_of
 
+# What is told how far it is.
+Tell = Callable[[str], None]
+
 
 class RowsSender:
-    """`tell` is told how far it is."""
+    """Gives them to the stream, as one transaction."""
 
     def __init__(
-        self,
-        limits: BufferLimits,
-        progress: Progress,
-        noting: Noting,
-        stream: Stream,
-        tell: Callable[[str], None],
+        self, limits: BufferLimits, progress: Progress, noting: Noting, stream: Stream, tell: Tell
     ) -> None:
         self.limits, self.progress, self.noting = limits, progress, noting
         self.stream, self.tell = stream, tell

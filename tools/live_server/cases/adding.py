@@ -154,7 +154,7 @@ def killed_at(place: Place, where: str, name: str, after: bool, times: int = 0) 
 # What is cut: a call of those that add tables, whether before or after it was made, and how often it is made before.
 CUTS = (
     ("left_out.LeftOut", "fill", False, 0), ("left_out.LeftOut", "fill", True, 0), ("adder.Adder", "prepare", True, 0), ("adder.Adder", "meet", False, 0),
-    ("adder.Source", "make_slot", True, 0), ("adder.Source", "see", True, 0), ("adder.Adder", "meet", True, 0), ("adder.Adder", "send", False, 0),
+    ("turn.Source", "make_slot", True, 0), ("turn.Source", "see", True, 0), ("adder.Adder", "meet", True, 0), ("adder.Adder", "send", False, 0),
     ("rows_sender.RowsSender", "push", True, 3), ("rows_sender.RowsSender", "push", True, 5), ("turn.Rows", "closing", True, 0), ("adder.Adder", "send", True, 0),
     ("adder.Adder", "finish", False, 0), ("adder.Remembered", "added", True, 0), ("adder.Adder", "forget", True, 0),
 )
