@@ -14,7 +14,7 @@ from pathlib import Path
 from typing import Any
 from unittest import mock
 
-from pgsub_connect.add import retries, sources
+from pgsub_connect.add import adder, requests
 from pgsub_connect.drift import watch
 from pgsub_connect.drift.remembered import Remembered
 from pgsub_connect.follow import follower, statuses
@@ -178,8 +178,8 @@ class Case(Quiet):
             (follower, "ASK", 0.02),
             (statuses, "QUIET", 0.05),
             (follower, "FIRST_DELAY", 0.01),
-            (retries, "FIRST_DELAY", 0.02),
-            (sources, "Source", WorldSource),
+            (adder, "FIRST_DELAY", 0.02),
+            (requests, "Source", WorldSource),
             (watch.Watch, "compare", lambda *_: True),
             (watch.Watch, "look_again", lambda *_: True),
         ):

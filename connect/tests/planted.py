@@ -349,7 +349,7 @@ BUGS = (
     ),
     Bug(
         "a table above what may be buffered is passed on",
-        "pgsub_connect/add/rows_sender.py",
+        "pgsub_connect/add/turn.py",
         "if rows.cost > self.limits.max_buffered:",
         "if rows.cost < 0:",
         ("test_refusing",),

@@ -11,7 +11,7 @@ from unittest import mock
 from pgsub_connect.add.adder import Adder
 from pgsub_connect.add.left_out import LeftOut
 from pgsub_connect.add.replacement import Leaving
-from pgsub_connect.add.rows_sender import RowsSender
+from pgsub_connect.add.turn import RowsSender
 from pgsub_connect.drift.remembered import Remembered
 from pgsub_connect.follow.follower import Follower
 from pgsub_connect.store.checkpoint import Checkpoint

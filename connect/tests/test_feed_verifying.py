@@ -19,12 +19,12 @@ from feed_text import Column as TextColumn
 from pgsub_connect.commands import tables
 from pgsub_connect.commands.options import Options
 from pgsub_connect.commands.words import arguments
+from pgsub_connect.copy.source import chosen
 from pgsub_connect.errors import FileError, Passing, Stopped, Unfit
 from pgsub_connect.server.connection import never
 from pgsub_connect.server.publications import Column, Table
 from pgsub_connect.server.subscription import Subscription
 from pgsub_connect.verify import tables_file
-from pgsub_connect.copy.source import chosen
 from pgsub_connect.verify.tables_comparison import TablesComparison
 from pgsub_feed.reader.trail import Gone, Trail
 

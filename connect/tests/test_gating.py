@@ -11,7 +11,7 @@ import unittest
 from collections.abc import Iterator
 from unittest import mock
 
-from pgsub_connect.add import addable, rows_sender
+from pgsub_connect.add import addable, turn
 from pgsub_connect.errors import Delayed, Passing, ServerError, Stopped, Unrepaired
 from pgsub_connect.follow import follower, gate
 from pgsub_connect.follow.filter import flushed
@@ -351,7 +351,7 @@ class Synchronous(AddingCase):
 
     def test_rows_that_take_too_long(self) -> None:
         """The table is refused, and another session begins at once."""
-        self.patch(rows_sender, "LONGEST_WAIT", 0.0)
+        self.patch(turn, "LONGEST_WAIT", 0.0)
         self.patch(follower, "FIRST_DELAY", 60.0)
         self.want(T)
 

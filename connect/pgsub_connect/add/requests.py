@@ -9,13 +9,26 @@ from ..copy.source import Source
 from ..drift.remembered import Remembered
 from ..errors import Passing, ServerError, Stopped, Unfit
 from ..follow.memory_limit import BufferLimits
+from ..server.connection import Check
 from ..server.publications import sizes_of
+from ..server.subscription import Subscription
 from ..status.progress import Progress
+from ..store.checkpoint import Checkpoint
 from .addable import Stream, too_large, too_long
-from .sources import Sources
 
 # A table whose files are so many times what may be buffered is refused before anything is done.
 FAR = 2
+
+
+class Sources:
+    """Connects to the server of a store."""
+
+    def __init__(self, subscription: Subscription, store: str, checkpoint: Checkpoint) -> None:
+        self.subscription, self.store, self.checkpoint = subscription, store, checkpoint
+
+    def open(self, check: Check) -> Source:
+        """`check` is called as long as the server is waited for."""
+        return Source(self.subscription, self.store, self.checkpoint.known, check, "add")
 
 
 class Requests:

@@ -1,23 +1,32 @@
-"""The table whose turn it is to be added: its definition, and its rows at the LSN of a slot."""
+"""The table whose turn it is to be added: its definition, its rows at the LSN of a slot, and what
+passes these on within the stream."""
 
 from __future__ import annotations
 
 import time
-from collections.abc import Iterable
+from collections.abc import Callable, Iterable
+
+from pgsub_feed.texts import counted
 
 from ..copy.source import Source
 from ..copy.table_reader import BLOCK
 from ..drift.remembered import Relation
 from ..errors import Passing
-from ..follow.gate import Making
+from ..follow.gate import MOST as LONGEST_WAIT
+from ..follow.gate import WAITED, Making
+from ..follow.memory_limit import BufferLimits
+from ..follow.stream_log import Noting
 from ..server.publications import Table, sizes_of
-from .addable import relation_of, table_of, too_long
-from .replacement import Rows
+from ..status.progress import Progress
+from .addable import Stream, TooLarge, relation_of, table_of, too_large, too_long
+from .replacement import Rows, payload_of
 
 # How long the stream is held at most until the slot is made, and for a lock of somebody else on the
 # table, in seconds; and the latter where commits wait.
 SLOT, LOCK, SHORT_LOCK = 10.0, 5.0, 0.5
 EPOCH = 946684800
+# What is told how far it is.
+Tell = Callable[[str], None]
 
 
 class Turn:
@@ -108,3 +117,44 @@ class Turn:
         if self.source:
             self.source.close()
         self.source = None
+
+
+class RowsSender:
+    """Gives them to the stream, as one transaction."""
+
+    def __init__(
+        self, limits: BufferLimits, progress: Progress, noting: Noting, stream: Stream, tell: Tell
+    ) -> None:
+        self.limits, self.progress, self.noting = limits, progress, noting
+        self.stream, self.tell = stream, tell
+
+    def send(self, rows: Rows, blocks: Iterable[list[bytes]]) -> None:
+        """Passes on the whole transaction."""
+        began = time.monotonic()
+        for it in rows.opening():
+            self.push(it, [payload_of(it)])
+        for lines in blocks:
+            block = rows.rows(lines)
+            self.check(rows, began)
+            self.push(block, [])
+            self.noting.note_rows(rows.table.oid, len(lines), len(block))
+            self.tell(f"{counted(rows.count, 'row')} so far")
+        self.push(last := rows.closing(), [payload_of(last)])
+
+    def check(self, rows: Rows, began: float) -> None:
+        """Raises where nothing more of the rows may be passed on."""
+        if rows.cost > self.limits.max_buffered:
+            raise TooLarge(too_large(rows.table, rows.cost, self.limits.max_buffered))
+        if rows.longest > self.limits.max_frame:
+            raise TooLarge(
+                f"{rows.table.text()} has a row of {rows.longest} bytes: give the follower a --max-frame above that"
+            )
+        if self.progress.is_waited_for and time.monotonic() - began > LONGEST_WAIT:
+            raise TooLarge(WAITED)
+
+    def push(self, frames: bytes, payloads: list[bytes]) -> None:
+        """Passes frames on; `payloads`: those that are noted one by one."""
+        if payloads:
+            self.noting.note_all(payloads)
+        self.stream.push(frames)
+        self.noting.show()

@@ -44,10 +44,9 @@ from ..store.checkpoint import Checkpoint
 from ..store.checkpoint_lines import COPIED, COPYING, SLOT
 from .copy_slot import CopySlot, is_left_open
 from .files import CopyFiles
-from .items import Items
 from .sender import Sender
 from .slots import drop_slot, maker_of, set_failover
-from .table_reader import LOCK_TIMEOUT, Item, Left, Part, Readers
+from .table_reader import LOCK_TIMEOUT, Item, Items, Left, Part, Readers
 from .tables import CopiedTables
 from .tries import CHANGED, Tries
 
@@ -293,7 +292,7 @@ class Copier:
             else:
                 self.send_part(item)
 
-    def next_item(self, items: Items[Item]) -> Item | None:
+    def next_item(self, items: Items) -> Item | None:
         """What the connections have read next, None after the last."""
         self.sender.wait_for(items.has_news, items.reads)
         while not (item := items.take()) and items.writers:

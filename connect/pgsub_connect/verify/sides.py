@@ -77,8 +77,6 @@ class Copy:
         )
 
     def columns(self, table: Table) -> list[str]:
-        """The names of a table's columns here; those of the server where nothing of it ever
-        came."""
         relation = self.relations.get(table.oid)
         return (
             [it.name for it in relation.shape.columns]
@@ -90,7 +88,6 @@ class Copy:
         return self.relations.get(oid)
 
     def left(self, tables: Iterable[Table]) -> list[Relation]:
-        """The tables that have rows here and aren't among these."""
         known = {it.oid for it in tables}
         return [it for oid, it in self.relations.items() if oid not in known and oid in self.counts]
 
@@ -106,7 +103,6 @@ class Copy:
         return {oid: it.sums for oid, it in found.items()}
 
     def rows(self, plan: Plan, chunks: list[int]) -> Iterator[Row]:
-        """The rows of some chunks, in the order of their keys."""
         wanted, width = set(chunks), plan.width
 
         def text(body: bytes) -> bytes:

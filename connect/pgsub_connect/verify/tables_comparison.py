@@ -1,10 +1,10 @@
-"""What is compared of tables that follow a feed, and what is told of it."""
+"""What is compared of tables that follow a feed: the sides, and what is told of them."""
 
 from __future__ import annotations
 
 import dataclasses
 import os
-from collections.abc import Sequence
+from collections.abc import Iterator, Sequence
 
 from pgsub_feed import log
 from pgsub_feed.reader.commits import Head
@@ -14,13 +14,15 @@ from pgsub_feed.tables.set_aside import cure, store_at
 from pgsub_feed.tables.view import View
 from pgsub_feed.texts import counted
 
+from ..copy.source import Source
 from ..drift.remembered import Relation
 from ..errors import Unfit
 from ..server.publication_setup import names_of
-from ..server.publications import Table
+from ..server.publications import Column, Table
 from ..server.subscription import Subscription
 from .comparison import DIFFERENT, EQUAL, Verifier
-from .tables_sides import ByDigests, Tables
+from .digests import Plan, Sums, chunks_for
+from .sides import Difference, Sides, differing
 
 
 @dataclasses.dataclass(frozen=True)
@@ -40,6 +42,93 @@ class TablesComparison:
     chosen: Sequence[str] = ()
     hold: float = 10.0
     show: int = 20
+
+
+class Tables(Sides):
+    """A server, and a file of tables."""
+
+    def __init__(self, source: Source, view: View) -> None:
+        super().__init__(source, view)
+        self.view = view
+
+    def digested(self, plans: list[Plan]) -> tuple[dict[int, Sums], dict[int, Sums]]:
+        """The sums of both sides of tables with one chunk, by the digests that are kept."""
+        return {it.table.oid: self.sums(it) for it in plans}, self.view.digested(plans)
+
+
+class Files(Tables):
+    """Another file, and this one."""
+
+    names, more, places = (
+        ("other", "copy"),
+        ("more_in_other", "more_in_copy"),
+        ("in the other file", "in the copy"),
+    )
+
+    def __init__(self, other: View, view: View) -> None:
+        self.other, self.view, self.copy = other, view, view
+        # (the sums of all tables are made at once, by one pass over the feed)
+        self.plans: list[Plan] = []
+        self.found: dict[int, Sums] = {}
+
+    def plan(self, table: Table) -> Plan:
+        self.plans.append(
+            Plan(
+                table,
+                chunks_for(max(it.counts.get(table.oid, 0) for it in (self.other, self.view))),
+            )
+        )
+        return self.plans[-1]
+
+    def sums(self, plan: Plan) -> Sums:
+        if not self.found:
+            self.found = self.other.sums(self.plans)
+        return self.found[plan.table.oid]
+
+    def digested(self, plans: list[Plan]) -> tuple[dict[int, Sums], dict[int, Sums]]:
+        return self.other.digested(plans), self.view.digested(plans)
+
+    def differing(self, plan: Plan, chunks: list[int]) -> Iterator[Difference]:
+        return differing(self.other.rows(plan, chunks), self.copy.rows(plan, chunks))
+
+
+class ByDigests(Verifier):
+    """Compares tables by the digests that are kept, and of those that differ the rows."""
+
+    def __init__(self, show: int, sides: Tables) -> None:
+        super().__init__(show, sides)
+        self.both = sides
+
+    def run(self, tables: list[Table]) -> bool:
+        plans = [Plan(it, 1) for it in tables if self.has_columns(it)]
+        theirs, ours = self.both.digested(plans)
+        equal = {oid for oid, sums in theirs.items() if not sums.differing(ours[oid])}
+        rows = sum(it.total() for it in theirs.values())
+        if read := [it.table for it in plans if it.table.oid not in equal]:
+            super().run(read)
+        self.rows, self.different = rows, [it for it in tables if it.oid not in equal]
+        return not self.different
+
+
+def tables_of(views: Sequence[View]) -> list[Table]:
+    """All tables that any of the files has."""
+    found = dict[int, Table]()
+    for view in views:
+        for oid, valued in view.tables.items():
+            relation = valued.relation
+            columns = [
+                Column(it.name, it.type_oid, it.modifier, it.key) for it in relation.shape.columns
+            ]
+            schema = relation.namespace or "pg_catalog"
+            identity = relation.shape.identity
+            found.setdefault(
+                oid, Table(oid, schema, relation.name, "r", identity, None, None, columns)
+            )
+    asides = {oid: it for view in views for oid, it in view.asides.items() if oid not in found}
+    return [
+        *found.values(),
+        *(Table(oid, it.schema, it.table, "r", "", None, None, []) for oid, it in asides.items()),
+    ]
 
 
 def source_in(view: View, feed: str) -> Head | None:

@@ -129,7 +129,7 @@ KILLED_AT = """
 import os, sys
 sys.path.insert(0, {house!r})
 from pgsub_connect import cli
-from pgsub_connect.add import adder, left_out, rows_sender, turn
+from pgsub_connect.add import adder, left_out, turn
 where, name = {where}, {name!r}
 real, left = getattr(where, name), [{times}]
 def last(*words, **more):
@@ -155,7 +155,7 @@ def killed_at(place: Place, where: str, name: str, after: bool, times: int = 0) 
 CUTS = (
     ("left_out.LeftOut", "fill", False, 0), ("left_out.LeftOut", "fill", True, 0), ("adder.Adder", "prepare", True, 0), ("adder.Adder", "meet", False, 0),
     ("turn.Source", "make_slot", True, 0), ("turn.Source", "see", True, 0), ("adder.Adder", "meet", True, 0), ("adder.Adder", "send", False, 0),
-    ("rows_sender.RowsSender", "push", True, 3), ("rows_sender.RowsSender", "push", True, 5), ("turn.Rows", "closing", True, 0), ("adder.Adder", "send", True, 0),
+    ("turn.RowsSender", "push", True, 3), ("turn.RowsSender", "push", True, 5), ("turn.Rows", "closing", True, 0), ("adder.Adder", "send", True, 0),
     ("adder.Adder", "finish", False, 0), ("adder.Remembered", "added", True, 0), ("adder.Adder", "forget", True, 0),
 )
 
