@@ -10,8 +10,10 @@ import signal
 import sys
 from collections.abc import Callable, Iterator, Sequence
 
-from pgsub_connect.cli import Start, guarded, stop_by_signals
-from pgsub_connect.commands.words import TellVersion, lsn
+from pgsub_connect.cli import guarded
+from pgsub_connect.commands.arguments.types import lsn
+from pgsub_connect.commands.arguments.version import TellVersion
+from pgsub_connect.commands.signals import Start, stop_by_signals
 from pgsub_connect.drift.remembered import Relation
 from pgsub_connect.errors import Stopped
 from pgsub_connect.server.connection import Check

@@ -9,7 +9,7 @@ import unittest
 from unittest import mock
 
 from pgsub_connect import version as version_module
-from pgsub_connect.commands.words import version
+from pgsub_connect.commands.arguments.version import version
 from pgsub_connect.errors import Passing
 from pgsub_connect.follow.filter import Filter
 

@@ -7,11 +7,10 @@ import dataclasses
 import io
 import json
 import unittest
+from typing import Any
 from unittest import mock
 
 from pgsub_connect.commands import check
-from pgsub_connect.commands.options import Options
-from pgsub_connect.commands.words import arguments
 from pgsub_connect.errors import ServerError, UsageError
 from pgsub_connect.preconditions.judged import require, results
 from pgsub_connect.preconditions.result import ERROR, OK, WARNING, Purpose, Result
@@ -29,6 +28,8 @@ from pgsub_connect.server.preflight import (
 from pgsub_connect.server.publication_setup import Wanted
 from pgsub_connect.server.transport import Protection
 from tests.fake_server import FakeServer, connection_to
+
+from .settled import options_of
 
 SETTINGS = {
     "wal_level": "logical",
@@ -410,12 +411,12 @@ class Asking(unittest.TestCase):
 
 
 class Printing(unittest.TestCase):
-    def printed(self, found: Facts, **options: object) -> tuple[int, str]:
+    def printed(self, found: Facts, **options: Any) -> tuple[int, str]:
         out = io.StringIO()
         with mock.patch.object(check, "all_facts", lambda *_: found), contextlib.redirect_stdout(
             out
         ):
-            status = check.run(Options(publication=["pgsub"], **options))  # type: ignore[arg-type]
+            status = check.print_results(check.Options(publication=["pgsub"], **options))
         return status, out.getvalue()
 
     def test_lines(self) -> None:
@@ -439,7 +440,7 @@ class Printing(unittest.TestCase):
             ("--create --no-copy", True),
             ("--no-copy", False),
         ):
-            purpose = check.purpose_of(arguments(["check", *words.split()]))
+            purpose = options_of(["check", *words.split()]).purpose()
             self.assertEqual(
                 (purpose.makes, purpose.copies), (makes, "--no-copy" not in words), words
             )

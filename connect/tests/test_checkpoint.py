@@ -11,7 +11,7 @@ import unittest
 from typing import Any
 from unittest import mock
 
-from pgsub_connect.commands.words import KINDS
+from pgsub_connect.commands.follow import ACCEPTED
 from pgsub_connect.errors import FileError, Passing, Stopped, Unfit
 from pgsub_connect.store import checkpoint as known_of
 from pgsub_connect.store.at_rest import locked_checkpoint
@@ -163,7 +163,7 @@ class File(FileCase):
         """The longest names that a server has, all findings, and many tables that are being
         added."""
         most = (1 << 64) - 1
-        self.assertLessEqual({*KINDS} - {"all", "plaintext"}, {*known_of.KINDS})
+        self.assertLessEqual({*ACCEPTED} - {"all", "plaintext"}, {*known_of.KINDS})
         for database in ("\u0431" * 31, "\x01" * 63, '"' * 63):
             checkpoint = self.open_again()
             checkpoint.put(

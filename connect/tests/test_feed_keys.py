@@ -11,7 +11,6 @@ from unittest import mock
 
 from feed_text import Cell, Column, Definition, Line
 
-from pgsub_connect.commands.options import Options
 from pgsub_connect.commands.tables import Tables
 from pgsub_connect.drift.remembered import Remembered
 from pgsub_connect.server.connection import never

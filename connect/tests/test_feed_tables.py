@@ -16,7 +16,7 @@ from feed_text import Cell, Column, Line
 from pgsub_connect.cli import FILE, UNFIT, USAGE, main
 from pgsub_connect.commands import tables as tables_module
 from pgsub_connect.commands import wait
-from pgsub_connect.commands.options import Options
+from pgsub_connect.commands.tables import Options
 from pgsub_connect.commands.wait import Awaited
 from pgsub_connect.errors import FileError, Passing, Unfit
 from pgsub_connect.follow.retention import Limits, retire
@@ -46,12 +46,12 @@ class TablesCase(FeedCase):
         self.feed.commit(self.at, lines)
 
     def options(self, **more: Any) -> Options:
-        return Options(command="tables", feed=str(self.path), into=self.into, once=True, **more)
+        return Options(feed=str(self.path), into=self.into, once=True, **more)
 
     def run_it(self, status: int = 0, **more: Any) -> list[str]:
         """Takes what is there, and returns what is told beside the last line."""
         with logged() as told:
-            self.assertEqual(tables_module.run(self.options(**more), never), status)
+            self.assertEqual(tables_module.follow_feed(self.options(**more), never), status)
         self.assertEqual(
             sorted(it for it in os.listdir(self.folder) if it.startswith("rows")), ["rows.db"]
         )
@@ -942,7 +942,7 @@ class Initial(TablesCase):
         self.run_it()
         self.write("PRAGMA max_page_count = 1; CREATE TABLE large AS SELECT zeroblob(1000000)")
         with logged(), self.assertRaisesRegex(Passing, "disk is full"):
-            tables_module.run(self.options(init=self.init), never)
+            tables_module.follow_feed(self.options(init=self.init), never)
         self.assertEqual((self.rows("SELECT * FROM stock"), self.tables()), ([(1, "a")], ["stock"]))
 
 

@@ -17,8 +17,7 @@ from feed_text import About
 from feed_text import Column as TextColumn
 
 from pgsub_connect.commands import tables
-from pgsub_connect.commands.options import Options
-from pgsub_connect.commands.words import arguments
+from pgsub_connect.commands.tables import Options
 from pgsub_connect.copy.source import chosen
 from pgsub_connect.errors import FileError, Passing, Stopped, Unfit
 from pgsub_connect.server.connection import never
@@ -30,6 +29,7 @@ from pgsub_feed.reader.trail import Gone, Trail
 
 from .fake_server import connection_to
 from .feeds import ID, NAME, delete, insert, table, truncate, update
+from .settled import options_of
 from .stores import Cell
 from .test_feed_tables import TablesCase
 from .test_verifying import Publisher
@@ -297,7 +297,7 @@ class Server(VerifyCase):
     def test_tables_that_were_not_chosen(self) -> None:
         self.into += ".chosen"
         with logged():
-            tables.run(self.options(table=["stock"]), never)
+            tables.follow_feed(self.options(table=["stock"]), never)
         self.equal()
         self.assertIn(f"{self.into} was made without 1 table: public.whole", self.said)
         self.fails(Unfit, "was made without public.whole", chosen=["whole"])
@@ -546,9 +546,7 @@ class Files(VerifyCase):
         self.take(delete("77", "none"))
         with logged():
             for path in (self.into, self.other):
-                tables.run(
-                    Options(command="tables", feed=str(self.path), into=path, once=True), never
-                )
+                tables.follow_feed(Options(feed=str(self.path), into=path, once=True), never)
                 self.assertEqual(self.verified(1, other=self.other), [])
                 self.assertIn("public.stock is set aside in", self.said[0])
 
@@ -633,7 +631,7 @@ class Words(TablesCase):
         with contextlib.redirect_stderr(io.StringIO()) as said, self.assertRaises(
             SystemExit
         ) as ended:
-            arguments(["verify", *words])
+            options_of(["verify", *words])
         self.assertEqual(ended.exception.code, 2)
         return said.getvalue()
 
@@ -644,7 +642,7 @@ class Words(TablesCase):
         self.assertIn(
             "pgsub-connect add --store STORE --table T", self.rejected("--tables", "x", "--repair")
         )
-        self.assertEqual(arguments(["verify", "--tables", "a", "--with", "b"]).other, "b")
+        self.assertEqual(options_of(["verify", "--tables", "a", "--with", "b"]).other, "b")
 
     def test_which_store(self) -> None:
         """The publications are those of the store beside whose feed it is."""

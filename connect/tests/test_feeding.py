@@ -16,8 +16,6 @@ from unittest import mock
 
 from feed_text import Column, lsn_text
 
-from pgsub_connect.commands.options import Options
-from pgsub_connect.commands.words import arguments
 from pgsub_connect.drift.remembered import Remembered, replace_file
 from pgsub_connect.drift.tolerance import Tolerance
 from pgsub_connect.errors import FileError, Unfit
@@ -35,6 +33,7 @@ from pgsub_feed.reader.segments import CONFIRMED, Reader, read_confirmed, segmen
 
 from .fake_server import Quiet
 from .feeds import ID, FeedCase, insert, table, truncate
+from .settled import options_of
 from .test_following import Case
 from .vectors import begin, commit
 from .vectors import insert as inserted
@@ -390,7 +389,7 @@ class Refused(Quiet):
             self.assertEqual(stat.S_IMODE(os.stat(f"{self.folder}/{mode:o}").st_mode), made)
 
     def test_words(self) -> None:
-        options = arguments(
+        options = options_of(
             "follow --store s --tables rows.db --feed-max-bytes 10GB --feed-max-age 7d".split()
         )
         self.assertEqual(
@@ -398,9 +397,9 @@ class Refused(Quiet):
             ("s.feed", 10 << 30, 7 * 86400.0),
         )
         self.assertEqual(
-            arguments("follow --store s --feed f --feed-max-bytes 500".split()).feed_max_bytes, 500
+            options_of("follow --store s --feed f --feed-max-bytes 500".split()).feed_max_bytes, 500
         )
-        self.assertEqual(arguments("follow --store s".split()).feed, "")
+        self.assertEqual(options_of("follow --store s".split()).feed, "")
 
 
 class Kept(FeedCase):
@@ -687,10 +686,8 @@ class Tables(FeedCase):
 
     def test_how_it_is_started(self) -> None:
         settings = dataclasses.replace(self.settings, init="my.sql", mode=0o640)
-        options = arguments(words_of(settings)[3:])
-        self.assertEqual(
-            (options.command, options.feed, options.into), ("tables", str(self.path), self.into)
-        )
+        options = options_of(words_of(settings)[3:])
+        self.assertEqual((options.feed, options.into), (str(self.path), self.into))
         self.assertEqual(options.store, self.settings.store)
         self.assertEqual(
             (options.reader, options.mode, options.while_input, options.once),

@@ -12,8 +12,10 @@ from pathlib import Path
 from unittest import mock
 
 from pgsub_connect import cli
-from pgsub_connect.cli import MISSED, UNFIT
-from pgsub_connect.commands.words import ENDS, KINDS
+from pgsub_connect.cli import UNFIT
+from pgsub_connect.commands import follow
+from pgsub_connect.commands.arguments.exit_status import MISSED
+from pgsub_connect.commands.follow import ACCEPTED, ENDS
 from pgsub_connect.drift.missed_rows import Misses, texts_of
 from pgsub_connect.drift.remembered import Remembered
 from pgsub_connect.drift.tolerance import Tolerance
@@ -681,7 +683,7 @@ class Statuses(FollowCase):
         )
 
     def test_of_the_command(self) -> None:
-        self.patch(cli, "Asker", mock.Mock())
+        self.patch(follow, "Asker", mock.Mock())
         self.addCleanup(os.umask, os.umask(0o077))
         for number in (signal.SIGINT, signal.SIGTERM, signal.SIGUSR1):
             self.addCleanup(signal.signal, number, signal.getsignal(number))
@@ -704,7 +706,7 @@ class Statuses(FollowCase):
 
     def test_help(self) -> None:
         self.assertIn("9 ended as asked, but changes found no", ENDS)
-        self.assertIn("missing", KINDS)
+        self.assertIn("missing", ACCEPTED)
 
 
 if __name__ == "__main__":

@@ -13,7 +13,6 @@ from typing import Any
 from unittest import mock
 
 from pgsub_connect.commands.add import noted
-from pgsub_connect.commands.options import Options
 from pgsub_connect.drift.remembered import Remembered, replace_file
 from pgsub_connect.errors import FileError
 from pgsub_connect.server.connection import never
@@ -253,7 +252,7 @@ class Replaced(Quiet):
         store = self.path.removesuffix(".tables")
         remembered = Remembered(store, 0o640)
         remembered.keep_made({"pgsub": 5})
-        self.assertTrue(noted(Options(command="add", store=store), [7], []))
+        self.assertTrue(noted(store, 0o600, [7], []))
         self.assertEqual(stat.S_IMODE(os.stat(self.path).st_mode), 0o640)
 
 

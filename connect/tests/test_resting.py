@@ -21,7 +21,6 @@ from unittest import mock
 
 from pgsub_connect.cli import FILE, PASSING, USAGE, main
 from pgsub_connect.commands import snapshot
-from pgsub_connect.commands.options import Options
 from pgsub_connect.errors import FileError, Passing, Stopped
 from pgsub_connect.server.connection import never
 from pgsub_connect.store import at_rest as at_rest_module
@@ -47,8 +46,8 @@ class Case(StoreCase):
         self.made = {"copy.db", "copy.db.connector"}
         self.ended = threading.Event()
 
-    def options(self) -> Options:
-        return Options(command="snapshot", store=self.path, into=self.into)
+    def options(self, mode: int = 0o600) -> snapshot.Options:
+        return snapshot.Options(self.path, self.into, mode)
 
     def settings(self, **more: Any) -> ExportSettings:
         chosen: dict[str, Any] = {"store": self.path, "into": self.into, **more}
@@ -212,7 +211,7 @@ class Asked(Case):
     def test_snapshot(self) -> None:
         with self.followed(), logged():
             for _ in range(2):
-                self.assertEqual(snapshot.run(self.options(), never), 0)
+                snapshot.copy_store(self.options(), never)
         self.assertEqual(self.left(), {"rows.db"})
         self.assertTrue(snapshot.is_snapshot(self.into))
 
@@ -294,10 +293,9 @@ class Asked(Case):
 
 class Taken(Case):
     def test_without_a_follower(self) -> None:
-        options = self.options()
-        options.mode = 0o640
+        options = self.options(0o640)
         with logged() as told:
-            self.assertEqual(snapshot.run(options, never), 0)
+            snapshot.copy_store(options, never)
         self.assertEqual(told, [f"{self.into}: the rows at 0/130"])
         self.assertEqual(stat.S_IMODE(os.stat(self.into).st_mode), 0o640)
         self.assertTrue(os.path.exists(self.path))
@@ -307,22 +305,22 @@ class Taken(Case):
         self.store.base.execute("PRAGMA journal_mode = WAL")
         self.store.close()
         with logged():
-            snapshot.run(self.options(), never)
+            snapshot.copy_store(self.options(), never)
         with open(self.into, "rb") as file:
             self.assertEqual(file.read(20)[18:], b"\1\1")
 
     def test_what_isnt_an_earlier_copy(self) -> None:
         with logged():
-            snapshot.run(self.options(), never)
+            snapshot.copy_store(self.options(), never)
         for ending in ("-wal", ".connector"):
             open(self.into + ending, "w").close()
             with self.assertRaisesRegex(FileError, "is there and isn't an earlier copy"):
-                snapshot.run(self.options(), never)
+                snapshot.copy_store(self.options(), never)
             os.unlink(self.into + ending)
         with open(self.into, "w") as file:
             file.write("mine")
         with self.assertRaisesRegex(FileError, "is there and isn't an earlier copy"):
-            snapshot.run(self.options(), never)
+            snapshot.copy_store(self.options(), never)
 
     def test_what_a_follower_has_to_leave(self) -> None:
         """What isn't an earlier copy is refused as by `snapshot`, before anything is made."""
@@ -363,7 +361,7 @@ class Taken(Case):
         with self.followed(), logged(), mock.patch(
             "os.rename", side_effect=OSError(18, "Invalid cross-device link")
         ):
-            self.assertEqual(snapshot.run(self.options(), never), 0)
+            snapshot.copy_store(self.options(), never)
         self.assertEqual(self.left(), {"rows.db"})
 
     def left_after(self, path: str, names: list[str], age: float = 1e9) -> set[str]:

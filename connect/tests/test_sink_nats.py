@@ -12,7 +12,6 @@ from unittest import mock
 
 from feed_text import Line
 
-from pgsub_connect.commands.options import Options
 from pgsub_connect.errors import EngineError, FileError, Passing, TooLarge, Unfit, UsageError
 from pgsub_connect.server.connection import never
 from pgsub_connect.store.export import ExportSettings, export_store

@@ -3,6 +3,7 @@
 from __future__ import annotations
 
 import contextlib
+import dataclasses
 import io
 import json
 import sqlite3
@@ -14,7 +15,6 @@ from unittest import mock
 from pgsub_connect import cli
 from pgsub_connect.commands import add as add_module
 from pgsub_connect.commands import verify
-from pgsub_connect.commands.options import Options
 from pgsub_connect.copy.source import Source
 from pgsub_connect.errors import FileError, NoSlot, Passing, Stopped, Unfit, Unrepaired
 from pgsub_connect.server.connection import never
@@ -95,7 +95,7 @@ class Case(StoreCase):
     def setUp(self) -> None:
         super().setUp()
         self.server = Publisher({1: list(ROWS), 2: list(EQUAL_ROWS)})
-        self.options = Options(command="verify", store=self.path)
+        self.options = verify.Options(store=self.path)
         self.store.table(1, "keyed", ((1, "id", 23, -1), (0, "name", 25, -1)))
         self.store.table(2, "whole", ((1, "a", 25, -1), (1, "b", 25, -1)), letter="f")
         self.keep({1: ROWS, 2: EQUAL_ROWS})
@@ -224,7 +224,7 @@ class Finds(Case):
 
     def test_a_table_that_is_empty_here(self) -> None:
         self.keep({2: EQUAL_ROWS})
-        self.options.show = 5
+        self.options = dataclasses.replace(self.options, show=5)
         self.assertEqual([it["copy"] for it in self.compare()], [None] * 5)
         self.assertIn(
             "warning: public.keyed: 600 rows on the server, 0 in the copy; 4 of 4 chunks differ",
@@ -234,14 +234,14 @@ class Finds(Case):
 
     def test_a_table_that_is_empty_there(self) -> None:
         self.server.tables[1] = []
-        self.options.show = 1
+        self.options = dataclasses.replace(self.options, show=1)
         found = self.compare()
         self.assertEqual([it["server"] for it in found], [None])
         self.assertEqual(len(self.server.asked[0][1]), 1)
 
     def test_no_more_than_may_be_shown(self) -> None:
         self.keep({})
-        self.options.show = 0
+        self.options = dataclasses.replace(self.options, show=0)
         self.assertEqual((self.compare(), self.is_equal, self.server.asked), ([], False, []))
 
     def test_other_columns(self) -> None:
@@ -289,7 +289,7 @@ class Reads(Case):
 
     def ends(self, error: BaseException, expected: type[Exception]) -> None:
         with mock.patch.object(verify, "verify", side_effect=error), self.assertRaises(expected):
-            verify.run(self.options, never)
+            verify.compare_all(self.options, never)
 
     def test_how_it_ends(self) -> None:
         self.ends(Stopped(), Passing)
@@ -342,39 +342,39 @@ class Reads(Case):
             ([WHOLE, KEYED], True, [WHOLE], 7, {WHOLE.oid: WHOLE.text()}),
         )
         for different, repair, left, status, asked in cases:
-            self.options.repair = repair
+            self.options = dataclasses.replace(self.options, repair=repair)
             with mock.patch.multiple(
                 verify,
                 compare=self.finds((different, {})),
                 repair=lambda *_, it=left: it,
             ), mock.patch.object(add_module, "add", return_value=7) as add:
-                self.assertEqual(verify.run(self.options, never), status)
-            self.assertEqual(add.call_args and add.call_args.args[1], asked)
+                self.assertEqual(verify.compare_all(self.options, never), status)
+            self.assertEqual(add.call_args and add.call_args.args[2], asked)
 
     def test_what_others_had_truncated_is_compared_once_more(self) -> None:
         """The others are compared all the same. What is left in the end isn't equal."""
         left = {2: "public.whole was truncated meanwhile"}
         with mock.patch.object(verify, "compare", self.finds(([], left), ([], {}))), logged():
-            self.assertEqual(verify.run(self.options, never), 0)
+            self.assertEqual(verify.compare_all(self.options, never), 0)
         self.assertEqual(self.compared, [[1, 2], [2]])
         with mock.patch.object(verify, "compare", self.finds(([], left), ([], left))), logged():
             with self.assertRaisesRegex(
                 Passing, "^not compared: public.whole was truncated meanwhile: compare later"
             ):
-                verify.run(self.options, never)
+                verify.compare_all(self.options, never)
         with mock.patch.object(
             verify, "compare", self.finds(([KEYED], left), ([], left))
         ), logged() as told:
-            self.assertEqual(verify.run(self.options, never), 1)
+            self.assertEqual(verify.compare_all(self.options, never), 1)
         self.assertEqual(told[-1], "warning: not compared: public.whole was truncated meanwhile")
 
     def test_what_the_follower_does_not_pass_on(self) -> None:
-        self.options.repair = True
+        self.options = dataclasses.replace(self.options, repair=True)
         repair = mock.Mock(side_effect=Unrepaired("too much"))
         with mock.patch.multiple(
             verify, compare=self.finds(([WHOLE], {})), repair=repair
         ), logged() as told:
-            self.assertEqual(verify.run(self.options, never), 1)
+            self.assertEqual(verify.compare_all(self.options, never), 1)
         self.assertEqual(told, ["error: too much"])
 
     def test_which_tables_differ(self) -> None:
@@ -408,4 +408,4 @@ class Reads(Case):
 
     def test_nobody_follows(self) -> None:
         with self.assertRaisesRegex(Passing, "a follower has to run"):
-            verify.run(self.options, never)
+            verify.compare_all(self.options, never)

@@ -8,7 +8,6 @@ import unittest
 from unittest import mock
 
 from pgsub_connect import cli
-from pgsub_connect.commands.words import arguments, settle_options
 from pgsub_connect.drift import watch as watch_module
 from pgsub_connect.drift.remembered import Relation, Remembered
 from pgsub_connect.drift.tolerance import Tolerance
@@ -21,6 +20,7 @@ from pgsub_connect.status.progress import Progress
 from pgsub_connect.store.checkpoint import Checkpoint
 
 from .fake_server import FakeServer, connection_to
+from .settled import settled
 from .vectors import ID, NAME, PGSUB, a_catalog, a_shape, a_table, logged
 
 T, U = a_table(1, "t"), a_table(2, "u")
@@ -291,9 +291,8 @@ class Words(Case):
         if store:
             with open(self.store, "w", encoding="ascii") as file:
                 file.write("a store")
-        options = arguments(["follow", "--store", self.store, "--pgsub", "/bin/true", *words])
-        settle_options(options)
-        return options.publication
+        options = settled(["follow", "--store", self.store, "--pgsub", "/bin/true", *words])
+        return list(options.publication)
 
     def test_the_default_publications_are_those_that_were_followed(self) -> None:
         self.assertEqual(self.publications(store=False), ["pgsub"])

@@ -2,11 +2,11 @@
 
 from __future__ import annotations
 
+import argparse
 import dataclasses
 import json
 import os
 import sys
-from typing import TYPE_CHECKING
 
 from pgsub_feed.log import escaped
 
@@ -14,34 +14,88 @@ from ..preconditions.judged import results
 from ..preconditions.result import ERROR, Purpose
 from ..server.connection import Check, never
 from ..server.preflight import all_facts
-from ..server.publication_setup import Wanted
 from ..server.transport import OWN
+from .arguments.files import check_files, use_mode
+from .arguments.publishing import CopyOptions, add_copying, check_publishing
+from .arguments.server import (
+    ServerOptions,
+    TrustOptions,
+    add_server,
+    add_trust,
+    settled_server,
+    trust_store,
+)
+from .arguments.texts import each
+from .signals import check_signals
 
-if TYPE_CHECKING:
-    from .options import Options
+ABOUT = "tell what following needs of the server, and change nothing"
+ENDS = """\
+exit status: 0 nothing is missing, whatever is warned of; 4 something is missing, or the server rejected a command for good; 2 usage error; 3 a
+file can't be used; 5 TLS was in use before, and is gone; 6 a bug; 7 the server can't be reached for now
+"""
 
 
-def purpose_of(options: Options) -> Purpose:
-    has_store = bool(options.store and os.path.exists(options.store))
-    # (where nothing is said of a start without a store, it is one with --create)
-    makes, copies = bool(options.create) or not options.no_copy, not options.no_copy
-    return Purpose(
-        options.slot,
-        has_store,
-        makes,
-        copies,
-        options.failover,
-        options.keyless,
-        options.all_tables,
+@dataclasses.dataclass(frozen=True)
+class Options(ServerOptions, TrustOptions, CopyOptions):
+    """What the server is to be used for."""
+
+    store: str = ""
+    json: bool = False
+
+    def purpose(self) -> Purpose:
+        # (where nothing is said of a start without a store, it is one with --create)
+        return Purpose(
+            self.slot,
+            has_store=bool(self.store and os.path.exists(self.store)),
+            makes=bool(self.create) or not self.no_copy,
+            copies=not self.no_copy,
+            failover=self.failover,
+            keyless=self.keyless,
+            all_tables=self.all_tables,
+        )
+
+
+def add_options(parser: argparse.ArgumentParser) -> None:
+    add_server(parser)
+    add_trust(parser)
+    add_copying(parser)
+    add = parser.add_argument
+    add(
+        "--store",
+        metavar="FILE",
+        default="",
+        help="where it is there, what following into it needs; else what a new one does",
     )
+    add("--json", action="store_true", help="print a JSON array")
 
 
-def run(options: Options, check: Check = never) -> int:
+def check_options(parser: argparse.ArgumentParser, options: Options) -> Options:
+    """Rejects options that don't go together."""
+    check_publishing(parser, options)
+    return options
+
+
+def settled(options: Options) -> Options:
+    """The options with what they leave out."""
+    check_files(options.store, {}, {"--dsn-file": options.dsn_file})
+    told = each("--table", options.table)
+    options = settled_server(options, options.store, options.keyless, told)
+    use_mode(options.mode)
+    return options
+
+
+def run(options: Options) -> int:
     """Prints all preconditions; the exit status."""
+    options = settled(options)
+    trust_store(options.store, options.accept)
+    return print_results(options, check_signals())
+
+
+def print_results(options: Options, check: Check = never) -> int:
     # (that of TLS is among them)
     OWN.is_quiet = True
-    wanted = Wanted(options.publication, options.table or [], options.all_tables, options.keyless)
-    found = results(all_facts(options.dsn, options.slot, wanted, check), purpose_of(options))
+    facts = all_facts(options.dsn, options.slot, options.wanted(options.publication), check)
+    found = results(facts, options.purpose())
     if options.json:
         json.dump([dataclasses.asdict(it) for it in found], sys.stdout, indent=1)
         sys.stdout.write("\n")

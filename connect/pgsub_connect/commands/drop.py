@@ -3,13 +3,15 @@ publications and its files."""
 
 from __future__ import annotations
 
+import argparse
 import contextlib
+import dataclasses
 import os
 import select
 import sys
 import time
 from collections.abc import Callable
-from typing import TYPE_CHECKING, Any
+from typing import Any
 
 from pgsub_feed import log
 from pgsub_feed.json_texts import Unreadable, object_of, whole_of
@@ -24,15 +26,62 @@ from ..store.at_rest import own_files
 from ..store.checkpoint_at_rest import locked, read_known
 from ..store.placing import OF_COPY, OF_STORE
 from ..store.snapshot import OF_FILE, meant
+from .arguments.files import check_files, use_mode
+from .arguments.server import (
+    ServerOptions,
+    TrustOptions,
+    add_server,
+    add_trust,
+    settled_server,
+    trust_store,
+)
+from .signals import check_signals
 
-if TYPE_CHECKING:
-    from .options import Options
+ABOUT = "drop slot, publications and files"
+ENDS = """\
+exit status: 0 dropped, but for what somebody said no to; 2 usage error; 3 a file can't be used; 4 the server rejected a command for good; 5
+it isn't the server or slot that the store follows, or nobody is there to ask; 6 a bug; 7 something is in the way only for now, such as a
+follower that runs
+"""
 
 # Beside which names processes make files for themselves: copies that a follower is asked for, and
 # exports with which a sink begins.
 ASKED = (".export", ".base")
 # How long a slot that was just left by its connection is waited for.
 PATIENCE = 5.0
+
+
+@dataclasses.dataclass(frozen=True)
+class Options(ServerOptions, TrustOptions):
+    """Whose slot, publications and files go."""
+
+    store: str = ""
+    yes: bool = False
+
+
+def add_options(parser: argparse.ArgumentParser) -> None:
+    add_server(parser)
+    add_trust(parser)
+    add = parser.add_argument
+    add(
+        "--store",
+        metavar="FILE",
+        required=True,
+        help="the store whose slot, publications and files go",
+    )
+    add(
+        "--yes",
+        action="store_true",
+        help="don't ask; what somebody else may have made or may use stays",
+    )
+
+
+def settled(options: Options) -> Options:
+    """The options with what they leave out."""
+    check_files(options.store, {}, {"--dsn-file": options.dsn_file})
+    options = settled_server(options, options.store)
+    use_mode(options.mode)
+    return options
 
 
 def read_remembered(path: str) -> dict[str, Any]:
@@ -225,11 +274,14 @@ class Dropper:
             log.info(f"the feed {feed} stays: remove the folder once nobody reads it")
 
 
-def run(options: Options, check: Check = never) -> int:
+def run(options: Options) -> int:
     """Drops it all; the exit status."""
-    Dropper(
-        options,
-        (lambda _: True) if options.yes else lambda question: ask_terminal(question, check),
-        check,
-    ).run()
+    options = settled(options)
+    trust_store(options.store, options.accept)
+    check = check_signals()
+
+    def ask(question: str) -> bool:
+        return options.yes or ask_terminal(question, check)
+
+    Dropper(options, ask, check).run()
     return 0

@@ -4,9 +4,10 @@ from __future__ import annotations
 
 import argparse
 import contextlib
+import dataclasses
 import os
 import time
-from typing import TYPE_CHECKING
+from collections.abc import Sequence
 
 from pgsub_feed import log
 from pgsub_feed.faults import Damaged
@@ -20,15 +21,15 @@ from pgsub_feed.sinks import nats_engine, redis_calls, redis_hashes, redis_strea
 from pgsub_feed.sinks.engine import Engine, Wanted
 from pgsub_feed.sinks.first_rows import base_of
 from pgsub_feed.sinks.redis_engine import Redis
-from pgsub_feed.tables.first_rows import keeping
+from pgsub_feed.tables.first_rows import FirstRows, keeping
 from pgsub_feed.texts import lsn_text
 
 from ..errors import Passing, Stopped, UsageError
 from ..server.connection import Check
-from .tables import plain_name
-
-if TYPE_CHECKING:
-    from .options import Options
+from .arguments.files import check_files, use_mode
+from .arguments.texts import check_texts, each
+from .arguments.types import lsn, mode, plain_name
+from .signals import check_signals
 
 ABOUT = """\
 write a feed to Redis or to NATS JetStream
@@ -51,6 +52,11 @@ as objects; a message has them too, and `end`, where its commit ends, `n`, `sche
 NATS: subjects are STREAM.schema.table, and STREAM.commit for the last message of each commit. A commit of which a part was published is
 completed. --table goes by the names that tables have just then. With --reader, an LSN counts after 150 seconds, once the server has synced
 it.
+"""
+ENDS = """\
+exit status: 0 ended as asked; 1 a change is larger than the engine takes; 2 usage error; 3 a file can't be used; 4 the engine rejected a
+command for good; 5 the feed lacks commits after those that are written, or another sink has begun, or something else has written what the
+sink keeps; 6 a bug; 7 something is in the way only for now, such as an engine that isn't there: start it again
 """
 # How long commits wait for others that come to be written together, and what was taken may take
 # once the end was asked for, in seconds.
@@ -76,6 +82,27 @@ def stream_name(text: str) -> str:
             f"{text!r} is no name of a stream: letters, digits, - and _"
         )
     return text
+
+
+@dataclasses.dataclass(frozen=True)
+class Options:
+    """Which feed is followed, into which engine, and up to where."""
+
+    url: str = ""
+    url_file: str | None = None
+    feed: str = ""
+    base: str | None = None
+    store: str = ""
+    form: str | None = None
+    stream: str | None = None
+    table: Sequence[str] = ()
+    reader: str | None = None
+    once: bool = False
+    until: int | None = None
+    mode: int = 0o600
+
+    def first_rows(self) -> FirstRows:
+        return FirstRows(self.feed, self.base, self.store, self.reader, None, self.once, self.mode)
 
 
 def add_options(parser: argparse.ArgumentParser) -> None:
@@ -139,6 +166,30 @@ def add_options(parser: argparse.ArgumentParser) -> None:
         help="follow the feed until a signal asks for the end (default)",
     )
     whole("--once", dest="once", action="store_true", help="end once all that is there is written")
+    parser.add_argument(
+        "--until", type=lsn, metavar="LSN", help="end before the first commit above this LSN"
+    )
+    parser.add_argument(
+        "--mode",
+        type=mode,
+        default=0o600,
+        metavar="OCTAL",
+        help="mode of a file that is made (default: 600)",
+    )
+
+
+def check_options(parser: argparse.ArgumentParser, options: Options) -> Options:
+    """Rejects options that don't go together."""
+    if bool(options.url) == bool(options.url_file):
+        parser.error("either a URL or --url-file is needed")
+    return options
+
+
+def settled(options: Options) -> Options:
+    check_files(options.store, {}, {"--url-file": options.url_file, "--base": options.base})
+    check_texts(each("--table", options.table))
+    use_mode(options.mode)
+    return options
 
 
 class Sink:
@@ -181,16 +232,14 @@ class Sink:
     def is_at_end(self, commit: Commit | None) -> bool:
         if commit is None:
             return self.options.once and not self.looks_again()
-        return isinstance(self.options.until, int) and commit.end > self.options.until
+        return self.options.until is not None and commit.end > self.options.until
 
     def looks_again(self) -> bool:
         """Whether all up to the LSN at which to end was confirmed since the feed was looked at:
         some of it may have come since."""
         until, was_confirmed = self.options.until, self.is_confirmed
         self.is_confirmed = (
-            was_confirmed
-            or isinstance(until, int)
-            and (read_confirmed(self.options.feed) or 0) >= until
+            was_confirmed or until is not None and (read_confirmed(self.options.feed) or 0) >= until
         )
         return self.is_confirmed and not was_confirmed
 
@@ -198,7 +247,7 @@ class Sink:
         """Rejects an end below the LSN at which to end, where the feed may still get commits up to
         it."""
         until, at = self.options.until, self.engine.at
-        if not isinstance(until, int) or above or at >= until or self.is_confirmed:
+        if until is None or above or at >= until or self.is_confirmed:
             return
         raise Passing(
             f"{self.options.feed}: the feed has reached {lsn_text(at)}, and {lsn_text(until)} not yet"
@@ -287,7 +336,7 @@ def keep(options: Options, engine: Engine, check: Check) -> None:
 
 def is_to_end(options: Options) -> bool:
     """Whether it ends by itself, once it has what was asked for."""
-    return options.once or isinstance(options.until, int)
+    return options.once or options.until is not None
 
 
 def follow(options: Options, engine: Engine, check: Check) -> None:
@@ -319,20 +368,31 @@ def follow(options: Options, engine: Engine, check: Check) -> None:
     sink.finish()
 
 
-def run(options: Options, check: Check) -> int:
+def run(options: Options) -> int:
     """Follows a feed; the exit status."""
+    write_feed(settled(options), check_signals())
+    return 0
+
+
+def with_url(options: Options) -> Options:
+    """The options with the URL of a file, which is warned of where others may read it."""
     if options.url_file:
         with open(options.url_file, encoding="utf-8") as file:
-            options.url, readable = file.readline().strip(), readable_by(file.fileno())
-        if readable and "@" in options.url:
-            log.warning(readable_text(options.url_file, readable))
-        if not scheme(options.url):
+            found, readable = file.readline().strip(), readable_by(file.fileno())
+        options = dataclasses.replace(options, url=found)
+        if readable and "@" in found:
+            log.warning(readable_text(options.url_file or "", readable))
+        if not scheme(found):
             raise UsageError(
                 f"{options.url_file}: its first line is no URL as redis://.. or nats://.."
             )
     elif "@" in options.url:
         log.warning("the password on the command line can be read by every account: use --url-file")
+    return options
+
+
+def write_feed(options: Options, check: Check) -> None:
+    options = with_url(options)
     with contextlib.closing(engine_of(options, check)) as engine:
         keep(options, engine, check)
         log.info(f"all up to {lsn_text(engine.at)} is written")
-    return 0

@@ -8,14 +8,13 @@ import dataclasses
 import re
 import sys
 import time
-from collections.abc import Callable
-from typing import TYPE_CHECKING, Any
+from collections.abc import Callable, Sequence
+from typing import Any
 
 from pgsub_feed import json_texts, log
 from pgsub_feed.texts import counted, shortened
 
-if TYPE_CHECKING:
-    from .options import Options
+from .arguments.types import BYTES, SECONDS, duration
 
 ABOUT = """\
 tell how a follower with --status-file is, as a probe does
@@ -24,12 +23,10 @@ It prints one line. The exit status is 0 where all is well; 1 where the follower
 slot, is further behind than --max-lag (or it isn't known how far), has set a table of `rows.db` aside, or, with --strict, has found what
 may have made the copy wrong;
 2 for a usage error; 3 where there is no such file, or it isn't a status file."""
+# (the exit status is in what it is about)
+ENDS = None
 FINE, BAD, NO_FILE = 0, 1, 3
-SECONDS = {"s": 1.0, "min": 60.0, "h": 3600.0, "d": 86400.0}
-BYTES = {"B": 1, "kB": 1 << 10, "MB": 1 << 20, "GB": 1 << 30, "TB": 1 << 40}
 LAG = re.compile(rf"(\d+(?:\.\d+)?)({'|'.join([*SECONDS, *BYTES])})")
-TIME = re.compile(rf"(\d+(?:\.\d+)?)({'|'.join(SECONDS)})?")
-SIZE = re.compile(rf"(\d+)({'|'.join(BYTES)})?")
 # Of which kind the fields are that are looked at.
 KINDS: dict[str, Callable[[Any], object]] = {
     "lag_bytes": json_texts.whole_of,
@@ -64,18 +61,14 @@ def lag_limit(text: str) -> Limit:
     )
 
 
-def duration(text: str) -> float:
-    found = TIME.fullmatch(text)
-    if not found:
-        raise argparse.ArgumentTypeError(f"{text!r} is no time, as 30s or 5min")
-    return float(found[1]) * SECONDS[found[2] or "s"]
+@dataclasses.dataclass(frozen=True)
+class Options:
+    """Which file is read, and what is well."""
 
-
-def size(text: str) -> int:
-    found = SIZE.fullmatch(text)
-    if not found or not int(found[1]):
-        raise argparse.ArgumentTypeError(f"{text!r} is no size, as 500MB or 10GB")
-    return int(found[1]) * BYTES[found[2] or "B"]
+    status_file: str = ""
+    max_lag: Sequence[Limit] = ()
+    max_age: float = 30.0
+    strict: bool = False
 
 
 def add_options(parser: argparse.ArgumentParser) -> None:
@@ -168,7 +161,7 @@ def text_of(status: dict[str, Any], age: float, wrong: list[str]) -> str:
 
 def run(options: Options) -> int:
     """Prints how the follower is; the exit status."""
-    path = options.status_file or ""
+    path = options.status_file
     try:
         status = read(path)
         age = age_of(status, time.time())

@@ -4,11 +4,12 @@ transaction."""
 from __future__ import annotations
 
 import argparse
+import dataclasses
 import os
 import select
 import sqlite3
 import time
-from typing import TYPE_CHECKING
+from collections.abc import Sequence
 
 from pgsub_feed import log
 from pgsub_feed.faults import Damaged
@@ -18,7 +19,7 @@ from pgsub_feed.reader.positions import Noted
 from pgsub_feed.reader.segments import Reader, read_confirmed
 from pgsub_feed.tables.applier import Applier
 from pgsub_feed.tables.file import Rows
-from pgsub_feed.tables.first_rows import check_file, keeping, make
+from pgsub_feed.tables.first_rows import FirstRows, check_file, keeping, make
 from pgsub_feed.tables.rewind import walk
 from pgsub_feed.tables.set_aside import cure, shown_asides, store_at
 from pgsub_feed.tables.user_sql import Init
@@ -28,9 +29,11 @@ from ..errors import FileError, Passing, Stopped, Unfit
 from ..server.connection import Check
 from ..server.publication_setup import names_of
 from ..store.export import OLDEST
-
-if TYPE_CHECKING:
-    from .options import Options
+from .arguments.exit_status import FED
+from .arguments.files import check_files, use_mode
+from .arguments.texts import check_texts, each
+from .arguments.types import lsn, mode, plain_name
+from .signals import check_signals
 
 ABOUT = """\
 keep ordinary tables of SQLite that follow a feed
@@ -39,6 +42,7 @@ FILE gets one table for each published table, and keeps the LSN of the last comm
 read it meanwhile, and sees whole commits. It is gone on with where it is there; a new one begins with the feed's first commit, or with
 the rows of an export.
 """
+ENDS = FED
 # How many changes one transaction takes where more commits are there, and for how long it takes
 # more, in seconds.
 MOST, LONGEST = 20000, 0.5
@@ -48,11 +52,27 @@ LEFT = 1
 PASSING = ("is locked", "is full")
 
 
-def plain_name(text: str) -> str:
-    # (what ends so is a file that is being written)
-    if not text or text.startswith(".") or text.endswith(".new") or os.sep in text:
-        raise argparse.ArgumentTypeError(f"{text!r} is no name for a file")
-    return text
+@dataclasses.dataclass(frozen=True)
+class Options:
+    """Which feed is followed, into which file, and up to where."""
+
+    feed: str = ""
+    into: str = ""
+    base: str | None = None
+    store: str = ""
+    init: str | None = None
+    table: Sequence[str] = ()
+    reader: str | None = None
+    digests: bool = False
+    once: bool = False
+    while_input: bool = False
+    at: int | None = None
+    mode: int = 0o600
+
+    def first_rows(self) -> FirstRows:
+        return FirstRows(
+            self.feed, self.base, self.store, self.reader, self.at, self.once, self.mode
+        )
 
 
 def add_options(parser: argparse.ArgumentParser) -> None:
@@ -104,6 +124,35 @@ def add_options(parser: argparse.ArgumentParser) -> None:
     whole(
         "--once", dest="once", action="store_true", help="end once all that is there is in the file"
     )
+    parser.add_argument(
+        "--while-input", action="store_true", help="end once standard input ends, too"
+    )
+    parser.add_argument(
+        "--at",
+        type=lsn,
+        metavar="LSN",
+        help="the tables as of this LSN: end before the first commit above it, or go back to there",
+    )
+    parser.add_argument(
+        "--mode",
+        type=mode,
+        default=0o600,
+        metavar="OCTAL",
+        help="mode of a file that is made (default: 600)",
+    )
+
+
+def check_options(parser: argparse.ArgumentParser, options: Options) -> Options:
+    """The tables as of an LSN end there."""
+    return dataclasses.replace(options, once=options.once or options.at is not None)
+
+
+def settled(options: Options) -> Options:
+    files = {"--init": options.init, "--base": options.base}
+    check_files(options.store, {"--into": options.into}, files)
+    check_texts(each("--table", options.table))
+    use_mode(options.mode)
+    return options
 
 
 class Tables:
@@ -260,8 +309,12 @@ def check_chosen(options: Options, rows: Rows) -> None:
         )
 
 
-def run(options: Options, check: Check) -> int:
+def run(options: Options) -> int:
     """Follows a feed; the exit status."""
+    return follow_feed(settled(options), check_signals())
+
+
+def follow_feed(options: Options, check: Check) -> int:
     if options.while_input:
         check = ending_with_input(check)
     if sqlite3.sqlite_version_info < OLDEST:

@@ -3,8 +3,10 @@ follow a feed with the server or another such file."""
 
 from __future__ import annotations
 
+import argparse
+import dataclasses
 import sqlite3
-from typing import TYPE_CHECKING
+from collections.abc import Sequence
 
 from pgsub_feed import log
 from pgsub_feed.tables.values import Malformed
@@ -14,15 +16,155 @@ from ..server.connection import Check
 from ..verify.comparison import DIFFERENT, EQUAL, Compared
 from ..verify.digests import NotText
 from ..verify.store import StoreComparison, compare, repair
-from ..verify.tables_file import compare_tables
+from ..verify.tables_comparison import TablesComparison
+from ..verify.tables_file import compare_tables, store_of
 from . import add
+from .arguments.files import check_files, use_mode
+from .arguments.server import (
+    ServerOptions,
+    TrustOptions,
+    add_server,
+    add_trust,
+    settled_server,
+    trust_store,
+)
+from .arguments.texts import each
+from .arguments.types import within, within_seconds
+from .signals import check_signals
 
-if TYPE_CHECKING:
-    from .options import Options
+ABOUT = "compare the copy of a follower that runs with its server, both at one LSN"
+ENDS = """\
+exit status: 0 equal, or repaired; 1 the copy differs; 8 the server made no slot in time, so nothing was compared; 2 to 7 as those of `follow`
+"""
 
 
-def run(options: Options, check: Check) -> int:
+@dataclasses.dataclass(frozen=True)
+class Options(ServerOptions, TrustOptions):
+    """What is compared, and what is told of it."""
+
+    store: str = ""
+    tables: str = ""
+    other: str = ""
+    feed: str = ""
+    digests: bool = False
+    table: Sequence[str] = ()
+    repair: bool = False
+    show: int = 20
+    hold: float = 10.0
+
+    def store_comparison(self) -> StoreComparison:
+        return StoreComparison(self.subscription(), self.store, self.hold, self.show)
+
+    def tables_comparison(self) -> TablesComparison:
+        return TablesComparison(
+            self.subscription(),
+            self.tables,
+            self.other,
+            self.store,
+            self.feed,
+            self.digests,
+            self.table,
+            self.hold,
+            self.show,
+        )
+
+
+def add_options(parser: argparse.ArgumentParser) -> None:
+    add_server(parser)
+    add_trust(parser)
+    add = parser.add_argument
+    add(
+        "--store",
+        metavar="FILE",
+        default="",
+        help="the store, which has to be followed meanwhile; with --tables whose publications are meant (default: that of the feed STORE.feed)",
+    )
+    add(
+        "--tables",
+        metavar="FILE",
+        default="",
+        help="compare these tables that follow a feed, and hold nothing meanwhile",
+    )
+    add(
+        "--with",
+        dest="other",
+        metavar="FILE",
+        default="",
+        help="compare --tables with those of this file, and not with the server",
+    )
+    add(
+        "--feed",
+        metavar="FOLDER",
+        default="",
+        help="the feed of --tables (default: the one that the file follows)",
+    )
+    add(
+        "--digests",
+        action="store_true",
+        help="compare the digests that --tables keep, and read rows only where they differ",
+    )
+    add(
+        "--table",
+        action="append",
+        default=[],
+        help="compare this table, may be repeated (default: all that are published)",
+    )
+    add(
+        "--repair",
+        action="store_true",
+        help="have the follower mend the rows that differ, or copy a table anew of which many do",
+    )
+    add(
+        "--show",
+        type=within(0, 1 << 20),
+        default=20,
+        metavar="N",
+        help="print at most N keys that differ (default: 20)",
+    )
+    add(
+        "--hold",
+        type=within_seconds(600.0),
+        default=10.0,
+        metavar="N",
+        help="wait for at most N seconds until the server has made a slot, and hold the stream to a store meanwhile (default: 10)",
+    )
+
+
+def check_options(parser: argparse.ArgumentParser, options: Options) -> Options:
+    """Rejects options that don't go together."""
+    if not (options.store or options.tables):
+        parser.error("--store or --tables is needed")
+    for given, name in (
+        (options.other, "with"),
+        (options.feed, "feed"),
+        (options.digests, "digests"),
+    ):
+        if given and not options.tables:
+            parser.error(f"--{name} needs --tables")
+    if options.tables and options.repair:
+        parser.error(
+            "--repair is for a store: rows of --tables come anew by `pgsub-connect add --store STORE --table T`"
+        )
+    return options
+
+
+def settled(options: Options) -> Options:
+    """The options with what they leave out."""
+    check_files(options.store, {}, {"--dsn-file": options.dsn_file})
+    store = options.store or (store_of(options.tables) if options.tables else "")
+    options = settled_server(options, store, told=each("--table", options.table))
+    use_mode(options.mode)
+    return dataclasses.replace(options, store=store)
+
+
+def run(options: Options) -> int:
     """Compares; the exit status."""
+    options = settled(options)
+    trust_store(options.store, options.accept)
+    return compare_all(options, check_signals())
+
+
+def compare_all(options: Options, check: Check) -> int:
     if options.tables:
         return compare_tables(options.tables_comparison(), check)
     try:
@@ -43,7 +185,7 @@ def run(options: Options, check: Check) -> int:
 
 def verify(options: Options, check: Check) -> int:
     found, comparison = Compared(), options.store_comparison()
-    for choose in found.tries(lambda it: it.chosen(options.table)):
+    for choose in found.tries(lambda it: it.chosen(list(options.table))):
         compare(comparison, choose, found, check)
     status = DIFFERENT if found.different else EQUAL
     if found.different and options.repair:
@@ -57,4 +199,8 @@ def repaired(options: Options, comparison: StoreComparison, found: Compared, che
     except Unrepaired as error:
         log.error(str(error))
         return DIFFERENT
-    return add.add(options, {it.oid: it.text() for it in left}, check) if left else EQUAL
+    return (
+        add.add(options.store, options.mode, {it.oid: it.text() for it in left}, check)
+        if left
+        else EQUAL
+    )

@@ -4,10 +4,10 @@ from __future__ import annotations
 
 import argparse
 import contextlib
+import dataclasses
 import os
 import sqlite3
 import time
-from typing import TYPE_CHECKING
 
 from pgsub_feed.reader.segments import Reader, read_confirmed
 from pgsub_feed.tables.first_rows import is_tables
@@ -16,20 +16,31 @@ from pgsub_feed.texts import lsn_text
 
 from ..errors import FileError, Passing, Stopped
 from ..server.connection import Check
-from .status import duration
-
-if TYPE_CHECKING:
-    from .options import Options
+from .arguments.exit_status import FED
+from .arguments.types import duration, lsn
+from .signals import check_signals
 
 ABOUT = """\
 wait until tables that follow a feed have all that was committed up to an LSN
 
 Who has written reads it by: SELECT pg_current_wal_insert_lsn(). It ends with status 0, or with 7 where that took too long.
 """
+ENDS = FED
 LOOK = 0.02
 
 
+@dataclasses.dataclass(frozen=True)
+class Options:
+    """What is waited for, in which file, and for how long."""
+
+    lsn: int = 0
+    tables: str = ""
+    feed: str | None = None
+    within: float = 60.0
+
+
 def add_options(parser: argparse.ArgumentParser) -> None:
+    parser.add_argument("lsn", type=lsn, metavar="LSN", help="what is waited for")
     add = parser.add_argument
     add("--tables", metavar="FILE", required=True, help="the file with the tables")
     add("--feed", metavar="FOLDER", help="the feed (default: the one that the file follows)")
@@ -67,8 +78,13 @@ class Awaited:
                 self.end = commit.end
 
 
-def run(options: Options, check: Check) -> int:
+def run(options: Options) -> int:
     """Waits; the exit status."""
+    wait(options, check_signals())
+    return 0
+
+
+def wait(options: Options, check: Check) -> None:
     path, lsn = options.tables, options.lsn
     if not os.path.isfile(path):
         raise FileError(f"there is no file {path}")
@@ -90,4 +106,3 @@ def run(options: Options, check: Check) -> int:
             time.sleep(LOOK)
     except sqlite3.Error as error:
         raise FileError(f"{path}: {error}") from None
-    return 0

@@ -214,6 +214,11 @@ class Follower:
         self.finish_filter()
         self.snapshots.wait()
 
+    def begin_after(self, was_connected: bool) -> None:
+        """Begins after what may have reached the server already: one that is lost from now on is
+        waited for."""
+        self.was_connected = was_connected
+
     def leave_filter(self) -> None:
         """Ends the filter in its own time where something else ends the run: what a killed one has
         stored may not be counted."""

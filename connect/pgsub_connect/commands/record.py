@@ -1,0 +1,156 @@
+"""`pgsub-connect record`: only records a session."""
+
+from __future__ import annotations
+
+import argparse
+import dataclasses
+
+from ..copy.slots import create_slot, maker_of
+from ..record.recorder import Recorder, RecordSettings
+from ..record.recording import LONGEST, Recording
+from .arguments import exit_status
+from .arguments.files import check_files, use_mode
+from .arguments.needs import check_needs
+from .arguments.publishing import PublishingOptions, add_publishing, check_creates, check_publishing
+from .arguments.recording import add_longest
+from .arguments.server import ServerOptions, add_server, settled_server
+from .arguments.texts import each
+from .arguments.types import any_seconds, lsn, lsn_or_now, within
+from .signals import stop_by_signals
+
+ABOUT = "only record"
+ENDS = exit_status.ENDS
+
+
+@dataclasses.dataclass(frozen=True)
+class Options(ServerOptions, PublishingOptions):
+    """What is recorded, and where it begins and ends."""
+
+    record: str = ""
+    append: bool = False
+    overwrite: bool = False
+    bytes: int = LONGEST
+    start: int = 0
+    until: int | str | None = None
+    seconds: float | None = None
+    transactions: int | None = None
+    confirm: int = 0
+    streaming: bool = False
+    binary: bool = False
+    messages: bool = False
+
+    def settings(self) -> RecordSettings:
+        return RecordSettings(
+            self.proto,
+            [it for it in ("streaming", "binary", "messages") if getattr(self, it)],
+            self.start,
+            self.until,
+            self.seconds,
+            self.transactions,
+            self.confirm,
+            self.heartbeat,
+            self.create == "temporary",
+        )
+
+
+def add_options(parser: argparse.ArgumentParser) -> None:
+    add_server(parser)
+    add = parser.add_argument_group("recording").add_argument
+    add(
+        "--record",
+        metavar="FILE",
+        help="the recording to write, a .pgx file of one session, which isn't confirmed",
+    )
+    add("--append", action="store_true", help="add to the recording, after a line `--`")
+    add(
+        "--overwrite",
+        action="store_true",
+        help="write or add to it whatever it was before (default: a recording, or empty)",
+    )
+    add_longest(add)
+    add(
+        "--start",
+        type=lsn,
+        default=0,
+        metavar="LSN",
+        help="where to start (default: where the slot is)",
+    )
+    add(
+        "--until",
+        type=lsn_or_now,
+        metavar="LSN|now",
+        help="stop once all that was committed up to this LSN, or up to now, is recorded",
+    )
+    add("--seconds", type=any_seconds, metavar="N", help="stop after N seconds")
+    add("--transactions", type=within(0, 1 << 62), metavar="N", help="stop after N commits")
+    add(
+        "--confirm",
+        type=lsn,
+        default=0,
+        metavar="LSN",
+        help="confirm what was recorded up to this LSN, so that the server may forget it (default: nothing)",
+    )
+    add(
+        "--streaming",
+        action="store_true",
+        help="stream large transactions while they run (--proto 2)",
+    )
+    add("--binary", action="store_true", help="ask for values in binary format")
+    add("--messages", action="store_true", help="ask for the messages of pg_logical_emit_message")
+    add = parser.add_argument_group("publication and slot").add_argument
+    add(
+        "--create",
+        nargs="?",
+        const="permanent",
+        choices=("permanent", "temporary"),
+        help="make them; a temporary slot goes at the end",
+    )
+    add_publishing(add)
+
+
+def check_options(parser: argparse.ArgumentParser, options: Options) -> Options:
+    """Rejects options that don't go together."""
+    check_creates(parser, options)
+    check_needs(parser, options, ("append", "record"))
+    if not options.record:
+        parser.error("--record is needed")
+    if options.streaming and options.proto != 2:
+        parser.error("--streaming needs --proto 2")
+    check_publishing(parser, options)
+    return options
+
+
+def settled(options: Options) -> Options:
+    """The options with what they leave out."""
+    check_files("", {"--record": options.record}, {"--dsn-file": options.dsn_file})
+    told = each("--table", options.table)
+    options = settled_server(options, keyless=options.keyless, told=told)
+    use_mode(options.mode)
+    return options
+
+
+def run(options: Options) -> int:
+    """Records to the end that was asked for; the exit status."""
+    record(settled(options))
+    return 0
+
+
+def record(options: Options) -> None:
+    subscription, wanted = options.subscription(), options.wanted(options.publication)
+    recorder = Recorder(
+        subscription,
+        options.settings(),
+        Recording(options.record, options.append, options.bytes, options.mode, options.overwrite),
+    )
+    stop_by_signals(recorder)
+    maker = maker_of(subscription, wanted, recorder.check_stop)
+    try:
+        recorder.connect()
+        if options.create == "temporary":
+            maker.make()
+        elif options.create:
+            create_slot(subscription, wanted, options.failover, recorder.check_stop)
+        recorder.run()
+    finally:
+        maker.take_back()
+        recorder.close()
