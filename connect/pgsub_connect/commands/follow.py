@@ -116,6 +116,11 @@ def add_session(add: Callable[..., object]) -> None:
         action="store_true",
         help="end with status 5 where something was found that may have made the copy wrong",
     )
+    add_accepting(add)
+
+
+def add_accepting(add: Callable[..., object]) -> None:
+    """Options on what is taken as it is, or passed over."""
     add(
         "--accept",
         action="append",

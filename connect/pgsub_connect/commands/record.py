@@ -4,6 +4,7 @@ from __future__ import annotations
 
 import argparse
 import dataclasses
+from collections.abc import Callable
 
 from ..copy.copier import create_slot, maker_of
 from ..record.recorder import Recorder, RecordSettings
@@ -68,6 +69,20 @@ def add_options(parser: argparse.ArgumentParser) -> None:
         help="write or add to it whatever it was before (default: a recording, or empty)",
     )
     add_longest(add)
+    add_session(add)
+    add = parser.add_argument_group("publication and slot").add_argument
+    add(
+        "--create",
+        nargs="?",
+        const="permanent",
+        choices=("permanent", "temporary"),
+        help="make them; a temporary slot goes at the end",
+    )
+    add_publishing(add)
+
+
+def add_session(add: Callable[..., object]) -> None:
+    """Options on where the session begins and ends, and on what it asks for."""
     add(
         "--start",
         type=lsn,
@@ -97,15 +112,6 @@ def add_options(parser: argparse.ArgumentParser) -> None:
     )
     add("--binary", action="store_true", help="ask for values in binary format")
     add("--messages", action="store_true", help="ask for the messages of pg_logical_emit_message")
-    add = parser.add_argument_group("publication and slot").add_argument
-    add(
-        "--create",
-        nargs="?",
-        const="permanent",
-        choices=("permanent", "temporary"),
-        help="make them; a temporary slot goes at the end",
-    )
-    add_publishing(add)
 
 
 def check_options(parser: argparse.ArgumentParser, options: Options) -> Options:

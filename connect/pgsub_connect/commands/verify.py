@@ -6,7 +6,7 @@ from __future__ import annotations
 import argparse
 import dataclasses
 import sqlite3
-from collections.abc import Sequence
+from collections.abc import Callable, Sequence
 
 from pgsub_feed import log
 from pgsub_feed.tables.values import Malformed
@@ -102,6 +102,11 @@ def add_options(parser: argparse.ArgumentParser) -> None:
         action="store_true",
         help="compare the digests that --tables keep, and read rows only where they differ",
     )
+    add_told(add)
+
+
+def add_told(add: Callable[..., object]) -> None:
+    """Options on which tables are compared, and what becomes of what differs."""
     add(
         "--table",
         action="append",
