@@ -133,6 +133,12 @@ def add_options(parser: argparse.ArgumentParser) -> None:
         default="",
         help="begin with the rows of this store; its follower is asked for a copy",
     )
+    add_kept(parser)
+
+
+def add_kept(parser: argparse.ArgumentParser) -> None:
+    """Options on what the engine gets, and for how long."""
+    add = parser.add_argument
     add(
         "--as",
         dest="form",
@@ -157,6 +163,11 @@ def add_options(parser: argparse.ArgumentParser) -> None:
         type=plain_name,
         help="keep the LSN as FOLDER/readers/NAME too, once the engine's disk has the rows",
     )
+    add_end(parser)
+
+
+def add_end(parser: argparse.ArgumentParser) -> None:
+    """Options on for how long it follows."""
     whole = parser.add_mutually_exclusive_group().add_argument
     whole(
         "--follow",

@@ -91,6 +91,12 @@ def add_options(parser: argparse.ArgumentParser) -> None:
         default="",
         help="begin with the rows of this store; its follower is asked for a copy",
     )
+    add_kept(parser)
+
+
+def add_kept(parser: argparse.ArgumentParser) -> None:
+    """Options on what the file has, and for how long it follows."""
+    add = parser.add_argument
     add(
         "--init",
         metavar="FILE",
@@ -113,6 +119,11 @@ def add_options(parser: argparse.ArgumentParser) -> None:
         action="store_true",
         help="keep a digest of each table, for `verify`; a file that has them keeps them",
     )
+    add_end(parser)
+
+
+def add_end(parser: argparse.ArgumentParser) -> None:
+    """Options on for how long it follows."""
     whole = parser.add_mutually_exclusive_group().add_argument
     whole(
         "--follow",

@@ -4,6 +4,7 @@ from __future__ import annotations
 
 import argparse
 import dataclasses
+from collections.abc import Callable
 
 from ...follow.feed import FeedSettings
 from ...follow.tables_process import TablesSettings
@@ -72,6 +73,12 @@ def add_feed(parser: argparse.ArgumentParser) -> None:
         metavar="N",
         help="begin another segment after N seconds (default: never)",
     )
+    add_ends_of_segments(add)
+    add_tables(add)
+
+
+def add_ends_of_segments(add: Callable[..., object]) -> None:
+    """Options on when segments of the feed go."""
     add(
         "--feed-max-bytes",
         type=size,
@@ -85,6 +92,10 @@ def add_feed(parser: argparse.ArgumentParser) -> None:
         metavar="TIME",
         help="remove segments that are older, as 7d, and that all readers have read (default: as soon as all readers have, where there are any)",
     )
+
+
+def add_tables(add: Callable[..., object]) -> None:
+    """Options on the tables that follow the feed."""
     add(
         "--tables",
         metavar="FILE",
