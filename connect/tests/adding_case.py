@@ -21,7 +21,7 @@ from pgsub_connect.drift.remembered import Remembered
 from pgsub_connect.follow import follower, statuses
 from pgsub_connect.follow.filter import Filter
 from pgsub_connect.follow.follower import Follower
-from pgsub_connect.server import connection
+from pgsub_connect.server import ticks
 from pgsub_connect.status.progress import Progress
 from pgsub_connect.store.checkpoint import Checkpoint
 from pgsub_connect.store.snapshot import Snapshots
@@ -180,7 +180,7 @@ class Case(Quiet):
         self.server = WorldServer(self.folder, self.brain, self.world)
         self.addCleanup(self.server.close)
         for where, name, by in (
-            (connection, "TICK", 0.02),
+            (ticks, "TICK", 0.02),
             (follower, "STEP", 0.02),
             (follower, "SLEEP", 0.02),
             (follower, "ASK", 0.02),

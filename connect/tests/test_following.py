@@ -23,8 +23,9 @@ from pgsub_connect.follow import statuses
 from pgsub_connect.follow.awake import Awake
 from pgsub_connect.follow.filter import Filter, FilterEnded, flushed
 from pgsub_connect.follow.follower import Follower
+from pgsub_connect.server import addresses
 from pgsub_connect.server import connection as connection_module
-from pgsub_connect.server import session, transport
+from pgsub_connect.server import session, ticks, transport
 from pgsub_connect.server.session import Server
 from pgsub_connect.server.transport import Protection
 from pgsub_connect.status.progress import Progress
@@ -67,7 +68,7 @@ class Case(Quiet):
         self.server = SmallServer(self.folder, self.brain)
         self.addCleanup(self.server.close)
         for where, name, by in (
-            (connection_module, "TICK", 0.02),
+            (ticks, "TICK", 0.02),
             (follower_module, "STEP", 0.02),
             (statuses, "QUIET", 0.3),
             (follower_module, "SLEEP", 0.02),
@@ -355,8 +356,8 @@ class Sessions(Case):
 
     def test_a_server_that_hangs_while_a_table_is_added(self) -> None:
         """Nothing of the session is read meanwhile, so it is asked on another connection."""
-        self.patch(connection_module, "LEAST_LIMIT", 0.05)
-        self.patch(connection_module, "CONNECT_LIMIT", 0.05)
+        self.patch(addresses, "LEAST_LIMIT", 0.05)
+        self.patch(addresses, "CONNECT_LIMIT", 0.05)
         self.patch(session, "QUICK", 0.05)
         follower = self.follower(silence=30.0)
         follower.confirming.last_sent, now, self.progress.server_started = (

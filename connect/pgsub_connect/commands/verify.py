@@ -28,7 +28,8 @@ from pgsub_feed.texts import counted, lsn_text
 from ..drift.remembered import Remembered
 from ..errors import Delayed, FileError, Passing, Stopped, Unfit, Unrepaired
 from ..follow.gate import CURE, TABLE
-from ..server.connection import Check, parameters
+from ..server.addresses import parameters
+from ..server.connection import Check
 from ..server.publication_setup import names_of
 from ..server.publications import Table, sizes_of
 from ..server.session import waits_for

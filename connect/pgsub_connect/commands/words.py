@@ -20,7 +20,7 @@ from .. import version as version_module
 from ..drift.remembered import Remembered
 from ..errors import UsageError
 from ..follow.memory_limit import LONGEST_FRAME, MOST_PAGES, default_buffered
-from ..server.connection import parameters
+from ..server.addresses import parameters
 from ..server.name_length import check_lengths
 from ..server.publication_setup import inserts_of
 from ..store.placing import check_apart
