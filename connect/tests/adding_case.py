@@ -16,9 +16,8 @@ from unittest import mock
 from pgsub_connect.add import adder
 from pgsub_connect.commands.drop import read_known
 from pgsub_connect.commands.options import Options
-from pgsub_connect.drift import watch
 from pgsub_connect.drift.remembered import Remembered
-from pgsub_connect.follow import follower, statuses
+from pgsub_connect.follow import drift_watch, follower, statuses
 from pgsub_connect.follow.filter import Filter
 from pgsub_connect.follow.follower import Follower
 from pgsub_connect.server import ticks
@@ -188,8 +187,8 @@ class Case(Quiet):
             (follower, "FIRST_DELAY", 0.01),
             (adder, "FIRST_DELAY", 0.02),
             (adder, "Source", WorldSource),
-            (watch.Watch, "compare", lambda *_: True),
-            (watch.Watch, "look_again", lambda *_: True),
+            (drift_watch.Watch, "compare", lambda *_: True),
+            (drift_watch.Watch, "look_again", lambda *_: True),
         ):
             self.patch(where, name, by)
         WorldSource.world = self.world

@@ -510,14 +510,14 @@ BUGS = (
     ),
     Bug(
         "changes that found no row are told each time",
-        "pgsub_connect/drift/missed_rows.py",
+        "pgsub_connect/follow/missed_rows.py",
         "time.monotonic() + AGAIN",
         "time.monotonic()",
         ("test_missing",),
     ),
     Bug(
         "strict starts take changes that found no row",
-        "pgsub_connect/drift/watch.py",
+        "pgsub_connect/follow/drift_watch.py",
         "for kind in self.checkpoint.findings()\n            if (text",
         "for kind in self.checkpoint.known.found\n            if (text",
         ("test_missing",),

@@ -14,10 +14,10 @@ from collections.abc import Callable, Iterator, Sequence
 from unittest import mock
 
 from pgsub_connect.commands.options import Options
-from pgsub_connect.drift import watch
 from pgsub_connect.drift.findings import About
 from pgsub_connect.drift.remembered import Remembered
 from pgsub_connect.errors import FilterFault, Passing, ServerError, Unconnected, Unfit
+from pgsub_connect.follow import drift_watch
 from pgsub_connect.follow import follower as follower_module
 from pgsub_connect.follow import statuses
 from pgsub_connect.follow.awake import Awake
@@ -75,7 +75,7 @@ class Case(Quiet):
             (follower_module, "FIRST_DELAY", 0.02),
         ):
             self.patch(where, name, by)
-        self.patch(watch.Watch, "compare", lambda *_: True)
+        self.patch(drift_watch.Watch, "compare", lambda *_: True)
 
     def patch(self, where: object, name: str, by: object) -> None:
         patch = mock.patch.object(where, name, by)
@@ -233,7 +233,7 @@ class Sessions(Case):
             seen.append(connection is follower.connection)
             return True
 
-        self.patch(watch.Watch, "compare", compare)
+        self.patch(drift_watch.Watch, "compare", compare)
         self.run_until(follower, lambda: self.server.sessions == 1)
         self.assertEqual(seen, [False])
 

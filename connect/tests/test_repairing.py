@@ -16,8 +16,8 @@ from pgsub_connect.add.replacement import XID
 from pgsub_connect.copy.messages import relation as relation_body
 from pgsub_connect.drift.findings import About
 from pgsub_connect.drift.remembered import Remembered
-from pgsub_connect.drift.watch import Watch
 from pgsub_connect.errors import Passing, Unrepaired
+from pgsub_connect.follow.drift_watch import Watch
 from pgsub_connect.follow.hold import Hold
 from pgsub_connect.follow.repair import Repairing, Unusable, messages_in
 from pgsub_connect.server.connection import never

@@ -43,7 +43,7 @@ from .replacement import Leaving, Rows, payload_of
 
 if TYPE_CHECKING:
     from ..commands.options import Options
-    from ..drift.watch import Watch
+    from ..follow.drift_watch import Watch
     from ..follow.hold import Hold
     from ..follow.statuses import Confirming
     from ..follow.stream_log import Noting

@@ -13,13 +13,13 @@ from typing import TYPE_CHECKING
 from pgsub_feed import log
 from pgsub_feed.texts import lsn_text
 
-from ..drift.watch import Watch
 from ..errors import ServerError, Unfit
 from ..server import transport
 from ..server.connection import Check, Connection
 from ..server.session import Server, is_same_database, left_at, settle, slot_position
 from ..store import checkpoint as known_of
 from ..store.checkpoint import Checkpoint, check_gap
+from .drift_watch import Watch
 
 if TYPE_CHECKING:
     from ..commands.options import Options

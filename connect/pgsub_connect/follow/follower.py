@@ -20,9 +20,7 @@ from ..add.adder import Adder
 from ..commands.record import Aside
 from ..drift.differences import PUBLICATION
 from ..drift.findings import NOTHING, About
-from ..drift.missed_rows import Misses
 from ..drift.remembered import Remembered
-from ..drift.watch import Watch
 from ..errors import (
     LOGIN,
     FileError,
@@ -55,11 +53,13 @@ from ..store.checkpoint import Checkpoint
 from ..store.snapshot import SOON, Snapshots
 from . import too_large
 from .awake import NEEDED, Awake, processors
+from .drift_watch import Watch
 from .feed import Feeding
 from .filter import MISSED, PIECE, Filter, FilterEnded
 from .fitness import Fitting
 from .gate import LOOK as GATE
 from .gate import WAITED, Gating
+from .missed_rows import Misses
 from .repair import Repairing
 from .skip import Skipping
 from .stall import Standing

@@ -8,17 +8,17 @@ from typing import TYPE_CHECKING
 
 from pgsub_feed import log
 
+from ..drift.differences import NAMES
+from ..drift.doubts import resolved
+from ..drift.remembered import Remembered
+from ..drift.tell_once import warnings
 from ..errors import Passing, ServerError, Unfit
 from ..server.catalog import Catalog, read_catalog
 from ..server.connection import QUICK, Check, Connection
 from ..server.session import settle
 from ..status.progress import Progress
 from ..store.checkpoint import MISSING, Checkpoint
-from .differences import NAMES
-from .doubts import resolved
 from .missed_rows import texts_of
-from .remembered import Remembered
-from .tell_once import warnings
 
 if TYPE_CHECKING:
     from ..commands.options import Options

@@ -19,13 +19,13 @@ from typing import TYPE_CHECKING
 from pgsub_feed import log
 from pgsub_feed.texts import counted, lsn_text
 
+from ..drift.remembered import Remembered
 from ..status.progress import Progress
 from ..store.checkpoint import MISSING, Checkpoint, Counted
-from .remembered import Remembered
 
 if TYPE_CHECKING:
     from ..commands.options import Options
-    from ..follow.filter import Missing
+    from .filter import Missing
 
 # After how many seconds more of them are told at the earliest.
 AGAIN = 10.0
