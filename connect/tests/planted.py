@@ -126,8 +126,8 @@ BUGS = (
     Bug(
         "rows of unlogged partitions are copied",
         "pgsub_connect/server/publications.py",
-        "if of_root and (of_root.unlogged or of_root.foreign)",
-        "if of_root and of_root.foreign",
+        "if it.unlogged or it.foreign}",
+        "if it.foreign}",
         ("test_publishing",),
     ),
     Bug(

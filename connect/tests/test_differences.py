@@ -15,15 +15,8 @@ from pgsub_connect.drift.differences import (
     shape_differences,
 )
 from pgsub_connect.drift.findings import NOTHING, About
-from pgsub_connect.server.catalog import (
-    Catalog,
-    Part,
-    Partition,
-    Publication,
-    Table,
-    note_since,
-    ways_to,
-)
+from pgsub_connect.server.catalog import Catalog, Part, Partition, Publication, Table
+from pgsub_connect.server.catalog_reader import note_since, ways_to
 
 from .vectors import ID, NAME, PGSUB, a_catalog, a_shape, a_table
 

@@ -20,8 +20,8 @@ from pgsub_connect.errors import Passing, Unrepaired
 from pgsub_connect.follow.drift_watch import Watch
 from pgsub_connect.follow.hold import Hold
 from pgsub_connect.follow.repair import Repairing, Unusable, messages_in
+from pgsub_connect.server.catalog import Table
 from pgsub_connect.server.connection import never
-from pgsub_connect.server.publications import Table
 from pgsub_connect.store import snapshot
 from pgsub_connect.store.snapshot import Snapshots
 from pgsub_connect.verify.digests import Plan, text_of

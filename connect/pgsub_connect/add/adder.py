@@ -36,7 +36,8 @@ from ..drift.remembered import Remembered
 from ..errors import NoSlot, Passing, Renewed, ServerError, Stopped, Unconnected, Unfit
 from ..follow.gate import MOST as LONGEST_WAIT
 from ..follow.gate import WAITED, Making
-from ..server.publications import Table, sizes_of
+from ..server.catalog import Table
+from ..server.publications import sizes_of
 from ..verify.meeting_point import Source
 from .addable import Stream, TooLarge, relation_of, table_of, too_large, too_long
 from .replacement import Leaving, Rows, payload_of

@@ -20,9 +20,10 @@ from pgsub_feed.texts import counted
 
 from ..drift.remembered import Remembered
 from ..errors import Passing, ServerError, Stopped
+from ..server.catalog import Table
 from ..server.connection import Check, Connection
 from ..server.publication_setup import names_of
-from ..server.publications import Table, published_tables
+from ..server.publications import published_tables
 from ..server.session import settle
 from ..store.at_rest import (
     LOOK,

@@ -24,7 +24,8 @@ from ..drift.differences import PUBLICATION, VALUES
 from ..drift.doubts import resolved
 from ..drift.remembered import Remembered
 from ..errors import FileError
-from ..server.catalog import Catalog, read_catalog
+from ..server.catalog import Catalog
+from ..server.catalog_reader import read_catalog
 from ..server.connection import Check, Connection
 from ..server.publication_setup import names_of
 from ..server.session import settle

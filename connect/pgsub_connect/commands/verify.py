@@ -29,9 +29,10 @@ from ..drift.remembered import Remembered
 from ..errors import Delayed, FileError, Passing, Stopped, Unfit, Unrepaired
 from ..follow.gate import CURE, TABLE
 from ..server.addresses import parameters
+from ..server.catalog import Table
 from ..server.connection import Check
 from ..server.publication_setup import names_of
-from ..server.publications import Table, sizes_of
+from ..server.publications import sizes_of
 from ..server.session import waits_for
 from ..store.at_rest import check_there, is_followed
 from ..store.checkpoint import Known

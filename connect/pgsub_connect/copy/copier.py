@@ -42,12 +42,12 @@ from ..errors import FileError, Passing, ServerError, Stopped, Unfit, understood
 from ..follow import too_large
 from ..follow.filter import Filter, FilterEnded
 from ..server import transport
-from ..server.catalog import Catalog, read_catalog
+from ..server.catalog import Catalog, Table
+from ..server.catalog_reader import read_catalog
 from ..server.connection import QUICK, Check, Connection, never
 from ..server.lost_slot import IDLE, idle_limit
 from ..server.publication_setup import REFUSED, Look, Maker, Wanted, has_publication
 from ..server.publications import (
-    Table,
     are_so_named,
     estimated_rows,
     published_tables,

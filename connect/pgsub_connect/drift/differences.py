@@ -94,35 +94,39 @@ def table_differences(oid: int, before: Catalog, now: Catalog) -> Iterator[Diffe
     old, new = before.tables.get(oid), now.tables.get(oid)
     if old is None and new is not None:
         if oid in before.partitions:
-            text = f"partition {new.text()} is sent under its own name now: the rows that it had don't change"
+            text = f"partition {new.text_with_oid()} is sent under its own name now: the rows that it had don't change"
             yield Difference(PUBLICATION, text, About((oid,)))
         elif not new.logged:
-            yield Difference("", f"table {new.text()} is new. {UNLOGGED}")
+            yield Difference("", f"table {new.text_with_oid()} is new. {UNLOGGED}")
         elif is_complete(new, before, now):
-            yield Difference("", f"table {new.text()} is new, and followed from its first row on")
+            yield Difference(
+                "", f"table {new.text_with_oid()} is new, and followed from its first row on"
+            )
         else:
-            text = f"table {new.text()} joined: the rows that it had before are missing"
+            text = f"table {new.text_with_oid()} joined: the rows that it had before are missing"
             yield Difference(PUBLICATION, text, About((oid,), is_missing=True))
     elif new is None and old is not None:
         if oid in now.partitions and root_of(oid, now):
-            text = f"partition {old.text()} is sent under another name now: the rows that it had don't change"
+            text = f"partition {old.text_with_oid()} is sent under another name now: the rows that it had don't change"
             yield Difference(PUBLICATION, text, About((oid,), gone=f"{old.namespace}.{old.name}"))
         else:
             yield gone(oid, f"{old.namespace}.{old.name}")
     elif old is not None and new is not None:
-        yield from logging_differences(f"table {new.text()}", (oid,), old.logged, new.logged)
+        yield from logging_differences(
+            f"table {new.text_with_oid()}", (oid,), old.logged, new.logged
+        )
         parts = (
             part_differences(new, old.parts[name], new.parts[name])
             for name in sorted(old.parts.keys() & new.parts.keys())
         )
         told = [*itertools.chain.from_iterable(parts), *sent_differences(old, new, before, now)]
         if not told and has_left(old, new, before, now):
-            text = f"table {new.text()} left and joined again: changes in between weren't sent"
+            text = f"table {new.text_with_oid()} left and joined again: changes in between weren't sent"
             told.append(Difference(PUBLICATION, text, About((oid,))))
         yield from told
-        shapes = list(shape_differences(oid, new.text(), old.shape, new.shape))
+        shapes = list(shape_differences(oid, new.text_with_oid(), old.shape, new.shape))
         if not shapes and is_computed_anew(oid, before, now):
-            text = f"table {new.text()} was written anew, and columns of it were altered: values that were there may be others now"
+            text = f"table {new.text_with_oid()} was written anew, and columns of it were altered: values that were there may be others now"
             shapes.append(Difference(VALUES, text, About((oid,))))
         yield from shapes
 
@@ -244,7 +248,7 @@ def is_made_in(oid: int, before: Catalog, now: Catalog) -> bool:
 
 def part_differences(table: Table, old: Part, new: Part) -> Iterator[Difference]:
     if old.listed != new.listed:
-        text = f"table {table.text()} has another column list: rows that were there have nulls in the columns that joined"
+        text = f"table {table.text_with_oid()} has another column list: rows that were there have nulls in the columns that joined"
         yield Difference(PUBLICATION, text, About((table.oid,)))
 
 
@@ -252,7 +256,7 @@ def sent_differences(old: Table, new: Table, before: Catalog, now: Catalog) -> I
     """What is sent of a table otherwise, by whichever publication. What one of them has altered for
     all its tables is told by that."""
     was, are = ways_of(old, before, now), ways_of(new, now, before)
-    table, about = f"table {new.text()}", About((new.oid,))
+    table, about = f"table {new.text_with_oid()}", About((new.oid,))
     for word in sorted(was.keys() - are.keys(), key=ACTIONS.index):
         yield Difference(
             PUBLICATION, f"{table} has no {word}s any more", about._replace(lacks=word)
@@ -374,14 +378,12 @@ def partition_differences(before: Catalog, now: Catalog) -> Iterator[Difference]
     for oid in sorted(before.partitions.keys() | now.partitions.keys()):
         was, root = root_of(oid, before), root_of(oid, now)
         if was != root and was in now.tables:
-            partition = (
-                f"partition {before.partitions[oid].name} ({oid}) of {now.tables[was].text()}"
-            )
+            partition = f"partition {before.partitions[oid].name} ({oid}) of {now.tables[was].text_with_oid()}"
             yield Difference(
                 PUBLICATION, f"{partition} was detached or dropped: its rows stay", About((was,))
             )
         if was != root and root in before.tables:
-            partition = f"partition {now.partitions[oid].name} ({oid}) of {now.tables[root].text()}"
+            partition = f"partition {now.partitions[oid].name} ({oid}) of {now.tables[root].text_with_oid()}"
             if not now.partitions[oid].logged:
                 yield Difference("", f"{partition} is new. {UNLOGGED}")
             elif is_made_in(oid, before, now) or oid in now.fresh:
@@ -391,7 +393,7 @@ def partition_differences(before: Catalog, now: Catalog) -> Iterator[Difference]
                 yield Difference(PUBLICATION, text, About((root,), is_missing=True))
         if was == root and was in now.tables:
             old, new = before.partitions[oid], now.partitions[oid]
-            partition = f"partition {new.name} ({oid}) of {now.tables[root].text()}"
+            partition = f"partition {new.name} ({oid}) of {now.tables[root].text_with_oid()}"
             yield from logging_differences(partition, (root,), old.logged, new.logged)
     yield from truncations(before, now)
     yield from dict.fromkeys(detachments(before, now))
@@ -408,7 +410,7 @@ def detachments(before: Catalog, now: Catalog) -> Iterator[Difference]:
                 and "" not in (old.since, new.since)
                 and (old.parent, old.since) != (new.parent, new.since)
             ):
-                partition = f"partition {new.name} ({at}) of {now.tables[root].text()}"
+                partition = f"partition {new.name} ({at}) of {now.tables[root].text_with_oid()}"
                 text = (
                     f"{partition} was detached and attached again: changes in between weren't sent"
                 )
@@ -422,7 +424,7 @@ def truncations(before: Catalog, now: Catalog) -> Iterator[Difference]:
     for oid, root in written_partitions(before, now).items():
         # (rows that are older than the earlier reading tell that it wasn't truncated)
         if oid not in now.kept:
-            partition = f"partition {now.partitions[oid].name} ({oid}) of {now.tables[root].text()}"
+            partition = f"partition {now.partitions[oid].name} ({oid}) of {now.tables[root].text_with_oid()}"
             text = f"{partition} was truncated or written anew: if it was truncated, its rows stay"
             yield Difference(PUBLICATION, text, About((root,)))
 

@@ -13,7 +13,8 @@ from ..drift.doubts import resolved
 from ..drift.remembered import Remembered
 from ..drift.tell_once import warnings
 from ..errors import Passing, ServerError, Unfit
-from ..server.catalog import Catalog, read_catalog
+from ..server.catalog import Catalog
+from ..server.catalog_reader import read_catalog
 from ..server.connection import QUICK, Check, Connection
 from ..server.session import settle
 from ..status.progress import Progress

@@ -19,6 +19,7 @@ from .publication_setup import (
     publishable,
     tree_of,
 )
+from .slot import Slot, read_slot
 from .transport import Protection
 from .waits import prepared_texts
 
@@ -52,20 +53,6 @@ class Role:
 
 
 @dataclasses.dataclass
-class Slot:
-    """A slot of the wanted name. What the server's version doesn't have is empty."""
-
-    plugin: str = "pgoutput"
-    is_here: bool = True
-    is_active: bool = False
-    is_two_phase: bool = False
-    wal_status: str = ""
-    safe_wal_size: str = ""
-    is_failover: bool = False
-    why_invalid: str = ""
-
-
-@dataclasses.dataclass
 class TableFacts:
     """A table that is published, or would be."""
 
@@ -78,7 +65,7 @@ class TableFacts:
 
 
 @dataclasses.dataclass
-class Publication:
+class PublicationFacts:
     """A publication, which is there or would be made."""
 
     name: str
@@ -101,7 +88,7 @@ class Facts:
     senders: int = 0
     role: Role = dataclasses.field(default_factory=Role)
     slot: Slot | None = None
-    publications: list[Publication] = dataclasses.field(default_factory=list)
+    publications: list[PublicationFacts] = dataclasses.field(default_factory=list)
     tables: list[TableFacts] = dataclasses.field(default_factory=list)
     unknown: list[str] = dataclasses.field(default_factory=list)
     relations: int = 0
@@ -138,7 +125,7 @@ def server_facts(connection: Connection, slot: str) -> Facts:
         slots=int(slots or 0),
         senders=int(senders or 0),
         role=role_facts(connection),
-        slot=slot_facts(connection, slot),
+        slot=read_slot(connection, slot),
     )
 
 
@@ -163,38 +150,6 @@ def replicators(connection: Connection) -> str:
     )
 
 
-@understood("a slot")
-def slot_facts(connection: Connection, slot: str) -> Slot | None:
-    version = connection.version()
-    columns = [
-        name if version >= since else "NULL"
-        for name, since in (
-            ("s.two_phase", 140000),
-            ("s.wal_status", 130000),
-            ("s.safe_wal_size", 130000),
-            ("s.failover", 170000),
-            ("s.invalidation_reason", 170000),
-        )
-    ]
-    rows = connection.rows(
-        f"SELECT s.plugin, s.database = pg_catalog.current_database(), s.active, {', '.join(columns)}"
-        f" FROM pg_catalog.pg_replication_slots s WHERE s.slot_name = {literal(slot)}"
-    )
-    if not rows:
-        return None
-    plugin, here, active, two_phase, status, size, failover, why = rows[0]
-    return Slot(
-        plugin or "none",
-        true(here),
-        true(active),
-        true(two_phase),
-        status or "",
-        size or "",
-        true(failover),
-        why or "",
-    )
-
-
 @understood("the publications")
 def publication_facts(connection: Connection, facts: Facts, wanted: Wanted) -> None:
     """What concerns the publications, and the tables that they have or would have."""
@@ -208,7 +163,7 @@ def publication_facts(connection: Connection, facts: Facts, wanted: Wanted) -> N
             facts.unknown += unknown
             keyless = keyless_of(connection, source) if source else {}
             facts.publications.append(
-                Publication(name, is_there=False, keyless=list(keyless.values()))
+                PublicationFacts(name, is_there=False, keyless=list(keyless.values()))
             )
             sources += [source] if source else []
     source = " UNION ".join(sources) or "SELECT 0::pg_catalog.oid AS relid WHERE false"
@@ -222,12 +177,14 @@ def publication_facts(connection: Connection, facts: Facts, wanted: Wanted) -> N
     facts.relations = int(count or 0)
 
 
-def publication_there(connection: Connection, name: str) -> Publication:
+def publication_there(connection: Connection, name: str) -> PublicationFacts:
     """A publication that is there: the kinds of changes that it leaves out, and tables without an
     identity for those that it has."""
     left_out = kinds_left_out(connection, name)
     keyless = {} if {"update", "delete"} <= set(left_out) else keyless_tables(connection, name)
-    return Publication(name, True, left_out, mixed_roots(connection, name), list(keyless.values()))
+    return PublicationFacts(
+        name, True, left_out, mixed_roots(connection, name), list(keyless.values())
+    )
 
 
 def mixed_roots(connection: Connection, name: str) -> list[str]:

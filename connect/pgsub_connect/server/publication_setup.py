@@ -19,8 +19,8 @@ from pgsub_feed import log
 from pgsub_feed.texts import counted, identifier, literal
 
 from ..errors import ServerError, Unfit, understood
+from .catalog_reader import EXACT, FINE, UNIQUE
 from .connection import Check, Connection
-from .publications import EXACT, FINE, UNIQUE
 from .waits import Waiting, lock_text
 
 REFUSED = "55000"

@@ -21,8 +21,9 @@ from ..copy.table_reader import GONE, LOCK_TIMEOUT, lock_tables, take_snapshot
 from ..drift.remembered import Remembered
 from ..errors import Delayed, NoSlot, Passing, ServerError, Unfit, Unrepaired
 from ..follow.hold import CHANGES, write_own_request
+from ..server.catalog import Table
 from ..server.connection import Check, Connection
-from ..server.publications import Table, published_tables
+from ..server.publications import published_tables
 from ..server.session import identify, is_same_database, settle
 from ..server.waits import Waiting
 from ..store.at_rest import (

@@ -53,9 +53,9 @@ from ..commands.verify import (
 from ..commands.wait import LOOK, read_file
 from ..drift.remembered import Relation, Remembered
 from ..errors import FileError, Passing, Stopped, Unfit
+from ..server.catalog import Column, Shape, Table
 from ..server.connection import Check
 from ..server.publication_setup import names_of
-from ..server.publications import Column, Table
 from ..store.checkpoint import FOLLOWING, Known
 from .digests import Plan, Sums, chunks_for
 from .meeting_point import Source, chosen
@@ -362,14 +362,11 @@ def tables_of(views: Sequence[View]) -> list[Table]:
                         schema,
                         relation.name,
                         "r",
-                        relation.shape.identity,
-                        None,
-                        None,
-                        columns,
+                        Shape(relation.shape.identity, tuple(columns)),
                     ),
                 )
     asides = {oid: it for view in views for oid, it in view.asides.items() if oid not in found}
     return [
         *found.values(),
-        *(Table(oid, it.schema, it.table, "r", "", None, None, []) for oid, it in asides.items()),
+        *(Table(oid, it.schema, it.table, "r", Shape("", ())) for oid, it in asides.items()),
     ]
