@@ -66,6 +66,9 @@ class FakeConnection:
         self.ends = os.pipe()
         server.open.append(self)
 
+    def set_check(self, check: Callable[[], None]) -> None:
+        self.check = check
+
     def rows(self, command: str, limit: float = 0) -> list[Row]:
         return self.server.rows_for(command)
 

@@ -132,7 +132,7 @@ BUGS = (
     ),
     Bug(
         "a partition that isn't logged any more isn't told",
-        "pgsub_connect/drift/differences.py",
+        "pgsub_connect/drift/partition_differences.py",
         "    if old and not new:\n        text",
         "    if old and new is None:\n        text",
         ("test_differences",),

@@ -12,14 +12,9 @@ from pgsub_connect.errors import ServerError, Stopped
 from pgsub_connect.server import publication_setup
 from pgsub_connect.server.catalog import Column, Leaves, Part, Shape, Table
 from pgsub_connect.server.catalog_reader import read_parts
-from pgsub_connect.server.publication_setup import (
-    Maker,
-    Wanted,
-    identity,
-    names_of,
-    publishable_tables,
-)
+from pgsub_connect.server.publication_setup import Maker, Wanted, names_of
 from pgsub_connect.server.publications import published_tables, united, with_cure
+from pgsub_connect.server.replica_identity import identity, publishable_tables
 from tests.fake_server import FakeServer, Quiet, Row, connection_to
 
 KEY, OTHER = Column("id", 23, -1, True), Column('Q"x', 25, -1, False)

@@ -30,8 +30,7 @@ from pgsub_feed.texts import counted, lsn_text
 
 from ..copy.copier import PASSING
 from ..copy.table_reader import BLOCK, GONE
-from ..drift.differences import PUBLICATION
-from ..drift.findings import About
+from ..drift.findings import PUBLICATION, About
 from ..drift.remembered import Remembered
 from ..errors import NoSlot, Passing, Renewed, ServerError, Stopped, Unconnected, Unfit
 from ..follow.gate import MOST as LONGEST_WAIT

@@ -15,7 +15,8 @@ from pgsub_feed.texts import counted
 from ..errors import ServerError, UsageError
 from ..server.connection import Check, Connection, never
 from ..server.preflight import Facts, all_facts, role_facts, server_facts, tables_facts
-from ..server.publication_setup import REFUSED, Wanted, inserts_of, keyless_text, members, names_of
+from ..server.publication_setup import REFUSED, Wanted, inserts_of, keyless_text, names_of
+from ..server.replica_identity import members
 from ..server.transport import CURE, OWN
 
 if TYPE_CHECKING:

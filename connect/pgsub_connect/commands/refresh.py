@@ -20,8 +20,8 @@ from typing import TYPE_CHECKING, NamedTuple
 from pgsub_feed import log
 from pgsub_feed.texts import counted
 
-from ..drift.differences import PUBLICATION, VALUES
 from ..drift.doubts import resolved
+from ..drift.findings import PUBLICATION, VALUES
 from ..drift.remembered import Remembered
 from ..errors import FileError
 from ..server.catalog import Catalog

@@ -36,8 +36,8 @@ from pgsub_feed.ownership import set_mode
 from pgsub_feed.texts import counted, identifier, literal, lsn_text, parse_lsn
 
 from ..commands.check import require, require_reading
-from ..drift.differences import PUBLICATION, root_of
-from ..drift.findings import About
+from ..drift.findings import PUBLICATION, About
+from ..drift.partition_differences import root_of
 from ..errors import FileError, Passing, ServerError, Stopped, Unfit, understood
 from ..follow import too_large
 from ..follow.filter import Filter, FilterEnded
@@ -46,7 +46,8 @@ from ..server.catalog import Catalog, Table
 from ..server.catalog_reader import read_catalog
 from ..server.connection import QUICK, Check, Connection, never
 from ..server.lost_slot import IDLE, idle_limit
-from ..server.publication_setup import REFUSED, Look, Maker, Wanted, has_publication
+from ..server.publication_content import has_publication
+from ..server.publication_setup import REFUSED, Look, Maker, Wanted
 from ..server.publications import (
     are_so_named,
     estimated_rows,

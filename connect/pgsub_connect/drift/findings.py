@@ -10,6 +10,8 @@ import dataclasses
 from collections.abc import Iterable
 from typing import Any, NamedTuple
 
+NAMES, PUBLICATION, VALUES = "names", "publication", "values"
+KINDS = (NAMES, PUBLICATION, VALUES)
 # How many texts of one kind are kept, but for the first one of each table.
 MOST = 100
 
@@ -46,6 +48,14 @@ def about_of(said: dict[str, Any]) -> About:
         bool(said.get("is_missing", False)),
         str(said.get("gone", "")),
     )
+
+
+class Difference(NamedTuple):
+    """One of them. A kind of "" says that nothing can be wrong because of it."""
+
+    kind: str
+    text: str
+    about: About = NOTHING
 
 
 @dataclasses.dataclass

@@ -44,9 +44,10 @@ from pgsub_feed.texts import lsn_text, parse_lsn, shortened
 
 from ..errors import FileError, Passing
 from ..server.catalog import Catalog, Column, Part, Partition, Publication, Shape, Table
-from .differences import NAMES, differences, gone, shape_differences
-from .findings import NOTHING, About, Found, about_of
+from .differences import differences, gone
+from .findings import NAMES, NOTHING, About, Found, about_of
 from .remembered_lines import check_said, noted_in, read_lines
+from .shape_differences import shape_differences
 
 FORMAT = 1
 NEW = ".new"

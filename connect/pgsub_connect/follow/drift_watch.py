@@ -8,8 +8,8 @@ from typing import TYPE_CHECKING
 
 from pgsub_feed import log
 
-from ..drift.differences import NAMES
 from ..drift.doubts import resolved
+from ..drift.findings import NAMES
 from ..drift.remembered import Remembered
 from ..drift.tell_once import warnings
 from ..errors import Passing, ServerError, Unfit

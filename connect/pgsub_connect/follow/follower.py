@@ -18,8 +18,7 @@ from pgsub_feed.texts import counted, identifier, lsn_text, replication_literal
 
 from ..add.adder import Adder
 from ..commands.record import Aside
-from ..drift.differences import PUBLICATION
-from ..drift.findings import NOTHING, About
+from ..drift.findings import NOTHING, PUBLICATION, About
 from ..drift.remembered import Remembered
 from ..errors import (
     LOGIN,

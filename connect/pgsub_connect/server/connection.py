@@ -78,6 +78,10 @@ class Connection:
         self.number = self.raw.socket
         self.wire = wire_of(self.raw)
 
+    def set_check(self, check: Check) -> None:
+        """Has this called from now on while something is waited for."""
+        self.check = check
+
     def error(self) -> str:
         return said_text(self.raw.error_message)
 

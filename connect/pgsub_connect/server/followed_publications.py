@@ -10,7 +10,8 @@ from pgsub_feed.texts import literal
 from ..errors import ServerError, understood
 from .connection import Check, Connection
 from .preflight import source_wanted
-from .publication_setup import REFUSED, Wanted, keyless_of, names_of
+from .publication_setup import REFUSED, Wanted, names_of
+from .replica_identity import keyless_of
 from .session import settle
 
 if TYPE_CHECKING:

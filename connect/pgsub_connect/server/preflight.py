@@ -9,16 +9,9 @@ from pgsub_feed.texts import literal
 
 from ..errors import ServerError, understood
 from .connection import Check, Connection
-from .publication_setup import (
-    Wanted,
-    has_publication,
-    keyless_of,
-    keyless_tables,
-    kinds_left_out,
-    members,
-    publishable,
-    tree_of,
-)
+from .publication_content import has_publication, kinds_left_out
+from .publication_setup import Wanted
+from .replica_identity import keyless_of, keyless_tables, members, publishable, tree_of
 from .slot import Slot, read_slot
 from .transport import Protection
 from .waits import prepared_texts
@@ -151,30 +144,33 @@ def replicators(connection: Connection) -> str:
 
 
 @understood("the publications")
-def publication_facts(connection: Connection, facts: Facts, wanted: Wanted) -> None:
-    """What concerns the publications, and the tables that they have or would have."""
-    sources = []
+def with_publications(connection: Connection, facts: Facts, wanted: Wanted) -> Facts:
+    """Facts with what concerns the publications, and the tables that they have or would have."""
+    found, nameless, sources = list[PublicationFacts](), list[str](), list[str]()
     for name in wanted.publications:
         if has_publication(connection, name):
-            facts.publications.append(publication_there(connection, name))
+            found.append(publication_there(connection, name))
             sources.append(members(name))
         else:
             source, unknown = source_wanted(connection, wanted)
-            facts.unknown += unknown
+            nameless += unknown
             keyless = keyless_of(connection, source) if source else {}
-            facts.publications.append(
-                PublicationFacts(name, is_there=False, keyless=list(keyless.values()))
-            )
+            found.append(PublicationFacts(name, is_there=False, keyless=list(keyless.values())))
             sources += [source] if source else []
     source = " UNION ".join(sources) or "SELECT 0::pg_catalog.oid AS relid WHERE false"
-    facts.tables = tables_facts(connection, source)
     trees = f"SELECT DISTINCT t.part FROM {tree_of(connection, source)} t"
     # (a table, its indexes and what it keeps out of line are locked while it is read)
     count = connection.value(
         f"SELECT pg_catalog.count(*) + (SELECT pg_catalog.count(*) FROM pg_catalog.pg_index i WHERE i.indrelid IN ({trees}))"
         f" FROM ({trees}) p"
     )
-    facts.relations = int(count or 0)
+    return dataclasses.replace(
+        facts,
+        publications=found,
+        unknown=nameless,
+        tables=tables_facts(connection, source),
+        relations=int(count or 0),
+    )
 
 
 def publication_there(connection: Connection, name: str) -> PublicationFacts:
@@ -250,15 +246,20 @@ def all_facts(dsn: str, slot: str, wanted: Wanted, check: Check) -> Facts:
     """Everything, by a plain connection, and whether one for replication can be made."""
     connection = Connection(dsn, name=f"{slot} check", check=check)
     try:
-        facts = server_facts(connection, slot)
-        publication_facts(connection, facts, wanted)
-        facts.prepared = prepared_texts(connection)
-        facts.replicators = "" if facts.role.replicates else replicators(connection)
+        facts = with_publications(connection, server_facts(connection, slot), wanted)
+        prepared = prepared_texts(connection)
+        provided = "" if facts.role.replicates else replicators(connection)
     finally:
         connection.close()
+    why = ""
     try:
         Connection(dsn, replication=True, name=f"{slot} check", check=check).close()
-        facts.has_replicated = True
     except ServerError as error:
-        facts.replication_error = str(error)
-    return facts
+        why = str(error)
+    return dataclasses.replace(
+        facts,
+        prepared=prepared,
+        replicators=provided,
+        replication_error=why,
+        has_replicated=not why,
+    )
