@@ -274,7 +274,7 @@ class Mended(Case):
             self.assertEqual(remembered.added(oid, remembered.found_of(oid)), kinds)
             self.assertEqual([it.oid for it in compared(remembered, now)], left)
             remembered.restore(remembered.written())
-        self.assertEqual((remembered.found, remembered.mended), ({}, {}))
+        self.assertEqual((remembered.found, remembered.found.mended), ({}, {}))
 
     def test_what_is_found_again_is_to_be_mended_again(self) -> None:
         remembered = self.remembered

@@ -68,7 +68,7 @@ def compared(remembered: Remembered, now: Catalog) -> list[Told]:
         for text in texts_of(remembered, kind):
             oids = remembered.tables_of(text)
             for oid in oids:
-                if oid not in remembered.mended.get(text, ()):
+                if oid not in remembered.found.mended.get(text, ()):
                     found.setdefault(oid, []).append(text)
             if not oids:
                 others.append(text)

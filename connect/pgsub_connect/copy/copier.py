@@ -662,7 +662,7 @@ class Copier:
     def keep(self) -> None:
         """Gives the files their own names, that of the store last."""
         if self.remembered.copied:
-            self.remembered.copied = {}
+            self.remembered.copied.clear()
             self.remembered.save()
         self.set_mode()
         try:
