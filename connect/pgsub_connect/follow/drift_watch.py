@@ -42,12 +42,8 @@ class Watch:
     def __init__(
         self, options: Options, checkpoint: Checkpoint, progress: Progress, remembered: Remembered
     ) -> None:
-        self.options, self.checkpoint, self.progress, self.remembered = (
-            options,
-            checkpoint,
-            progress,
-            remembered,
-        )
+        self.options, self.checkpoint = options, checkpoint
+        self.progress, self.remembered = progress, remembered
         self.next_look = self.next_save = 0.0
         # when the publications were looked at last
         self.looked = time.monotonic()

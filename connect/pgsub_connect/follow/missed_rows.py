@@ -54,12 +54,8 @@ class Misses:
     def __init__(
         self, options: Options, checkpoint: Checkpoint, progress: Progress, remembered: Remembered
     ) -> None:
-        self.options, self.checkpoint, self.progress, self.remembered = (
-            options,
-            checkpoint,
-            progress,
-            remembered,
-        )
+        self.options, self.checkpoint = options, checkpoint
+        self.progress, self.remembered = progress, remembered
         self.count = 0
         # how many of the filter that runs are noted
         self.noted = 0

@@ -9,7 +9,7 @@ from pgsub_feed.texts import identifier
 
 from ..errors import ServerError, understood
 from .catalog import Leaves, Part, Table
-from .catalog_reader import read_parts
+from .catalog_reader import listed_oids, read_parts
 from .connection import Connection
 
 DIFFERENT_LISTS = "0A000"
@@ -97,18 +97,26 @@ def united(tables: list[Table]) -> Table:
     return Table(first.oid, first.namespace, first.name, first.kind, first.shape, parts)
 
 
+def trees(tables: list[Table]) -> str:
+    """A part of a query: the OIDs of tables, each with those of itself and of the partitions below
+    it."""
+    return (
+        "(SELECT c.oid, t.relid FROM pg_catalog.pg_class c,"
+        " LATERAL (SELECT c.oid AS relid UNION SELECT i.relid FROM pg_catalog.pg_partition_tree(c.oid) i) t"
+        f" WHERE c.oid IN ({listed_oids([it.oid for it in tables])})) t"
+    )
+
+
 @understood("the files of tables")
 def stored_in(connection: Connection, tables: list[Table]) -> dict[int, str | None]:
     """Which file each table's rows are in now. TRUNCATE and an ALTER TABLE that writes all rows
     anew change it."""
-    oids = ", ".join(str(table.oid) for table in tables)
-    if not oids:
+    if not tables:
         return {}
-    rows = connection.rows(
-        "SELECT t.relid, pg_catalog.pg_relation_filenode(t.relid) FROM pg_catalog.pg_class c,"
-        " LATERAL (SELECT c.oid AS relid UNION SELECT i.relid FROM pg_catalog.pg_partition_tree(c.oid) i) t"
-        f" WHERE c.oid IN ({oids}) ORDER BY 1"
+    query = (
+        f"SELECT t.relid, pg_catalog.pg_relation_filenode(t.relid) FROM {trees(tables)} ORDER BY 1"
     )
+    rows = connection.rows(query)
     return {int(relid or 0): node for relid, node in rows}
 
 
@@ -121,7 +129,7 @@ def are_so_named(connection: Connection, tables: list[Table]) -> bool:
     """
     if not tables:
         return True
-    oids = ", ".join(str(table.oid) for table in tables)
+    oids = listed_oids([it.oid for it in tables])
     names = connection.rows(
         "SELECT c.oid, n.nspname, c.relname FROM pg_catalog.pg_class c"
         f" JOIN pg_catalog.pg_namespace n ON n.oid = c.relnamespace WHERE c.oid IN ({oids})"
@@ -144,13 +152,11 @@ def are_so_named(connection: Connection, tables: list[Table]) -> bool:
 @understood("the sizes of tables")
 def sizes_of(connection: Connection, tables: list[Table]) -> dict[int, int]:
     """How many bytes the files of each table have, with those of its partitions."""
-    oids = ", ".join(str(table.oid) for table in tables)
-    if not oids:
+    if not tables:
         return {}
     rows = connection.rows(
-        "SELECT c.oid, pg_catalog.sum(pg_catalog.pg_table_size(t.relid))::pg_catalog.int8 FROM pg_catalog.pg_class c,"
-        " LATERAL (SELECT c.oid AS relid UNION SELECT i.relid FROM pg_catalog.pg_partition_tree(c.oid) i) t"
-        f" WHERE c.oid IN ({oids}) GROUP BY c.oid"
+        "SELECT t.oid, pg_catalog.sum(pg_catalog.pg_table_size(t.relid))::pg_catalog.int8"
+        f" FROM {trees(tables)} GROUP BY t.oid"
     )
     return {int(oid or 0): int(size or 0) for oid, size in rows}
 
@@ -158,13 +164,10 @@ def sizes_of(connection: Connection, tables: list[Table]) -> dict[int, int]:
 @understood("the sizes of tables")
 def estimated_rows(connection: Connection, tables: list[Table]) -> int | None:
     """How many rows the tables have by the server's statistics; None where it has none of them."""
-    oids = ", ".join(str(table.oid) for table in tables)
-    if not oids:
+    if not tables:
         return 0
     text = connection.value(
-        "SELECT pg_catalog.sum(l.reltuples)::pg_catalog.int8 FROM pg_catalog.pg_class c,"
-        " LATERAL (SELECT c.oid AS relid UNION SELECT i.relid FROM pg_catalog.pg_partition_tree(c.oid) i) t"
-        " JOIN pg_catalog.pg_class l ON l.oid = t.relid"
-        f" WHERE c.oid IN ({oids}) AND l.relkind = 'r' AND l.reltuples >= 0"
+        f"SELECT pg_catalog.sum(l.reltuples)::pg_catalog.int8 FROM {trees(tables)}"
+        " JOIN pg_catalog.pg_class l ON l.oid = t.relid WHERE l.relkind = 'r' AND l.reltuples >= 0"
     )
     return int(text) if text is not None else None
