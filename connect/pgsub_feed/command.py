@@ -14,9 +14,9 @@ from pgsub_connect.cli import guarded
 from pgsub_connect.commands.arguments.types import lsn
 from pgsub_connect.commands.arguments.version import TellVersion
 from pgsub_connect.commands.signals import Start, stop_by_signals
-from pgsub_connect.drift.remembered import Relation
+from pgsub_connect.drift.relation import Relation
 from pgsub_connect.errors import Stopped
-from pgsub_connect.server.connection import Check
+from pgsub_connect.server.ticks import Check
 
 from . import log
 from .formats.bulk import Bulk

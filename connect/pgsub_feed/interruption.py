@@ -13,7 +13,7 @@ import threading
 from collections.abc import Iterator
 
 from pgsub_connect.errors import Stopped
-from pgsub_connect.server.connection import Check
+from pgsub_connect.server.ticks import Check
 
 
 class Calls:

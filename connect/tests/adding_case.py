@@ -15,12 +15,11 @@ from typing import Any
 from unittest import mock
 
 from pgsub_connect.add import adder, requests
-from pgsub_connect.drift import watch
 from pgsub_connect.drift.remembered import Remembered
-from pgsub_connect.follow import follower, statuses
+from pgsub_connect.follow import drift_watch, follower, statuses
 from pgsub_connect.follow.filter import Filter
 from pgsub_connect.follow.follower import Follower
-from pgsub_connect.server import connection
+from pgsub_connect.server import ticks
 from pgsub_connect.status.progress import Progress
 from pgsub_connect.store.checkpoint import Checkpoint
 from pgsub_connect.store.checkpoint_at_rest import read_known
@@ -172,7 +171,7 @@ class Case(Quiet):
         self.server = WorldServer(self.folder, self.brain, self.world)
         self.addCleanup(self.server.close)
         for where, name, by in (
-            (connection, "TICK", 0.02),
+            (ticks, "TICK", 0.02),
             (follower, "STEP", 0.02),
             (follower, "SLEEP", 0.02),
             (follower, "ASK", 0.02),
@@ -180,8 +179,8 @@ class Case(Quiet):
             (follower, "FIRST_DELAY", 0.01),
             (adder, "FIRST_DELAY", 0.02),
             (requests, "Source", WorldSource),
-            (watch.Watch, "compare", lambda *_: True),
-            (watch.Watch, "look_again", lambda *_: True),
+            (drift_watch.Watch, "compare", lambda *_: True),
+            (drift_watch.Watch, "look_again", lambda *_: True),
         ):
             self.patch(where, name, by)
         WorldSource.world = self.world

@@ -8,7 +8,7 @@ import re
 from collections.abc import Callable, Sequence
 from typing import Any
 
-from pgsub_connect.server.connection import Check, never
+from pgsub_connect.server.ticks import Check, never
 from pgsub_feed.sinks.redis_calls import Command, Said
 
 WRONG_TYPE = "WRONGTYPE Operation against a key holding the wrong kind of value"

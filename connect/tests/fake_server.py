@@ -75,6 +75,9 @@ class FakeConnection:
         finally:
             self.check = own
 
+    def set_check(self, check: Callable[[], None]) -> None:
+        self.check = check
+
     def rows(self, command: str, limit: float = 0) -> list[Row]:
         return self.server.rows_for(command)
 

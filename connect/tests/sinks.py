@@ -10,7 +10,7 @@ from feed_text import Line
 
 from pgsub_connect.commands import sink
 from pgsub_connect.commands.sink import Options
-from pgsub_connect.server.connection import never
+from pgsub_connect.server.ticks import never
 
 from .fake_redis import FakeCalls, FakeRedis
 from .feeds import FeedCase

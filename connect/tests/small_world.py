@@ -5,6 +5,7 @@ from __future__ import annotations
 
 import collections
 import contextlib
+import dataclasses
 import re
 import select
 import socket
@@ -14,11 +15,8 @@ import time
 from collections.abc import Callable, Iterator
 
 from pgsub_connect.copy.messages import relation as relation_body
-from pgsub_connect.server.catalog import Column as CatalogColumn
-from pgsub_connect.server.catalog import Part, Shape
-from pgsub_connect.server.catalog import Table as CatalogTable
-from pgsub_connect.server.connection import Check
-from pgsub_connect.server.publications import Column, Table
+from pgsub_connect.server.catalog import Column, Part, Shape, Table
+from pgsub_connect.server.ticks import Check
 from pgsub_feed.texts import parse_lsn
 
 from .fake_server import FakeServer
@@ -37,25 +35,12 @@ def table(oid: int, name: str) -> Table:
         "public",
         name,
         "r",
-        "d",
-        None,
-        None,
-        [Column("id", 23, -1, True, 1), Column("note", 25, -1, False, 2)],
+        Shape("d", (Column("id", 23, -1, True, 1), Column("note", 25, -1, False, 2))),
     )
 
 
-def catalog_table(it: Table) -> CatalogTable:
-    columns = tuple(
-        CatalogColumn(c.name, c.type_oid, c.modifier, c.key, c.number) for c in it.columns
-    )
-    return CatalogTable(
-        it.oid,
-        it.namespace,
-        it.name,
-        it.kind,
-        Shape(it.identity, columns),
-        {"pgsub": Part(None, None, False)},
-    )
+def catalog_table(it: Table) -> Table:
+    return dataclasses.replace(it, parts={"pgsub": Part(None, None, False)})
 
 
 def cells(*values: str) -> bytes:

@@ -14,6 +14,7 @@ from pgsub_connect.add.replacement import Rows
 from pgsub_connect.drift.findings import About
 from pgsub_connect.drift.remembered import Remembered
 from pgsub_connect.errors import NoSlot, Passing, ServerError, Stopped
+from pgsub_connect.server.catalog import Shape
 from pgsub_connect.store.checkpoint import Checkpoint
 
 from .adding_case import OTHER, THIRD, Case, Run, T
@@ -196,10 +197,8 @@ class Altered(Case):
         """Alters the table for who reads it. A session has described it as it was before, and
         doesn't tell."""
         it = self.world.known[T]
-        columns = [dataclasses.replace(column, key=True) for column in it.columns]
-        self.world.tables[T] = (
-            dataclasses.replace(it, identity="f", columns=columns) if is_full else it
-        )
+        columns = tuple(column._replace(key=True) for column in it.columns)
+        self.world.tables[T] = dataclasses.replace(it, shape=Shape("f", columns)) if is_full else it
 
     def described(self, **options: object) -> Run:
         """Begins to add tables, and lets their changes come, which are left out."""

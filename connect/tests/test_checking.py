@@ -17,18 +17,17 @@ from pgsub_connect.preconditions.result import ERROR, OK, WARNING, Purpose, Resu
 from pgsub_connect.server import preflight
 from pgsub_connect.server.preflight import (
     Facts,
-    Publication,
+    PublicationFacts,
     Role,
-    Slot,
     TableFacts,
     server_facts,
-    slot_facts,
     source_wanted,
 )
 from pgsub_connect.server.publication_setup import Wanted
+from pgsub_connect.server.slot import Slot, read_slot
 from pgsub_connect.server.transport import Protection
-from tests.fake_server import FakeServer, connection_to
 
+from .fake_server import FakeServer, connection_to
 from .settled import options_of
 
 SETTINGS = {
@@ -51,7 +50,7 @@ def well() -> Facts:
         settings=dict(SETTINGS),
         database="shop",
         role=Role("f", False, True, True),
-        publications=[Publication("pgsub")],
+        publications=[PublicationFacts("pgsub")],
         tables=[TableFacts("public.stock")],
         relations=2,
     )
@@ -208,7 +207,7 @@ class Judging(unittest.TestCase):
         )
 
     def test_making(self) -> None:
-        missing = [Publication("pgsub", is_there=False)]
+        missing = [PublicationFacts("pgsub", is_there=False)]
         self.expect(
             OK, "publication", "can be made with 1 table: pgsub", changed(publications=missing)
         )
@@ -268,13 +267,13 @@ class Judging(unittest.TestCase):
             WARNING,
             "publication",
             "pgsub leaves out: update",
-            changed(publications=[Publication("pgsub", leaves_out=["update"])]),
+            changed(publications=[PublicationFacts("pgsub", leaves_out=["update"])]),
         )
         self.expect(
             OK,
             "publication",
             "",
-            changed(publications=[Publication("pgsub_inserts", leaves_out=["update"])]),
+            changed(publications=[PublicationFacts("pgsub_inserts", leaves_out=["update"])]),
         )
         self.expect(WARNING, "publication", "no table", changed(tables=[]))
 
@@ -284,16 +283,18 @@ class Judging(unittest.TestCase):
             ERROR,
             "identity",
             "public.audit",
-            changed(publications=[Publication("p", keyless=["public.audit"])]),
+            changed(publications=[PublicationFacts("p", keyless=["public.audit"])]),
         )
-        to_come = changed(publications=[Publication("p", is_there=False, keyless=["public.audit"])])
+        to_come = changed(
+            publications=[PublicationFacts("p", is_there=False, keyless=["public.audit"])]
+        )
         self.expect(ERROR, "identity", "--keyless leave-out", to_come)
         self.expect(WARNING, "identity", "not published or for Inserts", to_come, keyless="inserts")
         self.expect(
             WARNING,
             "identity",
             "public.p",
-            changed(publications=[Publication("p", mixed=["public.p"])]),
+            changed(publications=[PublicationFacts("p", mixed=["public.p"])]),
         )
 
     def test_reading(self) -> None:
@@ -341,7 +342,7 @@ class Judging(unittest.TestCase):
             OK,
             "slot",
             "7 bytes of log before it is lost",
-            slot(wal_status="extended", safe_wal_size="7"),
+            slot(wal_status="extended", safe_wal_size=7),
             has_store=True,
         )
 
@@ -381,8 +382,8 @@ class Asking(unittest.TestCase):
                 "pg_replication_slots", [["pgoutput", "t", "t", "f", "reserved", "9", "t", None]]
             )
             self.assertEqual(
-                slot_facts(connection_to(server), "s"),
-                Slot("pgoutput", True, True, False, "reserved", "9", True, ""),
+                read_slot(connection_to(server), "s"),
+                Slot("pgoutput", True, True, False, "reserved", 9, True, ""),
             )
             self.assertIn(columns, server.commands[0])
 

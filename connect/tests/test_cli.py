@@ -14,7 +14,7 @@ from unittest import mock
 
 import pgsub_connect
 from pgsub_connect.commands import follow
-from pgsub_connect.drift.remembered import replace_file
+from pgsub_connect.drift.durable_file import replace_file
 from pgsub_connect.errors import FileError, UsageError
 from pgsub_connect.store.checkpoint import Checkpoint
 from pgsub_connect.store.placing import check_meant

@@ -26,18 +26,17 @@ from pgsub_connect.follow.filter import Filter, FilterEnded
 from pgsub_connect.follow.memory_limit import BufferLimits
 from pgsub_connect.server import publication_setup
 from pgsub_connect.server import waits as waits_module
-from pgsub_connect.server.catalog import Catalog, Partition
-from pgsub_connect.server.catalog import Table as CatalogTable
+from pgsub_connect.server.catalog import Catalog, Column, Partition, Shape, Table
 from pgsub_connect.server.publication_setup import Wanted
-from pgsub_connect.server.publications import Column, Table
 from pgsub_connect.server.subscription import Subscription
 from pgsub_connect.status.progress import Progress
 from pgsub_connect.store import checkpoint_lines as known_of
 from pgsub_connect.store.checkpoint import Checkpoint
 from pgsub_connect.store.snapshot import part_of
-from tests.fake_server import FakeServer, Quiet, Row
-from tests.row_filter import Store, Subscriber
-from tests.vectors import PGSUB, a_catalog, a_table
+
+from .fake_server import FakeServer, Quiet, Row
+from .row_filter import Store, Subscriber
+from .vectors import PGSUB, a_catalog, a_table
 
 POINT = 0x1000028
 STOCK = Table(
@@ -45,10 +44,7 @@ STOCK = Table(
     "public",
     "stock",
     "r",
-    "d",
-    None,
-    None,
-    [Column("id", 23, -1, True, 1), Column("n", 23, -1, False, 2)],
+    Shape("d", (Column("id", 23, -1, True, 1), Column("n", 23, -1, False, 2))),
 )
 
 
@@ -393,12 +389,9 @@ class Order(Copying):
             "public",
             "stock",
             "r",
-            "d",
-            None,
-            None,
-            [*STOCK.columns, Column("more", 23, -1, False, 3)],
+            Shape("d", (*STOCK.columns, Column("more", 23, -1, False, 3))),
         )
-        for after in ([other], [STOCK, Table(16390, "public", "new", "r", "d", None, None, [])]):
+        for after in ([other], [STOCK, Table(16390, "public", "new", "r", Shape("d", ()))]):
             left = [[STOCK], after, after]
             self.setUp()
             self.patch(tables_module, "published_tables", lambda *_, left=left: left.pop(0))
@@ -410,7 +403,7 @@ class Order(Copying):
         one, two = a_table(1, "one"), a_table(2, "two", kind="p")
         leaf = Partition(3, 2, "two_1", True)
         before = a_catalog(one, two, partitions=[Partition(2, 0, "two", False), leaf])
-        cases: list[tuple[Sequence[CatalogTable], list[Partition], list[int]]] = [
+        cases: list[tuple[Sequence[Table], list[Partition], list[int]]] = [
             ((one, two), [leaf], []),
             ((a_table(1, "other"), two), [leaf], [1]),
             ((one,), [leaf], []),
@@ -801,10 +794,7 @@ OTHER = Table(
     "public",
     "other",
     "r",
-    "d",
-    None,
-    None,
-    [Column("id", 23, -1, True, 1), Column("n", 23, -1, False, 2)],
+    Shape("d", (Column("id", 23, -1, True, 1), Column("n", 23, -1, False, 2))),
 )
 
 

@@ -12,7 +12,8 @@ from pgsub_connect.commands import drop
 from pgsub_connect.commands.drop import Dropper, ask_terminal, files_of
 from pgsub_connect.errors import FileError, Passing, ServerError, Unfit
 from pgsub_connect.store.checkpoint import Checkpoint
-from tests.fake_server import FakeServer, Quiet, Row
+
+from .fake_server import FakeServer, Quiet, Row
 
 FILES = ("", "-wal", "-shm", ".connector", ".tables", ".copying", ".copying-wal")
 

@@ -15,9 +15,10 @@ from typing import Any
 from unittest import mock
 
 from pgsub_connect.cli import FILE, UNFIT, USAGE, main
-from pgsub_connect.drift.remembered import Relation, Remembered
+from pgsub_connect.drift.relation import Relation
+from pgsub_connect.drift.remembered import Remembered
 from pgsub_connect.errors import FileError, Passing, Stopped, Unfit, UsageError
-from pgsub_connect.server.connection import never
+from pgsub_connect.server.ticks import never
 from pgsub_connect.store import export as export_module
 from pgsub_connect.store.export import ExportSettings, export_store
 

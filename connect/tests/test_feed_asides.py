@@ -11,7 +11,7 @@ from feed_text import About, Column, Line
 
 from pgsub_connect.commands import tables
 from pgsub_connect.errors import FileError
-from pgsub_connect.server.connection import never
+from pgsub_connect.server.ticks import never
 from pgsub_feed.tables.file import Rows
 
 from .feeds import ID, NAME, delete, insert, table, truncate, update

@@ -11,7 +11,7 @@ from feed_text import Column, Definition, Line
 
 from pgsub_connect.commands import tables
 from pgsub_connect.errors import FileError
-from pgsub_connect.server.connection import never
+from pgsub_connect.server.ticks import never
 from pgsub_feed.reader.segments import Reader
 from pgsub_feed.tables.applier import Applier
 from pgsub_feed.tables.digests import Digest, read_digests

@@ -24,7 +24,7 @@ from pgsub_connect.commands import wait
 from pgsub_connect.commands.signals import Start, stop_by_signals
 from pgsub_connect.commands.tables import Options
 from pgsub_connect.errors import Passing, Unfit
-from pgsub_connect.server.connection import never
+from pgsub_connect.server.ticks import never
 from pgsub_feed.faults import Damaged
 from pgsub_feed.reader.commits import Commit
 from pgsub_feed.reader.polling import Poll

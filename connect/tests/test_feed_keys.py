@@ -13,7 +13,7 @@ from feed_text import Cell, Column, Definition, Line
 
 from pgsub_connect.commands.tables import Tables
 from pgsub_connect.drift.remembered import Remembered
-from pgsub_connect.server.connection import never
+from pgsub_connect.server.ticks import never
 from pgsub_connect.store.export import ExportSettings, export_store
 from pgsub_feed.tables.file import Rows
 

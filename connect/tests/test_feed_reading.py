@@ -12,7 +12,7 @@ from unittest import mock
 from feed_text import UNSENT, About, Column, Line, closing_line, segment_head
 
 from pgsub_connect.errors import FileError, Unfit
-from pgsub_connect.server.connection import never
+from pgsub_connect.server.ticks import never
 from pgsub_feed.faults import Damaged
 from pgsub_feed.reader import commits
 from pgsub_feed.reader.commits import Change, Missed, Part, TableLine

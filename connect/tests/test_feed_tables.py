@@ -15,12 +15,11 @@ from feed_text import Cell, Column, Line
 
 from pgsub_connect.cli import FILE, UNFIT, USAGE, main
 from pgsub_connect.commands import tables as tables_module
-from pgsub_connect.commands import wait
 from pgsub_connect.commands.tables import Options
 from pgsub_connect.commands.wait import Awaited
 from pgsub_connect.errors import FileError, Passing, Unfit
 from pgsub_connect.follow.retention import Limits, retire
-from pgsub_connect.server.connection import Check, never
+from pgsub_connect.server.ticks import Check, never
 from pgsub_connect.store.export import ExportSettings, export_store
 from pgsub_connect.store.snapshot import copy
 from pgsub_feed.reader.positions import Noted

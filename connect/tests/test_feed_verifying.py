@@ -20,9 +20,9 @@ from pgsub_connect.commands import tables
 from pgsub_connect.commands.tables import Options
 from pgsub_connect.copy.source import chosen
 from pgsub_connect.errors import FileError, Passing, Stopped, Unfit
-from pgsub_connect.server.connection import never
-from pgsub_connect.server.publications import Column, Table
+from pgsub_connect.server.catalog import Column, Shape, Table
 from pgsub_connect.server.subscription import Subscription
+from pgsub_connect.server.ticks import never
 from pgsub_connect.verify import tables_file
 from pgsub_connect.verify.tables_comparison import TablesComparison
 from pgsub_feed.reader.trail import Gone, Trail
@@ -40,20 +40,14 @@ STOCK = Table(
     "public",
     "stock",
     "r",
-    "d",
-    None,
-    None,
-    [Column("id", 23, -1, True, 1), Column("name", 25, -1, False, 2)],
+    Shape("d", (Column("id", 23, -1, True, 1), Column("name", 25, -1, False, 2))),
 )
 WHOLE = Table(
     2,
     "public",
     "whole",
     "r",
-    "f",
-    None,
-    None,
-    [Column("id", 23, -1, True, 1), Column("name", 25, -1, True, 2)],
+    Shape("f", (Column("id", 23, -1, True, 1), Column("name", 25, -1, True, 2))),
 )
 OF_WHOLE = table(2, "whole", [ID, TextColumn("name", 25, -1, True)], "f")
 Rows = list[Sequence[Cell]]
@@ -257,10 +251,7 @@ class Server(VerifyCase):
             "public",
             "stock",
             "r",
-            "d",
-            None,
-            None,
-            [*STOCK.columns, Column("more", 23, -1, False, 3)],
+            Shape("d", (*STOCK.columns, Column("more", 23, -1, False, 3))),
         )
         for digests in (False, True):
             [found] = self.verified(1, digests=digests)
@@ -285,10 +276,7 @@ class Server(VerifyCase):
                 "public",
                 "flags",
                 "r",
-                "d",
-                None,
-                None,
-                [STOCK.columns[0], Column("is", 16, -1, False, 2)],
+                Shape("d", (STOCK.columns[0], Column("is", 16, -1, False, 2))),
             )
         )
         self.server.tables[3] = [["1", "t"], ["2", None]]
@@ -304,7 +292,7 @@ class Server(VerifyCase):
         self.equal(chosen=["stock"])
 
     def test_a_table_of_which_nothing_ever_came(self) -> None:
-        self.published.append(Table(9, "public", "late", "r", "d", None, None, STOCK.columns))
+        self.published.append(Table(9, "public", "late", "r", Shape("d", tuple(STOCK.columns))))
         self.equal()
         self.server.tables[9] = [["1", "x"]]
         for digests in (False, True):
@@ -391,10 +379,7 @@ class Server(VerifyCase):
                 "public",
                 "short",
                 "r",
-                "d",
-                None,
-                None,
-                [STOCK.columns[0], Column("f", 700, -1, False, 2)],
+                Shape("d", (STOCK.columns[0], Column("f", 700, -1, False, 2))),
             )
         )
         self.server.tables[3] = [["1", "0.1"]]
@@ -419,10 +404,7 @@ class Server(VerifyCase):
             "public",
             "stock",
             "r",
-            "d",
-            None,
-            None,
-            [*STOCK.columns, Column("more", 25, -1, False, 3)],
+            Shape("d", (*STOCK.columns, Column("more", 25, -1, False, 3))),
         )
         self.server.tables[1] = [[*it, None] for it in self.server.tables[1]]
         self.equal()

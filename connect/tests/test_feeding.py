@@ -16,7 +16,8 @@ from unittest import mock
 
 from feed_text import Column, lsn_text
 
-from pgsub_connect.drift.remembered import Remembered, replace_file
+from pgsub_connect.drift.durable_file import replace_file
+from pgsub_connect.drift.remembered import Remembered
 from pgsub_connect.drift.tolerance import Tolerance
 from pgsub_connect.errors import FileError, Unfit
 from pgsub_connect.follow import feed as feed_module

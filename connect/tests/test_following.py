@@ -14,17 +14,18 @@ from collections.abc import Callable, Iterator, Sequence
 from typing import Any
 from unittest import mock
 
-from pgsub_connect.drift import watch
 from pgsub_connect.drift.findings import About
 from pgsub_connect.drift.remembered import Remembered
 from pgsub_connect.errors import FilterFault, Passing, ServerError, Unconnected, Unfit
+from pgsub_connect.follow import drift_watch
 from pgsub_connect.follow import follower as follower_module
 from pgsub_connect.follow import statuses
 from pgsub_connect.follow.awake import Awake
 from pgsub_connect.follow.filter import Filter, FilterEnded, flushed
 from pgsub_connect.follow.follower import Follower
+from pgsub_connect.server import addresses
 from pgsub_connect.server import connection as connection_module
-from pgsub_connect.server import session, transport
+from pgsub_connect.server import session, ticks, transport
 from pgsub_connect.server.session import Server
 from pgsub_connect.server.transport import Protection
 from pgsub_connect.status.progress import Progress
@@ -68,14 +69,14 @@ class Case(Quiet):
         self.server = SmallServer(self.folder, self.brain)
         self.addCleanup(self.server.close)
         for where, name, by in (
-            (connection_module, "TICK", 0.02),
+            (ticks, "TICK", 0.02),
             (follower_module, "STEP", 0.02),
             (statuses, "QUIET", 0.3),
             (follower_module, "SLEEP", 0.02),
             (follower_module, "FIRST_DELAY", 0.02),
         ):
             self.patch(where, name, by)
-        self.patch(watch.Watch, "compare", lambda *_: True)
+        self.patch(drift_watch.Watch, "compare", lambda *_: True)
 
     def patch(self, where: object, name: str, by: object) -> None:
         patch = mock.patch.object(where, name, by)
@@ -232,7 +233,7 @@ class Sessions(Case):
             seen.append(connection is follower.connection)
             return True
 
-        self.patch(watch.Watch, "compare", compare)
+        self.patch(drift_watch.Watch, "compare", compare)
         self.run_until(follower, lambda: self.server.sessions == 1)
         self.assertEqual(seen, [False])
 
@@ -355,8 +356,8 @@ class Sessions(Case):
 
     def test_a_server_that_hangs_while_a_table_is_added(self) -> None:
         """Nothing of the session is read meanwhile, so it is asked on another connection."""
-        self.patch(connection_module, "LEAST_LIMIT", 0.05)
-        self.patch(connection_module, "CONNECT_LIMIT", 0.05)
+        self.patch(addresses, "LEAST_LIMIT", 0.05)
+        self.patch(addresses, "CONNECT_LIMIT", 0.05)
         self.patch(session, "QUICK", 0.05)
         follower = self.follower(silence=30.0)
         follower.confirming.last_sent, now, self.progress.server_started = (

@@ -17,8 +17,8 @@ from pgsub_connect.follow import follower, gate
 from pgsub_connect.follow.filter import flushed
 from pgsub_connect.follow.gate import Gating, Making, is_shared, too_large_to_copy
 from pgsub_connect.follow.hold import Hold
-from pgsub_connect.server.connection import never
 from pgsub_connect.server.subscription import Subscription
+from pgsub_connect.server.ticks import never
 from pgsub_connect.status.progress import Progress
 from pgsub_connect.store.at_rest import read_request
 from pgsub_connect.store.snapshot import Snapshots

@@ -17,7 +17,7 @@ from pgsub_connect.errors import ServerError, Stopped
 from pgsub_connect.follow.follower import Follower
 from pgsub_connect.follow.hold import Hold, count_below
 from pgsub_connect.follow.statuses import Confirming
-from pgsub_connect.server.connection import never
+from pgsub_connect.server.ticks import never
 from pgsub_connect.status.progress import Progress
 from pgsub_connect.store import snapshot
 from pgsub_connect.store.at_rest import read_request

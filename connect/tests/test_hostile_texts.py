@@ -14,7 +14,7 @@ from pgsub_connect.cli import BUG, FILE, main
 from pgsub_connect.commands.drop import made_publications, read_remembered
 from pgsub_connect.drift.remembered import Remembered
 from pgsub_connect.errors import FileError
-from pgsub_connect.server.connection import never
+from pgsub_connect.server.ticks import never
 from pgsub_connect.store import snapshot
 from pgsub_connect.store.at_rest import read_request
 from pgsub_connect.store.checkpoint import Checkpoint
@@ -144,7 +144,7 @@ class Files(StoreCase):
             with contextlib.suppress(FileError):
                 remembered = Remembered(self.path)
                 # (what is taken is right: it can be looked through and written)
-                remembered.lines(), remembered.found_of(16384), remembered.text_of(16384)
+                remembered.names.lines(), remembered.found_of(16384), remembered.text_of(16384)
                 remembered.save()
             made_publications(read_remembered(path))
         self.assertGreater(count, 1000)

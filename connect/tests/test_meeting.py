@@ -15,9 +15,9 @@ from pgsub_connect.copy.tries import CHANGED
 from pgsub_connect.copy.unchanged import ALTERED, LOCKED, MOVED
 from pgsub_connect.errors import NoSlot, Passing, ServerError, Stopped, Unfit
 from pgsub_connect.follow.hold import write_request
-from pgsub_connect.server.connection import Check, never
-from pgsub_connect.server.publications import Table
+from pgsub_connect.server.catalog import Shape, Table
 from pgsub_connect.server.subscription import Subscription
+from pgsub_connect.server.ticks import Check, never
 from pgsub_connect.store.checkpoint_lines import FOLLOWING, Known
 from pgsub_connect.store.snapshot import Snapshots, position_in
 from pgsub_connect.verify import meeting_point
@@ -164,7 +164,7 @@ class Servers(Quiet):
         super().setUp()
         self.server = FakeServer()
         self.identity: Row = ["77", "1", "0/1000", "shop"]
-        self.table = Table(1, "public", "t", "r", "d", None, None)
+        self.table = Table(1, "public", "t", "r", Shape("d", ()))
         self.server.answer("IDENTIFY_SYSTEM", lambda _: [self.identity])
         self.server.answer("pg_is_in_recovery", [["f"]])
         self.server.answer("CREATE_REPLICATION_SLOT", [["x", "0/200", "snap", "pgoutput"]])
@@ -291,7 +291,7 @@ class Servers(Quiet):
 
     def two(self) -> Source:
         """A source of two tables, the second of which is in two partitions."""
-        self.tables = [self.table, Table(2, "public", "u", "p", "d", None, None)]
+        self.tables = [self.table, Table(2, "public", "u", "p", Shape("d", ()))]
         return self.source()
 
     def test_which_file_a_table_is_in_when_the_slot_is_made(self) -> None:
@@ -315,8 +315,8 @@ class Servers(Quiet):
         source = self.two()
         self.tables = [
             self.table,
-            Table(2, "public", "u", "p", "f", None, None),
-            Table(3, "public", "new", "r", "d", None, None),
+            Table(2, "public", "u", "p", Shape("f", ())),
+            Table(3, "public", "new", "r", Shape("d", ())),
         ]
         source.see("snap", leaves=True)
         self.assertEqual(([it.oid for it in source.tables], source.left), ([1], {2: ALTERED}))
@@ -364,7 +364,7 @@ class Servers(Quiet):
             source.see("snap")
 
     def test_which_tables(self) -> None:
-        other = Table(2, "Odd schema", "t", "r", "d", None, None)
+        other = Table(2, "Odd schema", "t", "r", Shape("d", ()))
         self.tables = [self.table, other]
         source = self.source()
         self.assertEqual(source.chosen([]), [self.table, other])

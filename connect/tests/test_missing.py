@@ -16,13 +16,13 @@ from pgsub_connect.cli import UNFIT
 from pgsub_connect.commands import follow
 from pgsub_connect.commands.arguments.exit_status import MISSED
 from pgsub_connect.commands.follow import ACCEPTED, ENDS
-from pgsub_connect.drift.missed_rows import Misses, texts_of
 from pgsub_connect.drift.remembered import Remembered
 from pgsub_connect.drift.tolerance import Tolerance
 from pgsub_connect.errors import Passing, ServerError, Unfit
 from pgsub_connect.follow.awake import Awake
 from pgsub_connect.follow.filter import FilterEnded, Missing, flushed
 from pgsub_connect.follow.follower import Follower
+from pgsub_connect.follow.missed_rows import Misses, texts_of
 from pgsub_connect.server.connection import Connection
 from pgsub_connect.status.progress import Progress
 from pgsub_connect.store.checkpoint import Checkpoint

@@ -13,9 +13,10 @@ from typing import Any
 from unittest import mock
 
 from pgsub_connect.commands.add import noted
-from pgsub_connect.drift.remembered import Remembered, replace_file
+from pgsub_connect.drift.durable_file import replace_file
+from pgsub_connect.drift.remembered import Remembered
 from pgsub_connect.errors import FileError
-from pgsub_connect.server.connection import never
+from pgsub_connect.server.ticks import never
 from pgsub_connect.store import at_rest, export
 from pgsub_connect.store.placing import placed
 from pgsub_connect.store.snapshot import Snapshots, meant

@@ -21,7 +21,7 @@ from pgsub_connect.drift.findings import NOTHING, About
 from pgsub_connect.drift.remembered import Remembered
 from pgsub_connect.errors import FileError, Passing, ServerError, Stopped, Unfit
 from pgsub_connect.server.catalog import Catalog, Part, Partition
-from pgsub_connect.server.connection import Check, never
+from pgsub_connect.server.ticks import Check, never
 from pgsub_connect.store import at_rest, snapshot
 from pgsub_connect.store.snapshot import Snapshots
 
@@ -274,7 +274,7 @@ class Mended(Case):
             self.assertEqual(remembered.added(oid, remembered.found_of(oid)), kinds)
             self.assertEqual([it.oid for it in compared(remembered, now)], left)
             remembered.restore(remembered.written())
-        self.assertEqual((remembered.found, remembered.mended), ({}, {}))
+        self.assertEqual((remembered.found, remembered.found.mended), ({}, {}))
 
     def test_what_is_found_again_is_to_be_mended_again(self) -> None:
         remembered = self.remembered

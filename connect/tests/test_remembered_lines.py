@@ -12,8 +12,9 @@ import unittest
 from collections.abc import Callable
 from unittest import mock
 
-from pgsub_connect.drift import remembered as module
-from pgsub_connect.drift.remembered import Relation, Remembered
+from pgsub_connect.drift import durable_file as module
+from pgsub_connect.drift.relation import Relation
+from pgsub_connect.drift.remembered import Remembered
 from pgsub_connect.errors import FileError, Passing
 
 from .vectors import ID, NAME, Described, a_catalog, a_shape, a_table

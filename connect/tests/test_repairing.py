@@ -16,13 +16,13 @@ from pgsub_connect.add.replacement import XID
 from pgsub_connect.copy.messages import relation as relation_body
 from pgsub_connect.drift.findings import About
 from pgsub_connect.drift.remembered import Remembered
-from pgsub_connect.drift.watch import Watch
 from pgsub_connect.errors import Passing, Unrepaired
+from pgsub_connect.follow.drift_watch import Watch
 from pgsub_connect.follow.hold import Hold
 from pgsub_connect.follow.memory_limit import BufferLimits
 from pgsub_connect.follow.repair import Repairing, Unusable, messages_in
-from pgsub_connect.server.connection import never
-from pgsub_connect.server.publications import Table
+from pgsub_connect.server.catalog import Table
+from pgsub_connect.server.ticks import never
 from pgsub_connect.store import snapshot
 from pgsub_connect.store.snapshot import Snapshots
 from pgsub_connect.verify.digests import Plan, text_of

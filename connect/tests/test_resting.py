@@ -22,7 +22,7 @@ from unittest import mock
 from pgsub_connect.cli import FILE, PASSING, USAGE, main
 from pgsub_connect.commands import snapshot
 from pgsub_connect.errors import FileError, Passing, Stopped
-from pgsub_connect.server.connection import never
+from pgsub_connect.server.ticks import never
 from pgsub_connect.store import at_rest as at_rest_module
 from pgsub_connect.store import export
 from pgsub_connect.store.at_rest import at_rest, own_name

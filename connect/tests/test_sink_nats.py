@@ -13,7 +13,7 @@ from unittest import mock
 from feed_text import Line
 
 from pgsub_connect.errors import EngineError, FileError, Passing, TooLarge, Unfit, UsageError
-from pgsub_connect.server.connection import never
+from pgsub_connect.server.ticks import never
 from pgsub_connect.store.export import ExportSettings, export_store
 from pgsub_feed.formats.keys import subject
 from pgsub_feed.sinks.connecting import is_loopback

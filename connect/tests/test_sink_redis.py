@@ -21,7 +21,7 @@ from pgsub_connect.commands import sink as sink_module
 from pgsub_connect.commands.sink import Options
 from pgsub_connect.errors import EngineError, FileError, Passing, Stopped, Unfit, UsageError
 from pgsub_connect.follow.retention import Limits, retire
-from pgsub_connect.server.connection import never
+from pgsub_connect.server.ticks import never
 from pgsub_connect.store.export import ExportSettings, export_store
 from pgsub_feed.reader.commits import Commit
 from pgsub_feed.reader.polling import Poll

@@ -17,8 +17,8 @@ from pgsub_connect.commands import add as add_module
 from pgsub_connect.commands import verify
 from pgsub_connect.copy.source import Source
 from pgsub_connect.errors import FileError, NoSlot, Passing, Stopped, Unfit, Unrepaired
-from pgsub_connect.server.connection import never
-from pgsub_connect.server.publications import Column, Table
+from pgsub_connect.server.catalog import Column, Shape, Table
+from pgsub_connect.server.ticks import never
 from pgsub_connect.store.checkpoint_lines import FOLLOWING, Known
 from pgsub_connect.verify.comparison import Compared, Verifier, settled
 from pgsub_connect.verify.digests import NotText, Plan, Summing, fields_of, text_of
@@ -34,20 +34,14 @@ KEYED = Table(
     "public",
     "keyed",
     "r",
-    "d",
-    None,
-    None,
-    [Column("id", 23, -1, True, 1), Column("name", 25, -1, False, 2)],
+    Shape("d", (Column("id", 23, -1, True, 1), Column("name", 25, -1, False, 2))),
 )
 WHOLE = Table(
     2,
     "public",
     "whole",
     "r",
-    "f",
-    None,
-    None,
-    [Column("a", 25, -1, True, 1), Column("b", 25, -1, True, 2)],
+    Shape("f", (Column("a", 25, -1, True, 1), Column("b", 25, -1, True, 2))),
 )
 Rows = list[Sequence[Cell]]
 ROWS: Rows = [[str(it), f"name {it}"] for it in range(600)]

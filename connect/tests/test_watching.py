@@ -8,14 +8,15 @@ import unittest
 from unittest import mock
 
 from pgsub_connect import cli
-from pgsub_connect.drift import watch as watch_module
-from pgsub_connect.drift.remembered import Relation, Remembered
+from pgsub_connect.drift.relation import Relation
+from pgsub_connect.drift.remembered import Remembered
 from pgsub_connect.drift.tolerance import Tolerance
-from pgsub_connect.drift.watch import Watch
 from pgsub_connect.errors import ServerError, Unfit
+from pgsub_connect.follow import drift_watch as watch_module
+from pgsub_connect.follow.drift_watch import Watch
 from pgsub_connect.server.catalog import Catalog
-from pgsub_connect.server.connection import never
 from pgsub_connect.server.subscription import Subscription
+from pgsub_connect.server.ticks import never
 from pgsub_connect.status.progress import Progress
 from pgsub_connect.store.checkpoint import Checkpoint
 
@@ -52,7 +53,7 @@ class Case(unittest.TestCase):
         return watch
 
     def compare(self, watch: Watch, now: Catalog) -> None:
-        with mock.patch("pgsub_connect.drift.watch.read_catalog", return_value=now):
+        with mock.patch("pgsub_connect.follow.drift_watch.read_catalog", return_value=now):
             watch.compare(connection_to(FakeServer()), 100)
 
 
@@ -185,11 +186,12 @@ class Found(Case):
 class Looks(Case):
     def test_where_a_table_is_unknown(self) -> None:
         watch = self.watch()
-        with mock.patch("pgsub_connect.drift.watch.Connection") as connection, mock.patch(
-            "pgsub_connect.drift.watch.settle"
+        with mock.patch("pgsub_connect.follow.drift_watch.Connection") as connection, mock.patch(
+            "pgsub_connect.follow.drift_watch.settle"
         ):
             with mock.patch(
-                "pgsub_connect.drift.watch.read_catalog", return_value=a_catalog(T, U, lsn=200)
+                "pgsub_connect.follow.drift_watch.read_catalog",
+                return_value=a_catalog(T, U, lsn=200),
             ), logged() as said:
                 self.assertFalse(watch.tend(True, never, 100))
             self.assertEqual(len(said), 1)
@@ -198,12 +200,14 @@ class Looks(Case):
 
     def test_now_and_then(self) -> None:
         """No message tells that a partition was detached, or a row filter altered."""
-        with mock.patch("pgsub_connect.drift.watch.AT_LEAST", 5.0), mock.patch(
+        with mock.patch("pgsub_connect.follow.drift_watch.AT_LEAST", 5.0), mock.patch(
             "time.monotonic"
-        ) as clock, mock.patch("pgsub_connect.drift.watch.Connection") as connection, mock.patch(
-            "pgsub_connect.drift.watch.settle"
+        ) as clock, mock.patch(
+            "pgsub_connect.follow.drift_watch.Connection"
+        ) as connection, mock.patch(
+            "pgsub_connect.follow.drift_watch.settle"
         ), mock.patch(
-            "pgsub_connect.drift.watch.read_catalog", return_value=a_catalog(T, U, lsn=200)
+            "pgsub_connect.follow.drift_watch.read_catalog", return_value=a_catalog(T, U, lsn=200)
         ), logged() as said:
             clock.return_value = 100.0
             watch = self.watch()
@@ -216,7 +220,7 @@ class Looks(Case):
     def test_that_fail_are_tried_again(self) -> None:
         watch = self.watch()
         with mock.patch(
-            "pgsub_connect.drift.watch.Connection", side_effect=ServerError("gone")
+            "pgsub_connect.follow.drift_watch.Connection", side_effect=ServerError("gone")
         ) as connection, logged() as said:
             self.assertTrue(watch.tend(True, never, 100))
             self.assertTrue(watch.tend(True, never, 100))
@@ -231,10 +235,10 @@ class Looks(Case):
             ([now], 0),
         ]
         for outcomes, lines in cases:
-            with mock.patch("pgsub_connect.drift.watch.Connection"), mock.patch(
-                "pgsub_connect.drift.watch.settle"
+            with mock.patch("pgsub_connect.follow.drift_watch.Connection"), mock.patch(
+                "pgsub_connect.follow.drift_watch.settle"
             ), mock.patch(
-                "pgsub_connect.drift.watch.read_catalog", side_effect=outcomes
+                "pgsub_connect.follow.drift_watch.read_catalog", side_effect=outcomes
             ), logged() as said:
                 for outcome in outcomes:
                     self.assertIs(watch.look_again(never, 100), outcome is now)
@@ -243,7 +247,7 @@ class Looks(Case):
     def test_a_lock_in_the_way(self) -> None:
         watch, connection = self.watch(), mock.Mock()
         with mock.patch(
-            "pgsub_connect.drift.watch.read_catalog",
+            "pgsub_connect.follow.drift_watch.read_catalog",
             side_effect=ServerError("lock timeout", "55P03"),
         ), logged() as said:
             self.assertFalse(watch.compare(connection, 100))
@@ -253,7 +257,8 @@ class Looks(Case):
         )
         self.assertIn("can't be looked at now: lock timeout", said[0])
         with mock.patch(
-            "pgsub_connect.drift.watch.read_catalog", side_effect=ServerError("gone", "57P01")
+            "pgsub_connect.follow.drift_watch.read_catalog",
+            side_effect=ServerError("gone", "57P01"),
         ), self.assertRaises(ServerError):
             watch.compare(connection, 100)
 

@@ -4,12 +4,10 @@ from __future__ import annotations
 
 from typing import Protocol
 
-from ..drift.remembered import Relation
+from ..drift.relation import Relation
 from ..follow.gate import CURE, TABLE
-from ..server.catalog import Column, Shape
-from ..server.connection import Check
-from ..server.publications import Column as TableColumn
-from ..server.publications import Table
+from ..server.catalog import Table
+from ..server.ticks import Check
 
 
 class Stream(Protocol):
@@ -65,16 +63,8 @@ def table_of(relation: Relation | None) -> Table | None:
     """A table that isn't published any more, as it was described."""
     if relation is None:
         return None
-    shape = relation.shape
-    columns = [
-        TableColumn(it.name, it.type_oid, it.modifier, it.key, it.number) for it in shape.columns
-    ]
-    name = relation.name
-    return Table(relation.oid, relation.namespace, name, "r", shape.identity, None, None, columns)
+    return Table(relation.oid, relation.namespace, relation.name, "r", relation.shape)
 
 
 def relation_of(table: Table) -> Relation:
-    columns = tuple(
-        Column(it.name, it.type_oid, it.modifier, it.key, it.number) for it in table.columns
-    )
-    return Relation(table.oid, table.namespace, table.name, Shape(table.identity, columns))
+    return Relation(table.oid, table.namespace, table.name, table.shape)

@@ -30,8 +30,7 @@ from pgsub_feed.texts import counted, lsn_text
 
 from ..copy.table_reader import GONE
 from ..copy.tries import PASSING
-from ..drift.differences import PUBLICATION
-from ..drift.findings import About
+from ..drift.findings import PUBLICATION, About
 from ..drift.remembered import Remembered
 from ..errors import NoSlot, Passing, Renewed, ServerError, Unconnected, Unfit
 from ..follow.hold import Hold

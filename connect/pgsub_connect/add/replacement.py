@@ -90,7 +90,7 @@ from collections.abc import Sequence
 from ..copy.messages import InsertHeads, begin, commit, frame, inserts, relation
 from ..errors import ServerError
 from ..follow.stream_log import BEGIN, CHANGES, COMMIT, RELATION, START, TRUNCATE, final_lsn
-from ..server.publications import Table
+from ..server.catalog import Table
 
 # FrozenTransactionId.
 XID = 2

@@ -9,9 +9,9 @@ from ..copy.source import Source
 from ..drift.remembered import Remembered
 from ..errors import Passing, ServerError, Stopped, Unfit
 from ..follow.memory_limit import BufferLimits
-from ..server.connection import Check
 from ..server.publications import sizes_of
 from ..server.subscription import Subscription
+from ..server.ticks import Check
 from ..status.progress import Progress
 from ..store.checkpoint import Checkpoint
 from .addable import Stream, too_large, too_long

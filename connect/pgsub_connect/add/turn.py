@@ -10,13 +10,14 @@ from pgsub_feed.texts import counted
 
 from ..copy.source import Source
 from ..copy.table_reader import BLOCK
-from ..drift.remembered import Relation
+from ..drift.relation import Relation
 from ..errors import Passing
 from ..follow.gate import MOST as LONGEST_WAIT
 from ..follow.gate import WAITED, Making
 from ..follow.memory_limit import BufferLimits
 from ..follow.stream_log import Noting
-from ..server.publications import Table, sizes_of
+from ..server.catalog import Table
+from ..server.publications import sizes_of
 from ..status.progress import Progress
 from .addable import Stream, TooLarge, relation_of, table_of, too_large, too_long
 from .replacement import Rows, payload_of

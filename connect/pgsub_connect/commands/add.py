@@ -22,11 +22,13 @@ from pgsub_feed.texts import counted
 from ..copy.source import chosen
 from ..drift.remembered import Remembered
 from ..errors import Passing, ServerError, Stopped
-from ..server.connection import Check, Connection
+from ..server.catalog import Table
+from ..server.connection import Connection
 from ..server.publication_setup import names_of
-from ..server.publications import Table, published_tables
+from ..server.publications import published_tables
 from ..server.session import settle
 from ..server.subscription import Subscription
+from ..server.ticks import Check
 from ..store.at_rest import (
     LOOK,
     check_there,

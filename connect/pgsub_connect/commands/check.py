@@ -12,8 +12,8 @@ from pgsub_feed.log import escaped
 
 from ..preconditions.judged import results
 from ..preconditions.result import ERROR, Purpose
-from ..server.connection import Check, never
 from ..server.preflight import all_facts
+from ..server.ticks import Check, never
 from ..server.transport import OWN
 from .arguments.files import check_files, use_mode
 from .arguments.publishing import CopyOptions, add_copying, check_publishing

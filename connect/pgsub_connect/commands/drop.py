@@ -19,9 +19,11 @@ from pgsub_feed.texts import identifier, literal
 
 from ..drift.remembered_lines import read_lines
 from ..errors import FileError, Passing, Unfit, understood
-from ..server.connection import TICK, Check, Connection, never
-from ..server.publication_setup import inserts_of, oid_of, other_slots
+from ..server.connection import Connection
+from ..server.publication_content import oid_of, other_slots
+from ..server.publication_setup import inserts_of
 from ..server.session import Server, database_oid, is_same_database, settle
+from ..server.ticks import TICK, Check, never
 from ..store.at_rest import own_files
 from ..store.checkpoint_at_rest import locked, read_known
 from ..store.placing import OF_COPY, OF_STORE

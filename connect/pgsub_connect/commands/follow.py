@@ -9,60 +9,38 @@ import os
 import signal
 from collections.abc import Callable
 
-from ..copy.copier import Copier
-from ..copy.copier import CopySettings
+from ..copy.copier import Copier, CopySettings
 from ..copy.slots import create_slot
 from ..drift.remembered import Remembered
 from ..drift.tolerance import Tolerance
-from ..errors import Stopped
-from ..errors import Unfit
+from ..errors import Stopped, Unfit
 from ..follow.feed import Feeding
 from ..follow.filter import Filter
-from ..follow.follower import FollowSettings
-from ..follow.follower import Follower
+from ..follow.follower import Follower, FollowSettings
 from ..follow.server_watch import Asker
-from ..record.recording import Aside
-from ..record.recording import LONGEST
-from ..record.recording import Recording
+from ..record.recording import LONGEST, Aside, Recording
 from ..server import transport
-from ..server.connection import Check
 from ..server.followed_publications import require_published
 from ..server.subscription import Subscription
-from ..status.files import ReportSettings
-from ..status.files import Reporter
+from ..server.ticks import Check
+from ..status.files import Reporter, ReportSettings
 from ..status.progress import Progress
 from ..store import checkpoint_lines as known_of
 from ..store.checkpoint import Checkpoint
 from ..store.placing import check_meant
-from ..store.snapshot import Snapshots
-from ..store.snapshot import part_of
+from ..store.snapshot import Snapshots, part_of
 from .arguments import exit_status
-from .arguments.feed import FeedOptions
-from .arguments.feed import add_feed
-from .arguments.feed import check_feed
-from .arguments.files import check_files
-from .arguments.files import use_mode
+from .arguments.feed import FeedOptions, add_feed, check_feed
+from .arguments.files import check_files, use_mode
 from .arguments.needs import check_needs
-from .arguments.publishing import CopyOptions
-from .arguments.publishing import add_copying
-from .arguments.publishing import check_creates
-from .arguments.publishing import check_publishing
+from .arguments.publishing import CopyOptions, add_copying, check_creates, check_publishing
 from .arguments.recording import add_longest
-from .arguments.server import PLAINTEXT
-from .arguments.server import ServerOptions
-from .arguments.server import add_server
-from .arguments.server import settled_server
-from .arguments.sizes import SizeOptions
-from .arguments.sizes import add_sizes
-from .arguments.sizes import settled_sizes
+from .arguments.server import PLAINTEXT, ServerOptions, add_server, settled_server
+from .arguments.sizes import SizeOptions, add_sizes, settled_sizes
 from .arguments.texts import each
-from .arguments.types import lsn
-from .arguments.types import lsn_or_now
-from .arguments.types import seconds
-from .arguments.watching import WatchOptions
-from .arguments.watching import add_watching
-from .signals import Start
-from .signals import stop_by_signals
+from .arguments.types import lsn, lsn_or_now, seconds
+from .arguments.watching import WatchOptions, add_watching
+from .signals import Start, stop_by_signals
 from .snapshot import check_copied
 
 ABOUT = "follow into a store"

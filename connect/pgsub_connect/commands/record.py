@@ -6,29 +6,17 @@ import argparse
 import dataclasses
 from collections.abc import Callable
 
-from ..copy.slots import create_slot
-from ..copy.slots import maker_of
-from ..record.recorder import RecordSettings
-from ..record.recorder import Recorder
-from ..record.recording import LONGEST
-from ..record.recording import Recording
+from ..copy.slots import create_slot, maker_of
+from ..record.recorder import Recorder, RecordSettings
+from ..record.recording import LONGEST, Recording
 from .arguments import exit_status
-from .arguments.files import check_files
-from .arguments.files import use_mode
+from .arguments.files import check_files, use_mode
 from .arguments.needs import check_needs
-from .arguments.publishing import PublishingOptions
-from .arguments.publishing import add_publishing
-from .arguments.publishing import check_creates
-from .arguments.publishing import check_publishing
+from .arguments.publishing import PublishingOptions, add_publishing, check_creates, check_publishing
 from .arguments.recording import add_longest
-from .arguments.server import ServerOptions
-from .arguments.server import add_server
-from .arguments.server import settled_server
+from .arguments.server import ServerOptions, add_server, settled_server
 from .arguments.texts import each
-from .arguments.types import any_seconds
-from .arguments.types import lsn
-from .arguments.types import lsn_or_now
-from .arguments.types import within
+from .arguments.types import any_seconds, lsn, lsn_or_now, within
 from .signals import stop_by_signals
 
 ABOUT = "only record"

@@ -22,15 +22,17 @@ from typing import NamedTuple
 from pgsub_feed import log
 from pgsub_feed.texts import counted
 
-from ..drift.differences import PUBLICATION, VALUES
 from ..drift.doubts import resolved
+from ..drift.findings import PUBLICATION, VALUES
 from ..drift.remembered import Remembered
 from ..errors import FileError
-from ..server.catalog import Catalog, read_catalog
-from ..server.connection import Check, Connection
+from ..server.catalog import Catalog
+from ..server.catalog_reader import read_catalog
+from ..server.connection import Connection
 from ..server.publication_setup import names_of
 from ..server.session import settle
 from ..server.subscription import Subscription
+from ..server.ticks import Check
 from ..store.at_rest import check_there
 from ..store.checkpoint_at_rest import read_known
 from . import add
@@ -118,7 +120,7 @@ def compared(remembered: Remembered, now: Catalog) -> list[Told]:
         for text in texts_of(remembered, kind):
             oids = remembered.tables_of(text)
             for oid in oids:
-                if oid not in remembered.mended.get(text, ()):
+                if oid not in remembered.found.mended.get(text, ()):
                     found.setdefault(oid, []).append(text)
             if not oids:
                 others.append(text)

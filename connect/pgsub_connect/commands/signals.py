@@ -9,7 +9,7 @@ from typing import Protocol
 from pgsub_feed.interruption import interrupt
 
 from ..errors import Stopped
-from ..server.connection import Check
+from ..server.ticks import Check
 
 
 class Worker(Protocol):

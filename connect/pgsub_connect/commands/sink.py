@@ -25,7 +25,7 @@ from pgsub_feed.tables.first_rows import FirstRows, keeping
 from pgsub_feed.texts import lsn_text
 
 from ..errors import Passing, Stopped, UsageError
-from ..server.connection import Check
+from ..server.ticks import Check
 from .arguments.files import check_files, use_mode
 from .arguments.texts import check_texts, each
 from .arguments.types import lsn, mode, plain_name

@@ -11,7 +11,7 @@ from pgsub_feed import log
 from pgsub_feed.texts import lsn_text
 
 from ..errors import FileError, Passing, Stopped
-from ..server.connection import Check
+from ..server.ticks import Check
 from ..store.at_rest import at_rest, failed
 from ..store.file import check_store, is_store
 from ..store.placing import check_into, placed

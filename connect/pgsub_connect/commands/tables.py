@@ -26,8 +26,8 @@ from pgsub_feed.tables.user_sql import Init
 from pgsub_feed.texts import lsn_text
 
 from ..errors import FileError, Passing, Stopped, Unfit
-from ..server.connection import Check
 from ..server.publication_setup import names_of
+from ..server.ticks import Check
 from ..store.export import OLDEST
 from .arguments.exit_status import FED
 from .arguments.files import check_files, use_mode

@@ -8,37 +8,29 @@ import dataclasses
 import sqlite3
 from collections.abc import Callable, Sequence
 
-from . import add
-from ..errors import FileError
-from ..errors import Passing
-from ..errors import Stopped
-from ..errors import Unfit
-from ..errors import Unrepaired
-from ..server.connection import Check
-from ..verify.comparison import Compared
-from ..verify.comparison import DIFFERENT
-from ..verify.comparison import EQUAL
-from ..verify.digests import NotText
-from ..verify.store import StoreComparison
-from ..verify.store import compare
-from ..verify.store import repair
-from ..verify.tables_comparison import TablesComparison
-from ..verify.tables_file import compare_tables
-from ..verify.tables_file import store_of
-from .arguments.files import check_files
-from .arguments.files import use_mode
-from .arguments.server import ServerOptions
-from .arguments.server import TrustOptions
-from .arguments.server import add_server
-from .arguments.server import add_trust
-from .arguments.server import settled_server
-from .arguments.server import trust_store
-from .arguments.texts import each
-from .arguments.types import within
-from .arguments.types import within_seconds
-from .signals import check_signals
 from pgsub_feed import log
 from pgsub_feed.tables.values import Malformed
+
+from ..errors import FileError, Passing, Stopped, Unfit, Unrepaired
+from ..server.ticks import Check
+from ..verify.comparison import DIFFERENT, EQUAL, Compared
+from ..verify.digests import NotText
+from ..verify.store import StoreComparison, compare, repair
+from ..verify.tables_comparison import TablesComparison
+from ..verify.tables_file import compare_tables, store_of
+from . import add
+from .arguments.files import check_files, use_mode
+from .arguments.server import (
+    ServerOptions,
+    TrustOptions,
+    add_server,
+    add_trust,
+    settled_server,
+    trust_store,
+)
+from .arguments.texts import each
+from .arguments.types import within, within_seconds
+from .signals import check_signals
 
 ABOUT = "compare the copy of a follower that runs with its server, both at one LSN"
 ENDS = """\

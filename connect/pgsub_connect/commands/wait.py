@@ -15,7 +15,7 @@ from pgsub_feed.tables.position import read_position
 from pgsub_feed.texts import lsn_text
 
 from ..errors import FileError, Passing, Stopped
-from ..server.connection import Check
+from ..server.ticks import Check
 from .arguments.exit_status import FED
 from .arguments.types import duration, lsn
 from .signals import check_signals

@@ -33,9 +33,10 @@ from ..follow.filter import Filter, FilterEnded
 from ..follow.memory_limit import BufferLimits
 from ..preconditions.judged import require, require_reading
 from ..server import transport
+from ..server.catalog import Table
 from ..server.connection import Connection
 from ..server.publication_setup import Wanted
-from ..server.publications import Table, estimated_rows, sizes_of, stored_in
+from ..server.publications import estimated_rows, sizes_of, stored_in
 from ..server.session import Server, identify, is_lost, settle, slot_position
 from ..server.subscription import Subscription
 from ..server.waits import Waiting, lock_text

@@ -15,11 +15,12 @@ from pgsub_feed import log
 from pgsub_feed.texts import counted, identifier, literal, lsn_text
 
 from ..errors import ServerError, Unfit
-from ..server.connection import QUICK, Check, Connection
+from ..server.connection import QUICK, Connection
 from ..server.lost_slot import IDLE, idle_limit
 from ..server.publication_setup import REFUSED
 from ..server.session import is_lost, settle, slot_position
 from ..server.subscription import Subscription
+from ..server.ticks import Check
 from ..server.waits import Waiting
 from .slots import create_temporary
 from .table_reader import take_snapshot

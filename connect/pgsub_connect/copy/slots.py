@@ -10,11 +10,13 @@ from pgsub_feed.texts import identifier, literal, parse_lsn
 from ..drift.remembered import Remembered
 from ..errors import ServerError, Unfit, understood
 from ..preconditions.judged import require
-from ..server.catalog import read_catalog
-from ..server.connection import QUICK, Check, Connection, never
-from ..server.publication_setup import Look, Maker, Wanted, has_publication
+from ..server.catalog_reader import read_catalog
+from ..server.connection import QUICK, Connection
+from ..server.publication_content import has_publication
+from ..server.publication_setup import Look, Maker, Wanted
 from ..server.session import settle, settle_for_slot, slot_position
 from ..server.subscription import Subscription
+from ..server.ticks import Check, never
 from ..server.waits import Waiting
 
 

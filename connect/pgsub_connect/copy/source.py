@@ -14,10 +14,12 @@ from pgsub_feed.tables.names import names_of
 
 from ..drift.remembered import Remembered
 from ..errors import NoSlot, Passing, ServerError, Unfit
-from ..server.connection import Check, Connection
-from ..server.publications import Table, published_tables
+from ..server.catalog import Table
+from ..server.connection import Connection
+from ..server.publications import published_tables
 from ..server.session import identify, is_same_database, settle
 from ..server.subscription import Subscription
+from ..server.ticks import Check
 from ..server.waits import Waiting
 from ..store.checkpoint_lines import FOLLOWING, Known
 from .slots import create_temporary

@@ -24,8 +24,9 @@ from pgsub_feed import log
 from pgsub_feed.texts import literal
 
 from ..errors import ServerError
+from ..server.catalog import Table
 from ..server.connection import Connection
-from ..server.publications import Table, are_so_named, stored_in
+from ..server.publications import are_so_named, stored_in
 from ..server.session import settle
 from ..server.subscription import Subscription
 from .messages import InsertHeads, frame, inserts, relation

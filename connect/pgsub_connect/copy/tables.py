@@ -4,15 +4,17 @@ from __future__ import annotations
 
 from pgsub_feed import log
 
-from ..drift.differences import PUBLICATION, root_of
-from ..drift.findings import About
+from ..drift.findings import PUBLICATION, About
+from ..drift.partition_differences import root_of
 from ..drift.remembered import Remembered
 from ..errors import ServerError
-from ..server.catalog import Catalog, read_catalog
-from ..server.connection import Check, Connection
-from ..server.publications import Table, are_so_named, published_tables, sizes_of
+from ..server.catalog import Catalog, Table
+from ..server.catalog_reader import read_catalog
+from ..server.connection import Connection
+from ..server.publications import are_so_named, published_tables, sizes_of
 from ..server.session import settle
 from ..server.subscription import Subscription
+from ..server.ticks import Check
 from .tries import CHANGED
 
 # for how many milliseconds a lock is waited for where names are compared

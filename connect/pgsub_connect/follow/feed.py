@@ -31,12 +31,14 @@ from pgsub_feed.reader.positions import make_folder
 from pgsub_feed.reader.segments import CONFIRMED, Reader, read_confirmed, segments
 from pgsub_feed.texts import counted, lsn_text
 
-from ..drift.remembered import Remembered, replace_file
+from ..drift.durable_file import replace_file
+from ..drift.remembered import Remembered
 from ..drift.tolerance import Tolerance
 from ..errors import FileError, Passing, Unfit
-from ..server.connection import Check, Connection
+from ..server.connection import Connection
 from ..server.session import identify, settle
 from ..server.subscription import Subscription
+from ..server.ticks import Check
 from ..store.at_rest import has_log
 from ..store.checkpoint import Checkpoint
 from ..store.snapshot import position_in
@@ -47,6 +49,7 @@ from .tables_process import check as check_tables
 
 if TYPE_CHECKING:
     from ..status.progress import Progress
+
 
 # How often what is confirmed is written where a keepalive alone has moved it, and else; how often
 # the readers are looked at, and how often old segments are looked for, in seconds.

@@ -21,7 +21,7 @@ from pgsub_feed.texts import parse_lsn
 
 from .. import version
 from ..errors import FilterFault, Passing
-from ..server.connection import Check, never
+from ..server.ticks import Check, never
 from .awake import Awake
 
 # A status: CopyData, 34 bytes of payload that begin with `r`, and written, flushed, applied, clock

@@ -12,14 +12,15 @@ from pgsub_feed import log
 from pgsub_feed.texts import lsn_text
 
 from ..drift.tolerance import Tolerance
-from ..drift.watch import Watch
 from ..errors import ServerError, Unfit
 from ..server import transport
-from ..server.connection import Check, Connection
+from ..server.connection import Connection
 from ..server.session import Server, is_same_database, left_at, settle, slot_position
 from ..server.subscription import Subscription
+from ..server.ticks import Check
 from ..store import checkpoint_lines as known_of
 from ..store.checkpoint import Checkpoint, check_gap
+from .drift_watch import Watch
 
 
 class Fitting:

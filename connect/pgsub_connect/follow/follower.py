@@ -16,12 +16,9 @@ from pgsub_feed import log
 from pgsub_feed.texts import counted, identifier, lsn_text, replication_literal
 
 from ..add.adder import Adder
-from ..drift.differences import PUBLICATION
-from ..drift.findings import NOTHING, About
-from ..drift.missed_rows import Misses
+from ..drift.findings import NOTHING, PUBLICATION, About
 from ..drift.remembered import Remembered
 from ..drift.tolerance import Tolerance
-from ..drift.watch import Watch
 from ..errors import (
     LOGIN,
     FileError,
@@ -56,12 +53,14 @@ from ..store.checkpoint import Checkpoint
 from ..store.snapshot import SOON, Snapshots
 from . import too_large
 from .awake import NEEDED, Awake, processors
+from .drift_watch import Watch
 from .feed import Feeding
 from .filter import MISSED, PIECE, Filter, FilterEnded
 from .fitness import Fitting
 from .gate import LOOK as GATE
 from .gate import WAITED, Gating
 from .memory_limit import BufferLimits
+from .missed_rows import Misses
 from .repair import Repairing
 from .skip import Skipping
 from .stall import Standing

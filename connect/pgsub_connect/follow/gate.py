@@ -35,8 +35,9 @@ from typing import Protocol
 from pgsub_feed.texts import parse_lsn
 
 from ..errors import NoSlot, Passing, ServerError, Stopped, Unfit, understood
-from ..server.connection import QUICK, Check, Connection
+from ..server.connection import QUICK, Connection
 from ..server.subscription import Subscription
+from ..server.ticks import Check
 from ..status.progress import Progress
 from .hold import Hold
 

@@ -47,9 +47,9 @@ from .stream_log import EPOCH, relation_of
 
 if TYPE_CHECKING:
     from ..drift.remembered import Remembered
-    from ..drift.watch import Watch
     from ..store.checkpoint import Checkpoint
     from ..store.snapshot import Snapshots
+    from .drift_watch import Watch
     from .statuses import Confirming
     from .stream_log import Noting
 

@@ -13,12 +13,12 @@ from __future__ import annotations
 import time
 from collections.abc import Sequence
 
-from ..drift.missed_rows import Misses
 from ..server.connection import Connection
 from ..status.progress import Progress
 from ..store.checkpoint import Checkpoint
 from .feed import Reached
 from .filter import Filter, asking, flushed, lowered
+from .missed_rows import Misses
 from .stream_log import Noting, final_lsn
 
 # How often a position that a keepalive alone has moved is passed on, in seconds. Each time costs a

@@ -19,7 +19,8 @@ from collections.abc import Callable, Sequence
 
 from pgsub_feed.texts import counted, lsn_text
 
-from ..drift.remembered import Relation, Remembered
+from ..drift.relation import Relation
+from ..drift.remembered import Remembered
 from ..server.catalog import Column, Shape
 from ..status.progress import Progress
 

@@ -7,7 +7,8 @@ from collections.abc import Callable
 from ..errors import ServerError, UsageError
 from ..server.connection import Connection
 from ..server.preflight import Facts, role_facts, server_facts, tables_facts
-from ..server.publication_setup import REFUSED, members
+from ..server.publication_setup import REFUSED
+from ..server.replica_identity import members
 from .publication import judge_publications
 from .result import ERROR, FAILOVER, Judged, Purpose, Result, version_text
 from .role import judge_reading, judge_role

@@ -49,8 +49,8 @@ def judge_slot(facts: Facts, purpose: Purpose) -> Judged:
             yield Result(WARNING, "failover", f"{name} isn't handed on to standbys")
 
 
-def judge_slot_size(status: str, safe: str, text: str) -> Judged:
-    left = f", {safe} bytes of log before it is lost" if safe else ""
+def judge_slot_size(status: str, safe: int | None, text: str) -> Judged:
+    left = "" if safe is None else f", {safe} bytes of log before it is lost"
     if status == "unreserved":
         yield Result(WARNING, "slot", f"{text}: about to be lost (wal_status unreserved)")
     else:

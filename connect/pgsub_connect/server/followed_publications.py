@@ -6,11 +6,13 @@ from pgsub_feed import log
 from pgsub_feed.texts import literal
 
 from ..errors import ServerError, understood
-from .connection import Check, Connection
+from .connection import Connection
 from .preflight import source_wanted
-from .publication_setup import REFUSED, Wanted, keyless_of, names_of
+from .publication_setup import REFUSED, Wanted, names_of
+from .replica_identity import keyless_of
 from .session import settle
 from .subscription import Subscription
+from .ticks import Check
 
 
 def require_published(subscription: Subscription, wanted: Wanted, check: Check) -> None:

@@ -9,7 +9,8 @@ from collections.abc import Callable
 from pgsub_feed import log
 
 from ..errors import ServerError, understood
-from .connection import Check, Connection
+from .connection import Connection
+from .ticks import Check
 
 # After how many seconds it is told first, and again.
 FIRST, AGAIN = 10.0, 60.0

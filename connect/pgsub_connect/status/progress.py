@@ -10,6 +10,7 @@ from pgsub_feed.texts import lsn_text
 from .. import VERSION
 from ..server import transport
 from ..server.session import waits_for
+from ..server.slot import Slot
 from ..store.checkpoint_lines import Counted
 from .lag import Lag
 
@@ -28,17 +29,6 @@ STATES = (
     "stopped",
     "failed",
 )
-
-
-class Slot:
-    """What the server says of the slot; empty or None where its version doesn't say it, or hasn't
-    yet."""
-
-    def __init__(self) -> None:
-        self.wal_status = ""
-        self.safe_wal_size: int | None = None
-        # when that was told, by the clock that runs evenly
-        self.told = 0.0
 
 
 class Progress:

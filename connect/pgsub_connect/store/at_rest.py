@@ -20,7 +20,7 @@ from pgsub_feed.json_texts import Unreadable, object_of, parsed, read_plain
 from pgsub_feed.ownership import give, real
 
 from ..errors import FileError, Passing
-from ..server.connection import Check
+from ..server.ticks import Check
 from .checkpoint import has_name
 from .snapshot import LOG, NEW, OF_FILE, copy, fold, part_of, remove
 

@@ -48,7 +48,7 @@ from pgsub_feed.json_texts import GREATEST
 from pgsub_feed.texts import lsn_text
 
 from ..errors import FileError, Passing, Unfit
-from ..server.connection import Check, never
+from ..server.ticks import Check, never
 from .checkpoint_lines import NEW, SIZE, TEXT, Counted, Known, line_of, padded, read_file
 
 MODE = 0o600

@@ -20,10 +20,11 @@ from pgsub_feed.tables.names import OLD, POSITION, TABLES, name_columns, name_ta
 from pgsub_feed.tables.values import Malformed, Read, Unlike, Value, kind_of, read_row
 from pgsub_feed.texts import counted, identifier, lsn_text
 
-from ..drift.remembered import Relation, Remembered
+from ..drift.relation import Relation
+from ..drift.remembered import Remembered
 from ..errors import FileError, Passing, Stopped, Unfit
 from ..server.catalog import Column, Shape
-from ..server.connection import Check
+from ..server.ticks import Check
 from .at_rest import at_rest, failed
 from .file import APPLICATION, check_store, choose, is_export, opened, read_position, read_relations
 from .placing import check_into, placed

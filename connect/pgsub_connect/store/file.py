@@ -12,7 +12,8 @@ import urllib.parse
 from pgsub_feed import log
 from pgsub_feed.tables.values import Malformed, read_columns
 
-from ..drift.remembered import Relation, Remembered
+from ..drift.relation import Relation
+from ..drift.remembered import Remembered
 from ..errors import FileError
 from ..server.catalog import Shape
 

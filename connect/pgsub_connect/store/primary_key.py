@@ -13,7 +13,8 @@ from pgsub_feed import log
 from ..server.catalog import Table
 
 if TYPE_CHECKING:
-    from ..drift.remembered import Relation
+    from ..drift.relation import Relation
+
 
 # The replica identities that may be another key, or none.
 OTHER = ("f", "i")

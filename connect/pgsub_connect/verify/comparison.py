@@ -18,8 +18,8 @@ from pgsub_feed.texts import counted
 
 from ..copy.source import Source
 from ..errors import Passing
+from ..server.catalog import Table
 from ..server.publication_setup import names_of
-from ..server.publications import Table
 from ..store.checkpoint_lines import Known
 from .digests import Field, Fields, Plan, Sums, fields_in
 from .sides import Group, Sides

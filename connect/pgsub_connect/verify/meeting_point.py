@@ -10,7 +10,7 @@ from pgsub_feed.texts import lsn_text
 
 from ..errors import Delayed, Passing, Unrepaired
 from ..follow.hold import CHANGES, write_own_request
-from ..server.connection import Check
+from ..server.ticks import Check
 from ..store.at_rest import (
     LOOK,
     is_followed,

@@ -29,7 +29,7 @@ from pgsub_feed.ownership import give
 from pgsub_feed.texts import counted
 
 from ..copy.messages import delete, insert, relation, update
-from ..server.publications import Table
+from ..server.catalog import Table
 from .digests import Plan, Sums, fields_in
 from .sides import Group, Sides
 

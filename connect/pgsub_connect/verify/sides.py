@@ -16,10 +16,11 @@ from pgsub_feed.texts import lsn_text
 
 from ..copy.messages import unescaped
 from ..copy.source import Source
-from ..drift.remembered import Relation
+from ..drift.relation import Relation
 from ..errors import Unfit, understood
-from ..server.connection import Check
-from ..server.publications import Table, estimated_rows
+from ..server.catalog import Table
+from ..server.publications import estimated_rows
+from ..server.ticks import Check
 from ..store.file import check_store, opened, read_position, read_relations
 from .digests import Plan, Queries, Summing, Sums, chunks_for, fields_in, fields_of, text_of
 

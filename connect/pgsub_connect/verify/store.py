@@ -15,11 +15,13 @@ from ..copy.source import Source
 from ..drift.remembered import Remembered
 from ..errors import Delayed, Unrepaired
 from ..follow.gate import CURE, TABLE
-from ..server.connection import Check, parameters
+from ..server.addresses import parameters
+from ..server.catalog import Table
 from ..server.publication_setup import names_of
-from ..server.publications import Table, sizes_of
+from ..server.publications import sizes_of
 from ..server.session import waits_for
 from ..server.subscription import Subscription
+from ..server.ticks import Check
 from ..store.at_rest import check_there, is_followed
 from ..store.checkpoint_at_rest import read_known
 from .comparison import Choose, Compared, Verifier, among, settled, tell_left

@@ -15,10 +15,10 @@ from pgsub_feed.tables.view import View
 from pgsub_feed.texts import counted
 
 from ..copy.source import Source
-from ..drift.remembered import Relation
+from ..drift.relation import Relation
 from ..errors import Unfit
+from ..server.catalog import Column, Shape, Table
 from ..server.publication_setup import names_of
-from ..server.publications import Column, Table
 from ..server.subscription import Subscription
 from .comparison import DIFFERENT, EQUAL, Verifier
 from .digests import Plan, Sums, chunks_for
@@ -120,14 +120,12 @@ def tables_of(views: Sequence[View]) -> list[Table]:
                 Column(it.name, it.type_oid, it.modifier, it.key) for it in relation.shape.columns
             ]
             schema = relation.namespace or "pg_catalog"
-            identity = relation.shape.identity
-            found.setdefault(
-                oid, Table(oid, schema, relation.name, "r", identity, None, None, columns)
-            )
+            shape = Shape(relation.shape.identity, tuple(columns))
+            found.setdefault(oid, Table(oid, schema, relation.name, "r", shape))
     asides = {oid: it for view in views for oid, it in view.asides.items() if oid not in found}
     return [
         *found.values(),
-        *(Table(oid, it.schema, it.table, "r", "", None, None, []) for oid, it in asides.items()),
+        *(Table(oid, it.schema, it.table, "r", Shape("", ())) for oid, it in asides.items()),
     ]
 
 

@@ -32,8 +32,8 @@ from pgsub_feed.texts import lsn_text
 from ..copy.source import Source, chosen
 from ..drift.remembered import Remembered
 from ..errors import FileError, Passing, Stopped, Unfit
-from ..server.connection import Check
-from ..server.publications import Table
+from ..server.catalog import Table
+from ..server.ticks import Check
 from ..store.checkpoint_at_rest import read_known
 from ..store.checkpoint_lines import FOLLOWING, Known
 from .comparison import Choose, Compared, settled, tell_left

@@ -17,7 +17,7 @@ from __future__ import annotations
 import string
 from collections.abc import Sequence
 
-from pgsub_connect.drift.remembered import Relation
+from pgsub_connect.drift.relation import Relation
 
 from ..reader.commits import Cell
 

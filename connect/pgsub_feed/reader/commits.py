@@ -5,7 +5,7 @@ from __future__ import annotations
 import dataclasses
 from typing import NamedTuple
 
-from pgsub_connect.drift.remembered import Relation
+from pgsub_connect.drift.relation import Relation
 
 from ..texts import lsn_text
 

@@ -8,7 +8,7 @@ import re
 from collections.abc import Callable, Iterator, Sequence
 from typing import Any
 
-from pgsub_connect.drift.remembered import Relation
+from pgsub_connect.drift.relation import Relation
 from pgsub_connect.server.catalog import Column, Shape
 
 from ..faults import COUNTS, LINE, UNDESCRIBED, WIDTH, Damaged

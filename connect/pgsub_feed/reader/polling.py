@@ -6,7 +6,7 @@ import time
 from collections.abc import Iterator
 
 from pgsub_connect.errors import Unfit
-from pgsub_connect.server.connection import Check
+from pgsub_connect.server.ticks import Check
 
 from ..faults import Damaged
 from .commits import Commit

@@ -7,7 +7,7 @@ import contextlib
 import os
 import time
 
-from pgsub_connect.drift.remembered import replace_file
+from pgsub_connect.drift.durable_file import replace_file
 from pgsub_connect.store.snapshot import LOG, sync_folder
 
 from ..ownership import real, set_mode

@@ -4,7 +4,7 @@ from __future__ import annotations
 
 from collections.abc import Iterable
 
-from pgsub_connect.drift.remembered import Relation
+from pgsub_connect.drift.relation import Relation
 
 from ..tables.names import names_of
 

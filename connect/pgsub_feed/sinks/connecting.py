@@ -13,7 +13,7 @@ import threading
 import time
 from typing import Any, Union
 
-from pgsub_connect.server.connection import Check
+from pgsub_connect.server.ticks import Check
 
 # For how long one wait lasts at most, in seconds.
 TICK = 0.1

@@ -7,7 +7,7 @@ import json
 from collections.abc import Sequence
 from typing import Optional
 
-from pgsub_connect.drift.remembered import Relation
+from pgsub_connect.drift.relation import Relation
 
 from ..formats.lines import old_cells
 from ..reader.commits import Cell, Cells, Change, Missed, Unsent

@@ -7,9 +7,9 @@ import os
 import sqlite3
 from collections.abc import Iterator
 
-from pgsub_connect.drift.remembered import Relation
+from pgsub_connect.drift.relation import Relation
 from pgsub_connect.errors import FileError, Unfit
-from pgsub_connect.server.connection import Check
+from pgsub_connect.server.ticks import Check
 from pgsub_connect.store.at_rest import own_name
 from pgsub_connect.store.export import ExportSettings, export_store
 from pgsub_connect.store.file import is_export

@@ -15,7 +15,7 @@ from collections.abc import Iterable, Iterator
 from typing import Any
 
 from pgsub_connect.errors import Passing, Stopped, TooLarge, Unfit
-from pgsub_connect.server.connection import Check
+from pgsub_connect.server.ticks import Check
 
 from .. import log
 from ..faults import Damaged

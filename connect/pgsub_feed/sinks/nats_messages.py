@@ -18,7 +18,7 @@ import re
 from collections.abc import Iterator
 from typing import Any, NamedTuple
 
-from pgsub_connect.drift.remembered import Relation
+from pgsub_connect.drift.relation import Relation
 
 from ..formats.keys import subject
 from ..json_texts import Unreadable, lsn_of, object_of, parsed, whole_of

@@ -23,7 +23,7 @@ import urllib.parse
 from typing import Any
 
 from pgsub_connect.errors import EngineError, Passing, UsageError
-from pgsub_connect.server.connection import Check, never
+from pgsub_connect.server.ticks import Check, never
 
 from .. import log
 from ..json_texts import Unreadable, object_of, parsed, whole_of

@@ -9,7 +9,7 @@ from collections.abc import Callable, Iterator, Sequence
 from typing import Any, Protocol, Union
 
 from pgsub_connect.errors import EngineError, FileError, Passing, Stopped, UsageError
-from pgsub_connect.server.connection import Check, never
+from pgsub_connect.server.ticks import Check, never
 
 from .. import log
 from ..interruption import interruptible

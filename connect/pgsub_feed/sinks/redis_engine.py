@@ -24,7 +24,7 @@ from collections.abc import Iterable, Iterator, Sequence
 from typing import Any, Optional, Protocol
 
 from pgsub_connect.errors import EngineError, Passing, Stopped, Unfit
-from pgsub_connect.server.connection import Check, never
+from pgsub_connect.server.ticks import Check, never
 
 from ..interruption import at_most
 from ..json_texts import list_of, parsed, text_of

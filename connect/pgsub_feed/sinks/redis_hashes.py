@@ -13,7 +13,7 @@ from collections.abc import Iterable, Iterator, Sequence
 from typing import Union
 
 from pgsub_connect.errors import Unfit
-from pgsub_connect.server.connection import Check
+from pgsub_connect.server.ticks import Check
 
 from ..formats.keys import NULL, row_text
 from ..reader.commits import Cell, Cells, Change, Missed

@@ -12,7 +12,7 @@ import functools
 import json
 from typing import Any, Protocol
 
-from pgsub_connect.drift.remembered import Relation
+from pgsub_connect.drift.relation import Relation
 from pgsub_connect.errors import Unfit
 
 from .. import log

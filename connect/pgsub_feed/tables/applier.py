@@ -7,8 +7,8 @@ import sqlite3
 from collections.abc import Iterable, Sequence
 
 from pgsub_connect.add.replacement import XID
-from pgsub_connect.drift.remembered import Relation
-from pgsub_connect.server.connection import Check
+from pgsub_connect.drift.relation import Relation
+from pgsub_connect.server.ticks import Check
 from pgsub_connect.store.export import Bound
 
 from ..reader.commits import Change, Commit, Part, TableLine

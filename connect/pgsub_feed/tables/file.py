@@ -19,7 +19,7 @@ from __future__ import annotations
 import json
 import sqlite3
 
-from pgsub_connect.drift.remembered import Relation
+from pgsub_connect.drift.relation import Relation
 from pgsub_connect.errors import FileError, Passing, Unfit
 from pgsub_connect.server.catalog import Column, Shape
 from pgsub_connect.store.export import NONE, key_index

@@ -11,7 +11,7 @@ import urllib.parse
 from collections.abc import Iterable, Iterator, Sequence
 
 from pgsub_connect.errors import FileError, Passing, Unfit
-from pgsub_connect.server.connection import Check
+from pgsub_connect.server.ticks import Check
 from pgsub_connect.store.at_rest import is_followed, own_name
 from pgsub_connect.store.export import ExportSettings, export_store
 from pgsub_connect.store.file import APPLICATION_AT, MAGIC, is_export

@@ -10,7 +10,8 @@ from __future__ import annotations
 import os
 from collections.abc import Sequence
 
-from pgsub_connect.drift.remembered import Relation, Remembered
+from pgsub_connect.drift.relation import Relation
+from pgsub_connect.drift.remembered import Remembered
 from pgsub_connect.errors import FileError
 from pgsub_connect.server.catalog import Table
 from pgsub_connect.store.primary_key import OTHER, primary_key

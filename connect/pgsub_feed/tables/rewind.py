@@ -9,9 +9,9 @@ from __future__ import annotations
 import dataclasses
 from collections.abc import Iterator
 
-from pgsub_connect.drift.remembered import Relation
+from pgsub_connect.drift.relation import Relation
 from pgsub_connect.errors import Unfit
-from pgsub_connect.server.connection import Check
+from pgsub_connect.server.ticks import Check
 
 from ..reader.commits import Change, Commit, Cursor, Missed, Part, TableLine
 from ..reader.polling import Poll

@@ -16,7 +16,7 @@ import sqlite3
 from collections.abc import Iterator
 from typing import NamedTuple
 
-from pgsub_connect.drift.remembered import Relation
+from pgsub_connect.drift.relation import Relation
 from pgsub_connect.errors import Unfit
 
 from .. import log

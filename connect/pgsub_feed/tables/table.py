@@ -7,7 +7,7 @@ import math
 import sqlite3
 from collections.abc import Sequence
 
-from pgsub_connect.drift.remembered import Relation
+from pgsub_connect.drift.relation import Relation
 from pgsub_connect.store.export import Bound, Target, key_index, unlike_reason, with_columns
 
 from ..reader.commits import Cell

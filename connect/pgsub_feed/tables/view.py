@@ -14,11 +14,10 @@ import os
 import sqlite3
 from collections.abc import Collection, Iterable, Iterator
 
-from pgsub_connect.drift.remembered import Relation
+from pgsub_connect.drift.relation import Relation
 from pgsub_connect.errors import FileError, Passing
-from pgsub_connect.server.catalog import Column
-from pgsub_connect.server.connection import Check
-from pgsub_connect.server.publications import Table
+from pgsub_connect.server.catalog import Column, Table
+from pgsub_connect.server.ticks import Check
 from pgsub_connect.verify.digests import Fields as Texts
 from pgsub_connect.verify.digests import Plan, Summing, Sums, text_of
 from pgsub_connect.verify.sides import ROWS, Row

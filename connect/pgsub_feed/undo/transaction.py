@@ -10,10 +10,10 @@ from __future__ import annotations
 from collections.abc import Callable, Iterable, Iterator
 
 from pgsub_connect.add.replacement import XID
-from pgsub_connect.drift.remembered import Relation
+from pgsub_connect.drift.relation import Relation
 from pgsub_connect.errors import Unfit
-from pgsub_connect.server.connection import Check
 from pgsub_connect.server.session import SETTINGS
+from pgsub_connect.server.ticks import Check
 
 from .. import log
 from ..reader.commits import Cell, Change, Commit, Missed, TableLine

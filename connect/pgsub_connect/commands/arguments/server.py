@@ -13,7 +13,7 @@ from pgsub_feed.ownership import readable_by, readable_text
 
 from ...drift.remembered import Remembered
 from ...server import transport
-from ...server.connection import parameters
+from ...server.addresses import parameters
 from ...server.name_length import check_lengths
 from ...server.publication_setup import inserts_of
 from ...server.subscription import Subscription

@@ -7,19 +7,21 @@ import time
 
 from pgsub_feed import log
 
+from ..drift.doubts import resolved
+from ..drift.findings import NAMES
+from ..drift.remembered import Remembered
+from ..drift.tell_once import warnings
+from ..drift.tolerance import Tolerance
 from ..errors import Passing, ServerError, Unfit
-from ..server.catalog import Catalog, read_catalog
-from ..server.connection import QUICK, Check, Connection
+from ..server.catalog import Catalog
+from ..server.catalog_reader import read_catalog
+from ..server.connection import QUICK, Connection
 from ..server.session import settle
 from ..server.subscription import Subscription
+from ..server.ticks import Check
 from ..status.progress import Progress
 from ..store.checkpoint import MISSING, Checkpoint
-from .differences import NAMES
-from .doubts import resolved
 from .missed_rows import texts_of
-from .remembered import Remembered
-from .tell_once import warnings
-from .tolerance import Tolerance
 
 # After how many seconds the file is written where nothing in it is urgent, the publications are
 # looked at again, and that is tried again where it failed; and after how many they are looked at

@@ -19,14 +19,14 @@ from typing import TYPE_CHECKING
 from pgsub_feed import log
 from pgsub_feed.texts import counted, lsn_text
 
+from ..drift.remembered import Remembered
+from ..drift.tolerance import Tolerance
 from ..status.progress import Progress
 from ..store.checkpoint import MISSING, Checkpoint
 from ..store.checkpoint_lines import Counted
-from .remembered import Remembered
-from .tolerance import Tolerance
 
 if TYPE_CHECKING:
-    from ..follow.filter import Missing
+    from .filter import Missing
 
 # After how many seconds more of them are told at the earliest.
 AGAIN = 10.0
@@ -59,12 +59,8 @@ class Misses:
         progress: Progress,
         remembered: Remembered,
     ) -> None:
-        self.tolerance, self.checkpoint, self.progress, self.remembered = (
-            tolerance,
-            checkpoint,
-            progress,
-            remembered,
-        )
+        self.tolerance, self.checkpoint = tolerance, checkpoint
+        self.progress, self.remembered = progress, remembered
         self.count = 0
         # how many of the filter that runs are noted
         self.noted = 0
