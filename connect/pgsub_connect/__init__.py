@@ -6,6 +6,8 @@ program's statuses back.
 | the server: connections, catalog, publications, slots | `server` |
 | the files of a store, copies and exports for readers | `store` |
 | how it goes | `status` |
+| what a server has to have | `preconditions` |
+| recordings | `record` |
 | what may make the copy wrong | `drift` |
 | the first rows | `copy` |
 | one table within the stream | `add` |

@@ -1,232 +1,144 @@
-"""What a command line starts, and the statuses with which it ends."""
+"""Which subcommand a command line asks for."""
 
 from __future__ import annotations
 
-import os
-import signal
+import argparse
+import dataclasses
+import importlib
 import sys
 from collections.abc import Callable, Sequence
-from typing import Any
+from typing import Any, Protocol, cast
 
-from pgsub_feed.errors import Stopped, Unfit
-from pgsub_feed.interruption import Check
-from pgsub_feed.program import Start, guarded, stop_by_signals
+from pgsub_feed import log
+from pgsub_feed.arguments import TellVersion
+from pgsub_feed.program import guarded
 
-from .commands import add
-from .commands import check as check_module
-from .commands import drop, refresh, sink, snapshot
-from .commands import status as status_module
-from .commands import tables
-from .commands import verify as verify_module
-from .commands import wait
-from .commands.options import Options
-from .commands.record import Aside, Recorder, Recording
-from .commands.words import arguments, settle_options
-from .copy.copier import Copier, create_slot, maker_of
-from .drift.remembered import Remembered, print_names
-from .errors import MISSED
-from .follow.feed import Feeding
-from .follow.follower import Follower
-from .follow.server_watch import Asker
-from .server import transport
-from .server.followed_publications import require_published
-from .status.files import Reporter
-from .status.notify import notifier_of
-from .status.progress import Progress
-from .store import export
-from .store.checkpoint import Checkpoint
-from .store.checkpoint_lines import FOLLOWING
-from .store.placing import check_meant
-from .store.snapshot import Snapshots, part_of
-from .stream.filter import Filter
-from .verify import tables_file as tables_verifying
+from .commands.arguments.exit_status import ENDS
 
+ABOUT = """\
+Follows a PostgreSQL server: carries the change stream of a slot to `pgsub follow`, and the program's statuses back.
 
-def snapshot_by_signal(snapshots: Snapshots) -> None:
-    def ask(*_: object) -> None:
-        snapshots.asked = True
+  pgsub-connect follow --dsn 'dbname=shop' --create --table stock --store copy.db     makes publication, slot and copy, and follows
+  pgsub-connect follow --dsn 'dbname=shop' --store copy.db                            goes on with a store that is there
+  pgsub-connect follow --dsn 'dbname=shop' --create --table stock --store copy.db --tables rows.db     keeps tables of SQLite, too
+  pgsub-connect record --dsn 'dbname=shop' --slot s --publication p --record shop.pgx --until now     only records
+"""
+MORE = """\
+It logs in by libpq, with its environment (PGHOST, PGPASSWORD, ..), ~/.pgpass, services and TLS. A connection that is lost is made
+again after 1, 2, 4 .. 60 seconds, and a filter that was killed is started again. SIGTERM and SIGINT end it once the filter has
+ended. docs/OPERATING.md says what the server needs, and what to do when it stops.
 
-    signal.signal(signal.SIGUSR1, ask)
+The server needs wal_level = logical. The user needs the attribute REPLICATION, the right to read the published tables, and
+for --create the right to create a publication (of all tables: to be a superuser). A slot keeps the server's log until it is
+confirmed or dropped: SELECT pg_drop_replication_slot('NAME').
 
-
-def make_filter(options: Options, checkpoint: Checkpoint, path: str) -> Filter:
-    words = [options.pgsub, "follow", "--store", path]
-    words += ["--max-buffered", str(options.max_buffered), "--max-frame", str(options.max_frame)]
-    words += ["--cache", str(options.cache)] if options.cache else []
-    return Filter(words, (checkpoint.file,), options.proto, options.mode)
+"""
+# The subcommands, each a module of `commands` with this name.
+COMMANDS = (
+    "follow",
+    "record",
+    "check",
+    "drop",
+    "export",
+    "snapshot",
+    "verify",
+    "add",
+    "refresh",
+    "names",
+    "status",
+    "tables",
+    "sink",
+    "wait",
+)
 
 
-def follow(options: Options) -> int:
-    """Follows to the end that was asked for; the exit status."""
-    start = Start()
-    stop_by_signals(start)
-    if options.snapshot:
-        snapshot.check_copied(options.store, options.snapshot, "--snapshot")
-    check_meant(options.store)
-    if not (
-        options.create
-        or options.no_copy
-        or any(os.path.exists(options.store + it) for it in ("", ".connector"))
-    ):
-        # (before there is a file that would stay)
-        raise no_store(options)
-    checkpoint = Checkpoint(options.store, start.check)
-    transport.OWN.begin(checkpoint.known.encrypted, options.accept)
-    progress = Progress(notifier_of(os.environ))
-    remembered = Remembered(options.store, options.mode)
-    feeding = Feeding(options, checkpoint, progress, remembered)
-    feeding.check()
-    recording = (
-        Aside(Recording(options.record, True, options.bytes, options.mode))
-        if options.record
-        else None
+class Command(Protocol):
+    """A module of `commands`. It may have `check_options` too, which rejects options that don't go
+    together, and gives what they mean."""
+
+    ABOUT: str
+    ENDS: str | None
+    Options: Callable[..., Any]
+
+    def add_options(self, parser: argparse.ArgumentParser) -> None:
+        ...
+
+    def run(self, options: Any) -> int:
+        ...
+
+
+def command_of(name: str) -> Command:
+    return cast(Command, importlib.import_module(f".commands.{name}", __package__))
+
+
+def parser_of(name: str) -> argparse.ArgumentParser:
+    """What reads the options of a subcommand."""
+    command = command_of(name)
+    parser = argparse.ArgumentParser(
+        prog=f"{log.PROGRAM} {name}",
+        description=command.ABOUT,
+        formatter_class=argparse.RawDescriptionHelpFormatter,
+        epilog=command.ENDS,
+        allow_abbrev=False,
     )
-    copier = Copier(
-        options,
-        checkpoint,
-        make_filter(options, checkpoint, part_of(options.store)),
-        progress,
-        remembered,
+    command.add_options(parser)
+    return parser
+
+
+def overview() -> argparse.ArgumentParser:
+    """What tells which subcommands there are."""
+    parser = argparse.ArgumentParser(
+        prog=log.PROGRAM,
+        description=ABOUT,
+        epilog=MORE + ENDS,
+        formatter_class=argparse.RawDescriptionHelpFormatter,
+        allow_abbrev=False,
     )
-    child = make_filter(options, checkpoint, options.store)
-    snapshots = Snapshots(options.store, options.snapshot, options.snapshot_every, options.mode)
-    follower = Follower(
-        options, checkpoint, child, progress, recording, snapshots, remembered, feeding
+    parser.add_argument(
+        "--version",
+        action=TellVersion,
+        nargs=0,
+        help="show the version, and the commit of a checkout",
     )
-    snapshot_by_signal(snapshots)
-    stop_by_signals(copier, follower)
-    if start.stop_asked:
-        copier.stop_asked = follower.stop_asked = True
-    reporter, asker = Reporter(
-        options, progress
-    ) if options.status_file or options.metrics_file else None, Asker(options, progress)
-    asker.start()
-    if reporter:
-        reporter.start()
-    try:
-        if not os.path.exists(options.store):
-            begin(options, checkpoint, copier, remembered, follower.check_stop)
-            # (a server that is lost from now on is waited for)
-            follower.note_connected(copier.was_connected)
-        elif options.table or options.all_tables:
-            require_published(options, follower.check_stop)
-        feeding.begin(child, follower.confirming.stored, follower.check_stop)
-        follower.run()
-        progress.enter("stopped")
-    except Stopped:
-        progress.enter("stopped")
-    except Exception as error:
-        progress.note_error(str(error))
-        progress.enter("failed")
-        raise
-    finally:
-        child.kill()
-        feeding.finish()
-        if recording:
-            recording.flush()
-        asker.finish()
-        if reporter:
-            reporter.finish()
-    return MISSED if follower.misses.count else 0
+    commands = parser.add_subparsers(dest="command", metavar="COMMAND", required=True)
+    for name in COMMANDS:
+        commands.add_parser(name, help=command_of(name).ABOUT.partition("\n")[0])
+    return parser
 
 
-def no_store(options: Options) -> Unfit:
-    return Unfit(
-        f"there is no store {options.store}: --create makes it, with publication and slot; see --help"
+def named(words: Sequence[str]) -> tuple[str, Sequence[str]]:
+    """The subcommand and its words. Without one it is `follow` where a store is named, and else
+    `record`."""
+    if words and words[0] in COMMANDS:
+        return words[0], words[1:]
+    if not words or words[0] in ("-h", "--help", "--version"):
+        overview().parse_args(words)
+    has_store = any(word == "--store" or word.startswith("--store=") for word in words)
+    return "follow" if has_store else "record", words
+
+
+def arguments(words: Sequence[str]) -> tuple[str, Any]:
+    """The subcommand that a command line names, and its options."""
+    name, words = named(words)
+    command, parser = command_of(name), parser_of(name)
+    found, unknown = parser.parse_known_args(words)
+    if unknown:
+        overview().error(f"unrecognized arguments: {' '.join(unknown)}")
+    fields = {it.name for it in dataclasses.fields(cast(Any, command.Options))}
+    options = command.Options(
+        **{
+            field: tuple(it) if isinstance(it, list) else it
+            for field, it in vars(found).items()
+            if field in fields
+        }
     )
-
-
-def begin(
-    options: Options, checkpoint: Checkpoint, copier: Copier, remembered: Remembered, check: Check
-) -> None:
-    """What a start does where there is no store."""
-    known = checkpoint.known
-    if options.create and not options.no_copy:
-        return copier.run()
-    if known.phase == FOLLOWING and not options.accepts("gap"):
-        raise Unfit(
-            f"{options.store} is gone, and the slot {known.slot} went on: remove {checkpoint.path} to begin anew"
-        )
-    if not options.create and not options.no_copy:
-        raise no_store(options)
-    if options.create:
-        create_slot(options, check, remembered)
-    else:
-        remembered.remove()
-
-
-def record(options: Options) -> None:
-    assert options.record
-    recorder = Recorder(
-        options,
-        Recording(options.record, options.append, options.bytes, options.mode, options.overwrite),
-    )
-    stop_by_signals(recorder)
-    maker = maker_of(options, recorder.check_stop)
-    try:
-        recorder.connect()
-        if options.create == "temporary":
-            maker.make()
-        elif options.create:
-            create_slot(options, recorder.check_stop)
-        recorder.run()
-    finally:
-        maker.take_back()
-        recorder.close()
-
-
-def stoppable(call: Callable[[Options, Check], int]) -> Callable[[Options], int]:
-    """A subcommand that a signal ends."""
-
-    def run(options: Options) -> int:
-        start = Start()
-        stop_by_signals(start)
-        return call(options, start.check)
-
-    return run
-
-
-def verify(options: Options, check: Check) -> int:
-    return (
-        tables_verifying.run(options, check)
-        if options.tables
-        else verify_module.run(options, check)
-    )
-
-
-RUNS: dict[str, Callable[[Options], Any]] = {
-    "follow": follow,
-    "record": record,
-    "check": stoppable(check_module.run),
-    "drop": stoppable(drop.run),
-    "export": stoppable(export.run),
-    "snapshot": stoppable(snapshot.run),
-    "verify": stoppable(verify),
-    "add": stoppable(add.run),
-    "refresh": stoppable(refresh.run),
-    "names": lambda options: print_names(options.store),
-    "status": status_module.run,
-    "tables": stoppable(tables.run),
-    "sink": stoppable(sink.run),
-    "wait": stoppable(wait.run),
-}
-
-
-# What connects to the server of a store without its checkpoint.
-BESIDE = ("check", "drop", "verify", "add", "refresh")
+    check = getattr(command, "check_options", None)
+    return name, check(parser, options) if check else options
 
 
 def main(words: Sequence[str]) -> int:
-    options = arguments(words)
-
-    def call() -> int:
-        settle_options(options)
-        if options.command in BESIDE and options.store:
-            known = drop.read_known(options.store + ".connector")
-            transport.OWN.begin(known.encrypted, options.accept)
-        return int(RUNS[options.command](options) or 0)
-
-    return guarded(call)
+    name, options = arguments(words)
+    return guarded(lambda: command_of(name).run(options))
 
 
 def run() -> None:

@@ -11,7 +11,7 @@ from typing import Protocol
 
 from . import log
 from .errors import BUG, FILE, PASSING, Failure, Stopped
-from .interruption import interrupt
+from .interruption import Check, interrupt
 
 # What may be otherwise at a later start.
 PASSING_ERRORS = (
@@ -55,6 +55,13 @@ def stop_by_signals(*workers: Worker) -> None:
 
     for number in (signal.SIGINT, signal.SIGTERM):
         signal.signal(number, ask)
+
+
+def check_signals() -> Check:
+    """What raises Stopped once a signal has asked for the end."""
+    start = Start()
+    stop_by_signals(start)
+    return start.check
 
 
 def guarded(call: Callable[[], int]) -> int:

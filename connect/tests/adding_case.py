@@ -11,24 +11,24 @@ import threading
 import time
 from collections.abc import Callable, Sequence
 from pathlib import Path
+from typing import Any
 from unittest import mock
 
-from pgsub_connect.add import adder
-from pgsub_connect.commands.drop import read_known
-from pgsub_connect.commands.options import Options
-from pgsub_connect.drift import watch
+from pgsub_connect.add import adder, requests
 from pgsub_connect.drift.remembered import Remembered
-from pgsub_connect.follow import filter_life, follower, schedule, session, upkeep
+from pgsub_connect.follow import drift_watch, filter_life, follower, schedule, session, upkeep
 from pgsub_connect.follow.follower import Follower
-from pgsub_connect.server import connection
+from pgsub_connect.server import ticks
 from pgsub_connect.status.progress import Progress
 from pgsub_connect.store.checkpoint import Checkpoint
+from pgsub_connect.store.checkpoint_at_rest import read_known
 from pgsub_connect.store.snapshot import Snapshots
 from pgsub_connect.stream import statuses
 from pgsub_connect.stream.filter import Filter
 from pgsub_feed.texts import lsn_text
 
 from .fake_server import FakeServer, Quiet, Row
+from .followed import followed
 from .row_filter import Store
 from .small_world import (
     World,
@@ -83,22 +83,13 @@ class Begun:
 class Run:
     """One run of a follower, in a thread."""
 
-    def __init__(self, case: Case, **options: object) -> None:
+    def __init__(self, case: Case, **options: Any) -> None:
         self.raised: BaseException | None = None
         self.checkpoint = Checkpoint(case.store)
         words = ["/usr/bin/python3", "-S", "-E", FILTER, "follow", "--store", case.store]
-        most = options.get("max_buffered", 1 << 26)
+        sizes: dict[str, Any] = {"max_buffered": 1 << 26, "max_frame": 1 << 24, **options}
+        most = sizes["max_buffered"]
         self.filter = Filter([*words, "--max-buffered", str(most)], (self.checkpoint.file,))
-        chosen = Options(
-            store=case.store,
-            dsn=case.server.dsn(),
-            publication=["pgsub"],
-            max_frame=1 << 24,
-            heartbeat=0.2,
-        )
-        chosen.max_buffered = 1 << 26
-        for name, value in options.items():
-            setattr(chosen, name, value)
         self.progress, self.remembered = Progress(), Remembered(case.store)
         if self.remembered.catalog is None:
             self.remembered.begin_copy(
@@ -107,7 +98,7 @@ class Run:
             self.remembered.save()
         self.snapshots = Snapshots(case.store, None, 0.0)
         self.follower = Follower(
-            chosen,
+            *followed(case.store, case.server.dsn(), heartbeat=0.2, **sizes),
             self.checkpoint,
             self.filter,
             self.progress,
@@ -181,7 +172,7 @@ class Case(Quiet):
         self.server = WorldServer(self.folder, self.brain, self.world)
         self.addCleanup(self.server.close)
         for where, name, by in (
-            (connection, "TICK", 0.02),
+            (ticks, "TICK", 0.02),
             *((it, "STEP", 0.02) for it in (filter_life, follower, schedule, session, upkeep)),
             (filter_life, "SLEEP", 0.02),
             (follower, "SLEEP", 0.02),
@@ -189,9 +180,9 @@ class Case(Quiet):
             (statuses, "QUIET", 0.05),
             (schedule, "FIRST_DELAY", 0.01),
             (adder, "FIRST_DELAY", 0.02),
-            (adder, "Source", WorldSource),
-            (watch.Watch, "compare", lambda *_: True),
-            (watch.Watch, "look_again", lambda *_: True),
+            (requests, "Source", WorldSource),
+            (drift_watch.Watch, "compare", lambda *_: True),
+            (drift_watch.Watch, "look_again", lambda *_: True),
         ):
             self.patch(where, name, by)
         WorldSource.world = self.world
@@ -257,7 +248,7 @@ class Case(Quiet):
     def want(self, *oids: int) -> None:
         Remembered(self.store).want(oids)
 
-    def goes_on(self, **options: object) -> Run:
+    def goes_on(self, **options: Any) -> Run:
         """Follows until all is added and stored, ends, and compares."""
         run = Run(self, **options)
         changed = False

@@ -3,6 +3,7 @@ what it was told."""
 
 from __future__ import annotations
 
+import contextlib
 import os
 import tempfile
 import unittest
@@ -65,6 +66,17 @@ class FakeConnection:
         self.protection = Protection()
         self.ends = os.pipe()
         server.open.append(self)
+
+    @contextlib.contextmanager
+    def checked_by(self, check: Callable[[], None]) -> Iterator[None]:
+        own, self.check = self.check, check
+        try:
+            yield
+        finally:
+            self.check = own
+
+    def set_check(self, check: Callable[[], None]) -> None:
+        self.check = check
 
     def rows(self, command: str, limit: float = 0) -> list[Row]:
         return self.server.rows_for(command)

@@ -9,7 +9,7 @@ from unittest import mock
 from feed_text import Line
 
 from pgsub_connect.commands import sink
-from pgsub_connect.commands.options import Options
+from pgsub_connect.commands.sink import Options
 from pgsub_feed.interruption import never
 
 from .fake_redis import FakeCalls, FakeRedis
@@ -35,8 +35,8 @@ class SinkCase(FeedCase):
         """Writes what is there, and returns what is told beside the last line."""
         with logged() as told:
             words: dict[str, Any] = {"url": self.url, "once": True, **more}
-            options = Options(command="sink", feed=str(self.path), **words)
-            self.assertEqual(sink.run(options, never), 0)
+            options = Options(feed=str(self.path), **words)
+            sink.write_feed(options, never)
         return told[:-1]
 
     def fails(self, kind: type[Exception], text: str, **more: Any) -> None:

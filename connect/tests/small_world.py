@@ -5,6 +5,7 @@ from __future__ import annotations
 
 import collections
 import contextlib
+import dataclasses
 import re
 import select
 import socket
@@ -14,12 +15,9 @@ import time
 from collections.abc import Callable, Iterator
 
 from pgsub_connect.copy.messages import relation as relation_body
-from pgsub_connect.server.catalog import Part
-from pgsub_connect.server.catalog import Table as CatalogTable
-from pgsub_connect.server.publications import Column, Table
+from pgsub_connect.server.catalog import Part, Table
 from pgsub_feed.interruption import Check
-from pgsub_feed.relation import Column as CatalogColumn
-from pgsub_feed.relation import Shape
+from pgsub_feed.relation import Column, Shape
 from pgsub_feed.texts import parse_lsn
 
 from .fake_server import FakeServer
@@ -38,25 +36,12 @@ def table(oid: int, name: str) -> Table:
         "public",
         name,
         "r",
-        "d",
-        None,
-        None,
-        [Column("id", 23, -1, True, 1), Column("note", 25, -1, False, 2)],
+        Shape("d", (Column("id", 23, -1, True, 1), Column("note", 25, -1, False, 2))),
     )
 
 
-def catalog_table(it: Table) -> CatalogTable:
-    columns = tuple(
-        CatalogColumn(c.name, c.type_oid, c.modifier, c.key, c.number) for c in it.columns
-    )
-    return CatalogTable(
-        it.oid,
-        it.namespace,
-        it.name,
-        it.kind,
-        Shape(it.identity, columns),
-        {"pgsub": Part(None, None, False)},
-    )
+def catalog_table(it: Table) -> Table:
+    return dataclasses.replace(it, parts={"pgsub": Part(None, None, False)})
 
 
 def cells(*values: str) -> bytes:
@@ -206,22 +191,24 @@ class WorldServer(SmallServer):
 
 
 class WorldSource:
-    """In the place of `meeting.Source`: reads the tables of a world. `hook` is called with the name
+    """In the place of `copy.source.Source`: reads the tables of a world. `hook` is called with the name
     of each call, and may raise."""
 
     world: World
     hook: Callable[[str], None] = staticmethod(lambda name: None)
     open = 0
 
-    def __init__(self, options: object, known: object, check: Check, purpose: str) -> None:
-        self.check, self.patience = check, 0.0
+    def __init__(
+        self, subscription: object, store: str, known: object, check: Check, purpose: str
+    ) -> None:
+        self.check = check
         self.hook("Source")
         self.tables = list(self.world.tables.values())
         self.plain = self
         type(self).open += 1
         self.is_open = True
 
-    def narrow(self, oid: int) -> Table | None:
+    def narrow(self, oid: int, patience: float) -> Table | None:
         self.tables = [it for it in self.tables if it.oid == oid]
         return self.tables[0] if self.tables else None
 

@@ -8,7 +8,7 @@ import dataclasses
 import unittest
 from unittest import mock
 
-from pgsub_connect.add import adder as adder_module
+from pgsub_connect.add import left_out
 from pgsub_connect.add.adder import Adder
 from pgsub_connect.add.replacement import Rows
 from pgsub_connect.drift.findings import About
@@ -16,6 +16,7 @@ from pgsub_connect.drift.remembered import Remembered
 from pgsub_connect.errors import NoSlot, ServerError
 from pgsub_connect.store.checkpoint import Checkpoint
 from pgsub_feed.errors import Passing, Stopped
+from pgsub_feed.relation import Shape
 
 from .adding_case import OTHER, THIRD, Case, Run, T
 from .row_filter import Store
@@ -54,7 +55,7 @@ class Added(Case):
     def test_tables_that_the_initial_copy_has_left_for_later(self) -> None:
         """All of them are left out from the first session on, since their rows are a part at most;
         none needs a session of its own."""
-        self.patch(adder_module, "MOST", 1)
+        self.patch(left_out, "MOST", 1)
         self.followed()
         self.spoil()
         Remembered(self.store).want_later([T, OTHER, THIRD])
@@ -197,10 +198,8 @@ class Altered(Case):
         """Alters the table for who reads it. A session has described it as it was before, and
         doesn't tell."""
         it = self.world.known[T]
-        columns = [dataclasses.replace(column, key=True) for column in it.columns]
-        self.world.tables[T] = (
-            dataclasses.replace(it, identity="f", columns=columns) if is_full else it
-        )
+        columns = tuple(column._replace(key=True) for column in it.columns)
+        self.world.tables[T] = dataclasses.replace(it, shape=Shape("f", columns)) if is_full else it
 
     def described(self, **options: object) -> Run:
         """Begins to add tables, and lets their changes come, which are left out."""

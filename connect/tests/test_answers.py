@@ -7,8 +7,9 @@ import unittest
 from collections.abc import Callable
 
 from pgsub_connect.errors import ServerError, WrongAnswer, understood
-from pgsub_connect.server import catalog, preflight, session
-from pgsub_connect.server.catalog import Partition, check_tree, ways_to
+from pgsub_connect.server import catalog_reader, preflight, session, slot
+from pgsub_connect.server.catalog import Partition
+from pgsub_connect.server.catalog_reader import check_tree, ways_to
 from pgsub_connect.server.connection import Connection
 
 from .fake_server import FakeServer, Quiet, Row, connection_to
@@ -38,10 +39,10 @@ class Reading(Quiet):
             session.sender_timeout,
             session.log_end,
             session.postmaster_start,
-            lambda it: catalog.read_catalog(it, ["pgsub"]),
+            lambda it: catalog_reader.read_catalog(it, ["pgsub"]),
             lambda it: preflight.server_facts(it, "pgsub"),
             preflight.role_facts,
-            lambda it: preflight.slot_facts(it, "pgsub"),
+            lambda it: slot.read_slot(it, "pgsub"),
             lambda it: preflight.tables_facts(it, "SELECT"),
         )
         rejected = 0
@@ -101,7 +102,7 @@ class Circles(unittest.TestCase):
             [[*"12p", "t", "t", "7", "7", "t", "0"], [*"21q", "t", "t", "7", "7", "t", "0"]],
         )
         with self.assertRaisesRegex(WrongAnswer, "in a circle"):
-            catalog.read_partitions(connection_to(small), ["pgsub"])
+            catalog_reader.read_partitions(connection_to(small), ["pgsub"])
 
 
 if __name__ == "__main__":

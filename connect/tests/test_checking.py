@@ -7,29 +7,29 @@ import dataclasses
 import io
 import json
 import unittest
+from typing import Any
 from unittest import mock
 
 from pgsub_connect.commands import check
-from pgsub_connect.commands.check import ERROR, OK, WARNING, Purpose, Result, results
-from pgsub_connect.commands.options import Options
-from pgsub_connect.commands.words import arguments
 from pgsub_connect.errors import ServerError
+from pgsub_connect.preconditions.judged import require, results
+from pgsub_connect.preconditions.result import ERROR, OK, WARNING, Purpose, Result
 from pgsub_connect.server import preflight
 from pgsub_connect.server.preflight import (
     Facts,
-    Publication,
+    PublicationFacts,
     Role,
-    Slot,
     TableFacts,
     server_facts,
-    slot_facts,
     source_wanted,
 )
 from pgsub_connect.server.publication_setup import Wanted
+from pgsub_connect.server.slot import Slot, read_slot
 from pgsub_connect.server.transport import Protection
 from pgsub_feed.errors import UsageError
 
 from .fake_server import FakeServer, connection_to
+from .settled import options_of
 
 SETTINGS = {
     "wal_level": "logical",
@@ -51,7 +51,7 @@ def well() -> Facts:
         settings=dict(SETTINGS),
         database="shop",
         role=Role("f", False, True, True),
-        publications=[Publication("pgsub")],
+        publications=[PublicationFacts("pgsub")],
         tables=[TableFacts("public.stock")],
         relations=2,
     )
@@ -208,7 +208,7 @@ class Judging(unittest.TestCase):
         )
 
     def test_making(self) -> None:
-        missing = [Publication("pgsub", is_there=False)]
+        missing = [PublicationFacts("pgsub", is_there=False)]
         self.expect(
             OK, "publication", "can be made with 1 table: pgsub", changed(publications=missing)
         )
@@ -268,13 +268,13 @@ class Judging(unittest.TestCase):
             WARNING,
             "publication",
             "pgsub leaves out: update",
-            changed(publications=[Publication("pgsub", leaves_out=["update"])]),
+            changed(publications=[PublicationFacts("pgsub", leaves_out=["update"])]),
         )
         self.expect(
             OK,
             "publication",
             "",
-            changed(publications=[Publication("pgsub_inserts", leaves_out=["update"])]),
+            changed(publications=[PublicationFacts("pgsub_inserts", leaves_out=["update"])]),
         )
         self.expect(WARNING, "publication", "no table", changed(tables=[]))
 
@@ -284,16 +284,18 @@ class Judging(unittest.TestCase):
             ERROR,
             "identity",
             "public.audit",
-            changed(publications=[Publication("p", keyless=["public.audit"])]),
+            changed(publications=[PublicationFacts("p", keyless=["public.audit"])]),
         )
-        to_come = changed(publications=[Publication("p", is_there=False, keyless=["public.audit"])])
+        to_come = changed(
+            publications=[PublicationFacts("p", is_there=False, keyless=["public.audit"])]
+        )
         self.expect(ERROR, "identity", "--keyless leave-out", to_come)
         self.expect(WARNING, "identity", "not published or for Inserts", to_come, keyless="inserts")
         self.expect(
             WARNING,
             "identity",
             "public.p",
-            changed(publications=[Publication("p", mixed=["public.p"])]),
+            changed(publications=[PublicationFacts("p", mixed=["public.p"])]),
         )
 
     def test_reading(self) -> None:
@@ -341,7 +343,7 @@ class Judging(unittest.TestCase):
             OK,
             "slot",
             "7 bytes of log before it is lost",
-            slot(wal_status="extended", safe_wal_size="7"),
+            slot(wal_status="extended", safe_wal_size=7),
             has_store=True,
         )
 
@@ -381,8 +383,8 @@ class Asking(unittest.TestCase):
                 "pg_replication_slots", [["pgoutput", "t", "t", "f", "reserved", "9", "t", None]]
             )
             self.assertEqual(
-                slot_facts(connection_to(server), "s"),
-                Slot("pgoutput", True, True, False, "reserved", "9", True, ""),
+                read_slot(connection_to(server), "s"),
+                Slot("pgoutput", True, True, False, "reserved", 9, True, ""),
             )
             self.assertIn(columns, server.commands[0])
 
@@ -402,21 +404,21 @@ class Asking(unittest.TestCase):
 
     def test_what_a_copy_requires(self) -> None:
         with self.assertRaisesRegex(ServerError, "wal_level: replica") as raised:
-            check.require(connection_to(self.server(150018)), Options(), copies=True)
+            require(connection_to(self.server(150018)), "pgsub", True, False)
         self.assertTrue(raised.exception.is_lasting())
         with self.assertRaisesRegex(
             UsageError, "--failover needs PostgreSQL 17, and this is 15.18"
         ):
-            check.require(connection_to(self.server(150018)), Options(failover=True), copies=True)
+            require(connection_to(self.server(150018)), "pgsub", True, True)
 
 
 class Printing(unittest.TestCase):
-    def printed(self, found: Facts, **options: object) -> tuple[int, str]:
+    def printed(self, found: Facts, **options: Any) -> tuple[int, str]:
         out = io.StringIO()
         with mock.patch.object(check, "all_facts", lambda *_: found), contextlib.redirect_stdout(
             out
         ):
-            status = check.run(Options(publication=["pgsub"], **options))  # type: ignore[arg-type]
+            status = check.print_results(check.Options(publication=["pgsub"], **options))
         return status, out.getvalue()
 
     def test_lines(self) -> None:
@@ -440,7 +442,7 @@ class Printing(unittest.TestCase):
             ("--create --no-copy", True),
             ("--no-copy", False),
         ):
-            purpose = check.purpose_of(arguments(["check", *words.split()]))
+            purpose = options_of(["check", *words.split()]).purpose()
             self.assertEqual(
                 (purpose.makes, purpose.copies), (makes, "--no-copy" not in words), words
             )
@@ -468,7 +470,7 @@ class Members(unittest.TestCase):
         self.assertEqual([it.level for it in results(found, Purpose()) if it.name == "role"], [OK])
 
     def test_a_copy_begins_where_the_server_lets_it(self) -> None:
-        check.require(connection_to(self.server), Options(), copies=True)
+        require(connection_to(self.server), "pgsub", True, False)
 
 
 class Connecting(unittest.TestCase):

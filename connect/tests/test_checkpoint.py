@@ -11,12 +11,12 @@ import unittest
 from typing import Any
 from unittest import mock
 
-from pgsub_connect.commands.drop import locked, read_known
-from pgsub_connect.commands.words import KINDS
+from pgsub_connect.commands.follow import ACCEPTED
 from pgsub_connect.status.findings import Counted
 from pgsub_connect.store import checkpoint as known_of
 from pgsub_connect.store.at_rest import locked_checkpoint
 from pgsub_connect.store.checkpoint import MISSING, Checkpoint, check_gap
+from pgsub_connect.store.checkpoint_at_rest import locked, read_known
 from pgsub_connect.store.checkpoint_lines import COPYING, FOLLOWING, SIZE, Known, line_of
 from pgsub_feed.errors import FileError, Passing, Stopped, Unfit
 
@@ -164,7 +164,7 @@ class File(FileCase):
         """The longest names that a server has, all findings, and many tables that are being
         added."""
         most = (1 << 64) - 1
-        self.assertLessEqual({*KINDS} - {"all", "plaintext"}, {*known_of.KINDS})
+        self.assertLessEqual({*ACCEPTED} - {"all", "plaintext"}, {*known_of.KINDS})
         for database in ("\u0431" * 31, "\x01" * 63, '"' * 63):
             checkpoint = self.open_again()
             checkpoint.put(

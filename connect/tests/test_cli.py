@@ -13,9 +13,7 @@ from pathlib import Path
 from unittest import mock
 
 import pgsub_connect
-from pgsub_connect.cli import follow
-from pgsub_connect.commands.options import Options
-from pgsub_connect.commands.words import arguments, settle_options
+from pgsub_connect.commands import follow
 from pgsub_connect.store.checkpoint import Checkpoint
 from pgsub_connect.store.placing import check_meant
 from pgsub_feed.command import arguments as feed_arguments
@@ -23,6 +21,7 @@ from pgsub_feed.errors import FileError, UsageError
 from pgsub_feed.files import replace_file
 
 from .fake_server import Quiet
+from .settled import options_of, settled
 
 
 class Modes(Quiet):
@@ -30,8 +29,7 @@ class Modes(Quiet):
         self.addCleanup(os.umask, os.umask(0o077))
         for word, mode in (("640", 0o640), ("600", 0o600)):
             store = f"{self.make_folder()}/copy.db"
-            options = arguments(["follow", "--store", store, "--mode", word])
-            settle_options(options)
+            options = settled(["follow", "--store", store, "--mode", word])
             os.close(Checkpoint(store).file)
             replace_file(f"{store}.tables", b"", options.mode)
             for name, wanted in (("connector", 0o600), ("tables", mode)):
@@ -52,8 +50,8 @@ class Signalled(Quiet):
             os.kill(os.getpid(), signal.SIGTERM)
             return follower
 
-        with mock.patch("pgsub_connect.cli.Follower", made):
-            self.assertEqual(follow(arguments(["follow", "--store", store])), 0)
+        with mock.patch.object(follow, "Follower", made):
+            self.assertEqual(follow.run(options_of(["follow", "--store", store])), 0)
         follower.run.assert_called_once_with()
 
 
@@ -76,7 +74,7 @@ class Abbreviated(unittest.TestCase):
             ("verify", "--tables", "a", "--wit", "b"),
         ):
             self.assertRegex(
-                self.rejected(arguments, *words),
+                self.rejected(options_of, *words),
                 f"unrecognized arguments: {words[-2]} {words[-1]}\n",
             )
         self.assertRegex(
@@ -97,7 +95,7 @@ class Apart(Quiet):
             Path(self.folder, name).write_text("")
 
     def settle(self, *words: str) -> None:
-        settle_options(arguments([it.replace("DIR", self.folder) for it in words]))
+        settled([it.replace("DIR", self.folder) for it in words])
 
     def refused(self, text: str, *words: str) -> None:
         with self.assertRaisesRegex(UsageError, text):
@@ -173,9 +171,9 @@ class Apart(Quiet):
         ):
             os.symlink(path, link)
             with self.assertRaisesRegex(FileError, f"--store {link}.*: {text}"), mock.patch(
-                "pgsub_connect.cli.stop_by_signals"
+                "pgsub_connect.commands.follow.stop_by_signals"
             ):
-                follow(Options(store=link, create="permanent"))
+                follow.follow(follow.Options(store=link, create="permanent"))
             self.assertEqual(sorted(os.listdir(self.folder)), before)
             os.unlink(link)
         os.symlink("far.db", link)
@@ -247,7 +245,7 @@ class Words(Quiet):
 
     def refused(self, text: str, *words: str) -> None:
         with self.assertRaisesRegex(UsageError, text):
-            settle_options(arguments(words))
+            settled(words)
 
     def test_no_utf_8(self) -> None:
         self.addCleanup(os.umask, os.umask(0o022))
@@ -311,7 +309,7 @@ class Words(Quiet):
             ("\u0416" * 31, "refuse"),
             ("p" * 55, "inserts"),
         ):
-            settle_options(arguments(["check", "--publication", name, "--keyless", keyless]))
+            settled(["check", "--publication", name, "--keyless", keyless])
         self.refused(
             "_inserts: it has 64 bytes", "check", "--publication", "p" * 56, "--keyless", "inserts"
         )
@@ -319,25 +317,23 @@ class Words(Quiet):
     def test_files_that_are_opened_here(self) -> None:
         self.addCleanup(os.umask, os.umask(0o022))
         word = os.path.join(self.make_folder(), os.fsdecode(b"a\xff"))
-        settle_options(
-            arguments(
-                [
-                    "follow",
-                    "--store",
-                    "copy.db",
-                    "--tables",
-                    word,
-                    "--feed",
-                    "feed",
-                    "--snapshot",
-                    word + "s",
-                    "--status-file",
-                    word + "t",
-                ]
-            )
+        settled(
+            [
+                "follow",
+                "--store",
+                "copy.db",
+                "--tables",
+                word,
+                "--feed",
+                "feed",
+                "--snapshot",
+                word + "s",
+                "--status-file",
+                word + "t",
+            ]
         )
-        settle_options(arguments(["export", "--store", word, "--into", word + "x"]))
-        settle_options(arguments(["tables", "--feed", word, "--into", word + "x"]))
+        settled(["export", "--store", word, "--into", word + "x"])
+        settled(["tables", "--feed", word, "--into", word + "x"])
 
 
 class Modules(unittest.TestCase):

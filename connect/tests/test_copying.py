@@ -10,29 +10,33 @@ import sqlite3
 import time
 import unittest
 from collections.abc import Callable, Sequence
-from typing import cast
+from typing import Any, cast
 from unittest import mock
 
-from pgsub_connect.commands.options import Options
-from pgsub_connect.copy import copier as copier_module
-from pgsub_connect.copy import table_reader
-from pgsub_connect.copy.copier import CHANGED, Copier, Tries, altered_tables, create_slot
+from pgsub_connect.copy import copy_slot, slots, table_reader
+from pgsub_connect.copy import tables as tables_module
+from pgsub_connect.copy.copier import Copier, CopySettings
 from pgsub_connect.copy.messages import InsertHeads, begin, commit, frame, inserts, relation
+from pgsub_connect.copy.slots import create_slot
+from pgsub_connect.copy.tables import altered_tables
+from pgsub_connect.copy.tries import CHANGED, Tries
 from pgsub_connect.drift.remembered import Remembered
 from pgsub_connect.errors import ServerError
 from pgsub_connect.server import publication_setup
 from pgsub_connect.server import waits as waits_module
-from pgsub_connect.server.catalog import Catalog, Partition
-from pgsub_connect.server.catalog import Table as CatalogTable
-from pgsub_connect.server.publications import Column, Table
+from pgsub_connect.server.catalog import Catalog, Partition, Table
+from pgsub_connect.server.publication_setup import Wanted
+from pgsub_connect.server.subscription import Subscription
 from pgsub_connect.status.progress import Progress
 from pgsub_connect.store import checkpoint_lines
 from pgsub_connect.store.checkpoint import Checkpoint
 from pgsub_connect.store.checkpoint_lines import COPIED, SLOT
-from pgsub_connect.store.snapshot import COPYING, part_of
+from pgsub_connect.store.snapshot import part_of
 from pgsub_connect.stream.filter import Filter
 from pgsub_connect.stream.filter_end import FilterEnded
+from pgsub_connect.stream.memory_limit import BufferLimits
 from pgsub_feed.errors import Passing, Stopped, Unfit, UsageError
+from pgsub_feed.relation import Column, Shape
 
 from .fake_server import FakeServer, Quiet, Row
 from .row_filter import Store, Subscriber
@@ -44,10 +48,7 @@ STOCK = Table(
     "public",
     "stock",
     "r",
-    "d",
-    None,
-    None,
-    [Column("id", 23, -1, True, 1), Column("n", 23, -1, False, 2)],
+    Shape("d", (Column("id", 23, -1, True, 1), Column("n", 23, -1, False, 2))),
 )
 
 
@@ -137,18 +138,19 @@ class Copying(Quiet):
         server.answer("pg_drop_replication_slot", self.slot_dropped)
         server.lines = [b"1\t5\n", b"2\t\\N\n"]
         self.tables = [STOCK]
-        for module in (copier_module, publication_setup, waits_module, table_reader):
+        for module in (copy_slot, slots, publication_setup, waits_module, table_reader):
             self.patch(module, "Connection", server.connect)
         self.patch(table_reader, "LOOK", 0.001)
-        self.patch(copier_module, "published_tables", lambda *_: list(self.tables))
+        self.patch(tables_module, "published_tables", lambda *_: list(self.tables))
         self.patch(publication_setup, "publishable_tables", lambda _: ['"public"."stock"'])
         self.patch(Copier, "sleep", lambda copier, seconds: self.slept.append(seconds))
         self.slept: list[float] = []
-        self.patch(
-            copier_module,
-            "read_catalog",
-            lambda _, names: Catalog(tuple(names), 0, 0, {}, {}, {}, {}),
-        )
+        for module in (tables_module, slots):
+            self.patch(
+                module,
+                "read_catalog",
+                lambda _, names: Catalog(tuple(names), 0, 0, {}, {}, {}, {}),
+            )
 
     def made(self) -> dict[str, int]:
         """The publications that are remembered as made, in the file."""
@@ -176,15 +178,19 @@ class Copying(Quiet):
         )
         return remembered.wanted
 
-    def copier(self, **options: object) -> Copier:
+    def copier(self, max_buffered: int = 0, **settings: Any) -> Copier:
         self.checkpoint = Checkpoint(self.store)
         self.addCleanup(os.close, self.checkpoint.file)
         self.filter = FakeFilter(part_of(self.store))
         self.progress = Progress()
-        chosen = Options(store=self.store, publication=["pgsub"], create="permanent", **options)  # type: ignore[arg-type]
         self.remembered = Remembered(self.store)
         return Copier(
-            chosen, self.checkpoint, cast(Filter, self.filter), self.progress, self.remembered
+            CopySettings(self.store, Wanted(["pgsub"]), BufferLimits(max_buffered), **settings),
+            Subscription(publications=["pgsub"]),
+            self.checkpoint,
+            cast(Filter, self.filter),
+            self.progress,
+            self.remembered,
         )
 
 
@@ -387,15 +393,12 @@ class Order(Copying):
             "public",
             "stock",
             "r",
-            "d",
-            None,
-            None,
-            [*STOCK.columns, Column("more", 23, -1, False, 3)],
+            Shape("d", (*STOCK.columns, Column("more", 23, -1, False, 3))),
         )
-        for after in ([other], [STOCK, Table(16390, "public", "new", "r", "d", None, None, [])]):
+        for after in ([other], [STOCK, Table(16390, "public", "new", "r", Shape("d", ()))]):
             left = [[STOCK], after, after]
             self.setUp()
-            self.patch(copier_module, "published_tables", lambda *_, left=left: left.pop(0))
+            self.patch(tables_module, "published_tables", lambda *_, left=left: left.pop(0))
             self.copier().run()
             self.assertEqual(list(self.later()), [after[-1].oid])
             self.assertEqual(self.progress.copy.rows, 2 if len(after) > 1 else 0)
@@ -404,7 +407,7 @@ class Order(Copying):
         one, two = a_table(1, "one"), a_table(2, "two", kind="p")
         leaf = Partition(3, 2, "two_1", True)
         before = a_catalog(one, two, partitions=[Partition(2, 0, "two", False), leaf])
-        cases: list[tuple[Sequence[CatalogTable], list[Partition], list[int]]] = [
+        cases: list[tuple[Sequence[Table], list[Partition], list[int]]] = [
             ((one, two), [leaf], []),
             ((a_table(1, "other"), two), [leaf], [1]),
             ((one,), [leaf], []),
@@ -459,7 +462,7 @@ class Order(Copying):
 
     def test_a_table_that_goes_meanwhile_is_forgotten(self) -> None:
         """Nothing of it was stored, so nothing is wrong."""
-        self.patch(copier_module, "read_catalog", lambda *_: a_catalog(a_table(16385, "stock")))
+        self.patch(tables_module, "read_catalog", lambda *_: a_catalog(a_table(16385, "stock")))
 
         def lock(_: str) -> list[Row]:
             self.tables = []
@@ -482,10 +485,10 @@ class Order(Copying):
 
     def test_a_table_that_is_published_beside_the_slot_is_named(self) -> None:
         """What is told of it says its name."""
-        self.patch(copier_module, "read_catalog", lambda *_: a_catalog(a_table(16385, "stock")))
+        self.patch(tables_module, "read_catalog", lambda *_: a_catalog(a_table(16385, "stock")))
         both = [STOCK, dataclasses.replace(STOCK, oid=16395, name="more")]
         looks = iter([[STOCK], both, both])
-        self.patch(copier_module, "published_tables", lambda *_: next(looks))
+        self.patch(tables_module, "published_tables", lambda *_: next(looks))
         self.copier().run()
         remembered = Remembered(self.store)
         text = (
@@ -589,7 +592,7 @@ class Ends(Copying):
     def test_publications_that_change_at_each_attempt(self) -> None:
         numbers = iter(range(1000))
         self.patch(
-            copier_module,
+            tables_module,
             "read_catalog",
             lambda *_: a_catalog(publication=dataclasses.replace(PGSUB, oid=next(numbers))),
         )
@@ -613,7 +616,7 @@ class Ends(Copying):
         def connect(*_: object, **__: object) -> object:
             raise ServerError("no route")
 
-        self.patch(copier_module, "Connection", connect)
+        self.patch(copy_slot, "Connection", connect)
         with self.assertRaises(Passing):
             self.copier().run()
 
@@ -676,7 +679,7 @@ class Ends(Copying):
 
     def test_a_slot_that_is_lost_while_rows_come(self) -> None:
         """Nothing can follow on the copy, so it ends at once, and the next start copies anew."""
-        self.patch(copier_module, "LOOK", 0.0)
+        self.patch(copy_slot, "LOOK", 0.0)
         self.server.answer(
             "SELECT s.wal_status",
             lambda _: [["lost" if self.server.told("COPY (") else "reserved"]],
@@ -699,7 +702,7 @@ class Ends(Copying):
             with self.subTest(version):
                 self.setUp()
                 self.server.server_version = version
-                self.patch(copier_module, "LOOK", 0.0)
+                self.patch(copy_slot, "LOOK", 0.0)
                 self.server.answer("SELECT s.wal_status", [["reserved"]])
                 self.server.answer(
                     "ALTER_REPLICATION_SLOT", ServerError("it is active for PID 7", "55006")
@@ -712,7 +715,7 @@ class Ends(Copying):
 
     def test_a_slot_is_looked_at_while_a_filter_opens_its_store(self) -> None:
         self.server.server_version = 180000
-        self.patch(copier_module, "LOOK", 0.0)
+        self.patch(copy_slot, "LOOK", 0.0)
         self.server.answer("SELECT s.wal_status", [["reserved"]])
         looks, start = list[int](), FakeFilter.start
 
@@ -728,9 +731,9 @@ class Ends(Copying):
 
     def test_how_often_depends_on_when_it_is_ended(self) -> None:
         for said, often, warned in (
-            (None, copier_module.LOOK, False),
-            ("0", copier_module.LOOK, False),
-            ("86400", copier_module.LOOK, False),
+            (None, copy_slot.LOOK, False),
+            ("0", copy_slot.LOOK, False),
+            ("86400", copy_slot.LOOK, False),
             ("30", 10.0, False),
             ("3", 1.0, True),
         ):
@@ -740,7 +743,7 @@ class Ends(Copying):
                 self.server.answer("idle_replication_slot_timeout')::", [[said]])
                 copier = self.copier()
                 copier.run()
-                self.assertEqual(copier.look, often)
+                self.assertEqual(copier.slot.look_each, often)
                 self.assertEqual(
                     any("any pause may lose the slot" in it for it in self.said), warned
                 )
@@ -750,7 +753,7 @@ class Ends(Copying):
         self.copier().run()
         self.assertEqual(self.server.told("SELECT s.wal_status"), [])
         self.setUp()
-        self.patch(copier_module, "LOOK", 0.0)
+        self.patch(copy_slot, "LOOK", 0.0)
         self.server.answer("SELECT s.wal_status", [["extended"]])
         self.copier().run()
         self.assertLess(
@@ -787,7 +790,7 @@ class Ends(Copying):
         copier.run()
         self.assertTrue(os.path.exists(self.store))
         self.assertEqual(len(self.server.told("ALTER_REPLICATION_SLOT")), 1)
-        self.assertEqual(copier.options.publication, ["pgsub", "pgsub_inserts"])
+        self.assertEqual(copier.subscription.publications, ["pgsub", "pgsub_inserts"])
 
 
 OTHER = Table(
@@ -795,10 +798,7 @@ OTHER = Table(
     "public",
     "other",
     "r",
-    "d",
-    None,
-    None,
-    [Column("id", 23, -1, True, 1), Column("n", 23, -1, False, 2)],
+    Shape("d", (Column("id", 23, -1, True, 1), Column("n", 23, -1, False, 2))),
 )
 
 
@@ -865,7 +865,7 @@ class Kept(Copying):
     def test_a_table_that_was_published_meanwhile(self) -> None:
         """What is told of it says its name, and goes once the table is added."""
         self.patch(
-            copier_module,
+            tables_module,
             "read_catalog",
             lambda *_: a_catalog(a_table(16385, "stock"), a_table(16390, "other")),
         )
@@ -887,12 +887,12 @@ class Kept(Copying):
     def test_a_table_that_leaves_while_the_slot_is_made(self) -> None:
         """It isn't copied, and not remembered."""
         self.patch(
-            copier_module,
+            tables_module,
             "read_catalog",
             lambda *_: a_catalog(a_table(16385, "stock"), a_table(16390, "other")),
         )
         looks = iter([[STOCK, OTHER], [STOCK]])
-        self.patch(copier_module, "published_tables", lambda *_: next(looks, [STOCK]))
+        self.patch(tables_module, "published_tables", lambda *_: next(looks, [STOCK]))
         self.copier().run()
         remembered = Remembered(self.store)
         self.assertEqual(remembered.catalog and list(remembered.catalog.tables), [16385])
@@ -1005,7 +1005,7 @@ class Kept(Copying):
 class Left(Copying):
     """A publication that a run has left which was killed."""
 
-    def killed(self, **options: object) -> None:
+    def killed(self, **options: Any) -> None:
         """Is killed while it copies."""
         copier = self.copier(**options)
         self.server.answer("COPY (", ServerError("", "42000"))
@@ -1088,24 +1088,26 @@ class Counting(unittest.TestCase):
 class Slots(Copying):
     """A slot without rows."""
 
-    def options(self, **options: object) -> Options:
-        return Options(store=self.store, publication=["pgsub"], create="permanent", no_copy=True, **options)  # type: ignore[arg-type]
+    def make(self, remembered: Remembered | None = None) -> None:
+        create_slot(
+            Subscription(publications=["pgsub"]), Wanted(["pgsub"]), False, lambda: None, remembered
+        )
 
     def test_what_is_published_is_remembered(self) -> None:
         remembered = Remembered(self.store)
-        create_slot(self.options(), lambda: None, remembered)
+        self.make(remembered)
         again = Remembered(self.store)
         self.assertEqual((again.made, again.publications()), ({"pgsub": 777}, ["pgsub"]))
 
     def test_a_slot_goes_where_nothing_comes_of_it(self) -> None:
-        self.patch(copier_module, "read_catalog", mock.Mock(side_effect=Stopped))
+        self.patch(slots, "read_catalog", mock.Mock(side_effect=Stopped))
         with self.assertRaises(Stopped):
-            create_slot(self.options(), lambda: None, Remembered(self.store))
+            self.make(Remembered(self.store))
         self.assertEqual(self.server.told("DROP_REPL"), ['DROP_REPLICATION_SLOT "pgsub"'])
         self.assertEqual(len(self.server.told('DROP PUBLICATION "pgsub"')), 1)
 
     def test_made(self) -> None:
-        create_slot(self.options(), lambda: None)
+        self.make()
         self.assertLess(
             self.server.index("CREATE PUBLICATION"), self.server.index("CREATE_REPLICATION_SLOT")
         )
@@ -1119,13 +1121,13 @@ class Slots(Copying):
             "CREATE_REPLICATION_SLOT", ServerError("all replication slots are in use", "53400")
         )
         with self.assertRaises(ServerError):
-            create_slot(self.options(), lambda: None)
+            self.make()
         self.assertEqual(len(self.server.told('DROP PUBLICATION "pgsub"')), 1)
 
     def test_a_slot_that_is_older_than_its_publication(self) -> None:
         self.slots = [["pgoutput", "t", "f", "5"]]
         with self.assertRaisesRegex(Unfit, "older than the publication pgsub"):
-            create_slot(self.options(), lambda: None)
+            self.make()
         self.assertEqual(
             self.server.told("CREATE PUBLICATION") + self.server.told("CREATE_REPLICATION_SLOT"), []
         )
@@ -1134,7 +1136,7 @@ class Slots(Copying):
         self.slots = [["pgoutput", "t", "f", "5"]]
         self.server.answer("SELECT FROM pg_catalog.pg_publication", [[]])
         self.server.answer("SELECT p.oid FROM pg_catalog.pg_publication p", [["777"]])
-        create_slot(self.options(), lambda: None)
+        self.make()
         self.assertEqual(
             self.server.told("CREATE PUBLICATION") + self.server.told("CREATE_REPLICATION_SLOT"), []
         )

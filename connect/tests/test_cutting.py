@@ -9,12 +9,14 @@ from collections.abc import Callable
 from unittest import mock
 
 from pgsub_connect.add.adder import Adder
+from pgsub_connect.add.left_out import LeftOut
 from pgsub_connect.add.replacement import Leaving
-from pgsub_connect.commands.drop import read_known
+from pgsub_connect.add.turn import RowsSender
 from pgsub_connect.drift.remembered import Remembered
 from pgsub_connect.follow.session import Session
 from pgsub_connect.follow.session_start import SessionStart
 from pgsub_connect.store.checkpoint import Checkpoint
+from pgsub_connect.store.checkpoint_at_rest import read_known
 
 from .adding_case import Case, Run, T
 from .small_world import WorldSource
@@ -57,21 +59,21 @@ class Cuts(Case):
         return read_known(self.store + ".connector").adding
 
     def test_all(self) -> None:
-        for name, after, times, noted in (
-            ("fill", False, 0, {}),
-            ("fill", True, 0, {str(T): 0}),
-            ("prepare", True, 0, {str(T): 0}),
-            ("meet", False, 0, {str(T): 0}),
-            ("meet", True, 0, {str(T): 1}),
-            ("send", False, 0, {str(T): 1}),
-            ("push", True, 2, {str(T): 1}),
-            ("push", True, 4, {str(T): 1}),
-            ("send", True, 0, {str(T): 1}),
-            ("finish", False, 0, {str(T): 1}),
-            ("forget", True, 0, {}),
+        for where, name, after, times, noted in (
+            (LeftOut, "fill", False, 0, {}),
+            (LeftOut, "fill", True, 0, {str(T): 0}),
+            (Adder, "prepare", True, 0, {str(T): 0}),
+            (Adder, "meet", False, 0, {str(T): 0}),
+            (Adder, "meet", True, 0, {str(T): 1}),
+            (Adder, "send", False, 0, {str(T): 1}),
+            (RowsSender, "push", True, 2, {str(T): 1}),
+            (RowsSender, "push", True, 4, {str(T): 1}),
+            (Adder, "send", True, 0, {str(T): 1}),
+            (Adder, "finish", False, 0, {str(T): 1}),
+            (Adder, "forget", True, 0, {}),
         ):
             with self.subTest(name=name, after=after):
-                found = self.cut([(Adder, name)], after, times)
+                found = self.cut([(where, name)], after, times)
                 self.assertEqual({oid: min(point, 1) for oid, point in found.items()}, noted)
                 self.change()
                 self.goes_on()

@@ -4,7 +4,7 @@ from __future__ import annotations
 
 import unittest
 
-from pgsub_connect.server.publications import Column, Table
+from pgsub_connect.server.catalog import Part, Table
 from pgsub_connect.verify.digests import (
     MOST_CHUNKS,
     NotText,
@@ -15,6 +15,7 @@ from pgsub_connect.verify.digests import (
     chunks_for,
     fields_of,
 )
+from pgsub_feed.relation import Column, Shape
 from pgsub_feed.tables.row_texts import Field, fields_in, text_of
 from pgsub_feed.tables.values import Malformed
 
@@ -26,7 +27,14 @@ def a_table(
 ) -> Table:
     """A table whose first columns are its key."""
     columns = [Column(name, 25, -1, at < keys, at + 1) for at, name in enumerate(names)]
-    return Table(1, "public", "t", kind, identity, row_filter, None, columns)
+    return Table(
+        1,
+        "public",
+        "t",
+        kind,
+        Shape(identity, tuple(columns)),
+        {"pgsub": Part(row_filter, None, False)},
+    )
 
 
 def summed(plan: Plan, *rows: tuple[list[Cell], int]) -> Sums:

@@ -5,11 +5,11 @@ from __future__ import annotations
 import fcntl
 import json
 import os
+from typing import Any
 from unittest import mock
 
 from pgsub_connect.commands import drop
 from pgsub_connect.commands.drop import Dropper, ask_terminal, files_of
-from pgsub_connect.commands.options import Options
 from pgsub_connect.errors import ServerError
 from pgsub_connect.store.checkpoint import Checkpoint
 from pgsub_feed.errors import FileError, Passing, Unfit
@@ -62,8 +62,8 @@ class Dropping(Quiet):
         self.asked.append(question)
         return not any(part in question for part in self.no)
 
-    def run_it(self, **options: object) -> None:
-        Dropper(Options(store=self.store, publication=["pgsub"], **options), self.ask).run()  # type: ignore[arg-type]
+    def run_it(self, **options: Any) -> None:
+        Dropper(drop.Options(store=self.store, publication=["pgsub"], **options), self.ask).run()
 
     def left(self) -> list[str]:
         return sorted(os.listdir(self.folder))

@@ -15,10 +15,9 @@ from typing import Any
 from unittest import mock
 
 from pgsub_connect.cli import main
-from pgsub_connect.commands.options import Options
 from pgsub_connect.drift.remembered import Remembered
 from pgsub_connect.store import export as export_module
-from pgsub_connect.store.export import run
+from pgsub_connect.store.export import ExportSettings, export_store
 from pgsub_feed.errors import FILE, UNFIT, USAGE, FileError, Passing, Stopped, Unfit, UsageError
 from pgsub_feed.interruption import never
 from pgsub_feed.relation import Relation
@@ -42,13 +41,14 @@ OTHERS = ((0, "a", 23, -1), (1, "b", 25, -1), (0, "c", 23, -1))
 
 
 class Case(StoreCase):
-    def options(self, **more: Any) -> Options:
-        return Options(command="export", store=self.path, into=self.into, **more)
+    def settings(self, **more: Any) -> ExportSettings:
+        chosen: dict[str, Any] = {"store": self.path, "into": self.into, **more}
+        return ExportSettings(**chosen)
 
     def export(self, **more: Any) -> list[str]:
         """Exports, and returns what is told beside the last line."""
         with logged() as told:
-            self.assertEqual(run(self.options(**more), never), 0)
+            export_store(self.settings(**more), never)
         self.assertEqual(self.left(), [])
         return told[:-1]
 
@@ -80,12 +80,12 @@ class Chosen(Case):
             (["other.t"], ["other.t"]),
             (["public.t"], ["t"]),
         ):
-            self.export(table=names)
+            self.export(chosen=names)
             self.assertEqual(
                 (self.tables(), len(self.rows(f'SELECT * FROM "{tables[0]}"'))), (tables, 1)
             )
         with logged(), self.assertRaisesRegex(FileError, "the store has no table x"):
-            run(self.options(table=["t", "x"]), never)
+            export_store(self.settings(chosen=["t", "x"]), never)
         self.assertEqual(self.left(), [])
 
     def test_command(self) -> None:
@@ -215,11 +215,11 @@ class Types(Case):
                 with self.assertRaisesRegex(
                     Unfit, r"public.t \(1\): the column c0 has a value that isn't one of its type"
                 ):
-                    run(self.options(), never)
+                    export_store(self.settings(), never)
                 self.assertFalse(os.path.exists(self.into))
                 self.assertEqual(self.left(), [])
                 if isinstance(text, str):
-                    self.export(text=True)
+                    self.export(is_text=True)
                     self.assertEqual(self.rows("SELECT c0, typeof(c0) FROM t"), [(text, "text")])
                     os.unlink(self.into)
 
@@ -398,7 +398,7 @@ class Names(Case):
         self.store.row(1, key=None, copies=2)
         self.assertEqual(self.export(), [])
         self.assertEqual(self.rows("SELECT * FROM t"), [(None,), (None,)])
-        self.export(text=True)
+        self.export(is_text=True)
         self.assertEqual(self.rows("SELECT pgsub_none FROM t"), [(None,), (None,)])
 
 
@@ -493,7 +493,7 @@ class Files(Case):
             self.assertEqual(stat.S_IMODE(os.stat(self.into).st_mode), mode)
         self.store.move(0x16B374D848)
         with logged() as told:
-            run(self.options(), never)
+            export_store(self.settings(), never)
         self.assertEqual(self.rows("SELECT lsn FROM pgsub_position"), [("16/B374D848",)])
         self.assertEqual(told, [f"{self.into}: 1 table, 1 row at 16/B374D848"])
 
@@ -512,7 +512,7 @@ class Files(Case):
         os.symlink("far/rows.db", self.into)
         for count in (1, 2):
             with logged():
-                run(self.options(), never)
+                export_store(self.settings(), never)
             self.assertTrue(os.path.islink(self.into))
             self.assertEqual(os.listdir(self.folder + "/far"), ["rows.db"])
             self.assertEqual(self.rows("SELECT count(*) FROM t"), [(count,)])
@@ -520,13 +520,13 @@ class Files(Case):
         os.unlink(self.into)
         os.symlink("rows.db", self.into)
         with self.assertRaisesRegex(FileError, "rows.db"):
-            run(self.options(), never)
+            export_store(self.settings(), never)
 
     def test_anything_else_is_kept(self) -> None:
         with open(self.into, "w") as file:
             file.write("mine")
         with self.assertRaisesRegex(FileError, "is there and isn't an export"):
-            run(self.options(), never)
+            export_store(self.settings(), never)
         os.unlink(self.into)
         sqlite3.connect(self.into).execute("CREATE TABLE t (a)").connection.close()
         self.assertEqual(main(["export", "--store", self.path, "--into", self.into]), FILE)
@@ -534,24 +534,22 @@ class Files(Case):
         os.unlink(self.into)
         os.mkdir(self.into)
         with self.assertRaisesRegex(FileError, "is there and isn't an export"):
-            run(self.options(), never)
+            export_store(self.settings(), never)
 
     def test_files_of_the_store_itself(self) -> None:
         for ending in ("", "-wal", ".connector", ".tables", ".request"):
-            options = self.options()
-            options.into = self.path + ending
+            settings = self.settings(into=self.path + ending)
             with self.assertRaisesRegex(UsageError, "file of the store itself"):
-                run(options, never)
+                export_store(settings, never)
         os.symlink(self.path, self.folder + "/link")
         self.assertEqual(
             main(["export", "--store", self.path, "--into", self.folder + "/link"]), USAGE
         )
 
     def test_no_folder(self) -> None:
-        options = self.options()
-        options.into = self.folder + "/gone/rows.db"
+        settings = self.settings(into=self.folder + "/gone/rows.db")
         with self.assertRaisesRegex(FileError, "there is no folder"):
-            run(options, never)
+            export_store(settings, never)
 
     def test_no_store(self) -> None:
         os.unlink(self.path)
@@ -560,7 +558,7 @@ class Files(Case):
             (Passing, "its first rows are being copied"),
         ):
             with self.assertRaisesRegex(kind, text):
-                run(self.options(), never)
+                export_store(self.settings(), never)
             open(self.path + ".copying", "w").close()
         os.mkdir(self.folder + "/far")
         os.symlink("far/shop.db", self.path)
@@ -569,25 +567,24 @@ class Files(Case):
             (Passing, "its first rows are being copied"),
         ):
             with self.assertRaisesRegex(kind, text):
-                run(self.options(), never)
+                export_store(self.settings(), never)
             open(self.folder + "/far/shop.db.copying", "w").close()
         os.unlink(self.path)
         os.mkdir(self.path)
         with self.assertRaisesRegex(FileError, "not a file"):
-            run(self.options(), never)
+            export_store(self.settings(), never)
 
     def test_what_is_no_store(self) -> None:
         self.export()
         os.rename(self.into, self.folder + "/earlier.db")
-        options = self.options()
-        options.store = self.folder + "/earlier.db"
+        settings = self.settings(store=self.folder + "/earlier.db")
         with self.assertRaisesRegex(FileError, "it is an export, and no store"):
-            run(options, never)
+            export_store(settings, never)
         with open(self.folder + "/text", "w") as file:
             file.write("text" * 1000)
-        options.store = self.folder + "/text"
+        settings = self.settings(store=self.folder + "/text")
         with self.assertRaisesRegex(FileError, "isn't a store"):
-            run(options, never)
+            export_store(settings, never)
         self.assertFalse(os.path.exists(self.into))
 
     def test_what_is_spoiled(self) -> None:
@@ -603,31 +600,31 @@ class Files(Case):
         ):
             self.store.base.execute("UPDATE held SET body = ?", (body,))
             with self.assertRaisesRegex(FileError, "malformed"):
-                run(self.options(), never)
+                export_store(self.settings(), never)
         for column, value in (("cols", b"\0\1"), ("cols", b"\0\1\1id\0\0\0"), ("cols", b"")):
             self.store.base.execute(f"UPDATE rel SET {column} = ?", (value,))
             with self.assertRaisesRegex(FileError, "malformed"):
-                run(self.options(), never)
+                export_store(self.settings(), never)
         for statement in ("UPDATE pos SET lsn = x'00'", "DELETE FROM pos"):
             self.store.base.execute(statement)
             with self.assertRaisesRegex(FileError, "malformed"):
-                run(self.options(), never)
+                export_store(self.settings(), never)
         self.assertEqual(self.left(), [])
 
     def test_a_row_of_no_table(self) -> None:
         self.store.row(2, "1", "x")
         with self.assertRaisesRegex(FileError, "malformed"):
-            run(self.options(), never)
+            export_store(self.settings(), never)
 
     def test_ended_by_a_signal(self) -> None:
         with self.assertRaisesRegex(Passing, "ended before"):
-            run(self.options(), mock.Mock(side_effect=Stopped))
+            export_store(self.settings(), mock.Mock(side_effect=Stopped))
         self.assertEqual((self.left(), os.path.exists(self.into)), ([], False))
 
     def test_an_old_sqlite(self) -> None:
         with mock.patch.object(sqlite3, "sqlite_version_info", (3, 36, 0)):
             with self.assertRaisesRegex(FileError, "SQLite 3.37 or later"):
-                run(self.options(), never)
+                export_store(self.settings(), never)
 
     def test_a_disk_that_is_full(self) -> None:
         with mock.patch.object(
@@ -636,7 +633,7 @@ class Files(Case):
             side_effect=sqlite3.OperationalError("database or disk is full"),
         ):
             with self.assertRaisesRegex(Passing, "disk is full"):
-                run(self.options(), never)
+                export_store(self.settings(), never)
         self.assertEqual(self.left(), [])
 
     def test_the_words(self) -> None:

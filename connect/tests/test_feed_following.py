@@ -4,6 +4,7 @@ and readers see whole commits."""
 from __future__ import annotations
 
 import contextlib
+import dataclasses
 import os
 import pickle
 import random
@@ -20,7 +21,7 @@ from feed_text import About, Column, Line, entry_text
 
 from pgsub_connect.commands import tables as tables_module
 from pgsub_connect.commands import wait
-from pgsub_connect.commands.options import Options
+from pgsub_connect.commands.tables import Options
 from pgsub_feed.errors import Passing, Unfit
 from pgsub_feed.faults import Damaged
 from pgsub_feed.interruption import never
@@ -115,7 +116,7 @@ class FollowingCase(FeedCase):
     def setUp(self) -> None:
         super().setUp()
         self.into = str(self.folder / "rows.db")
-        self.options = Options(command="tables", feed=str(self.path), into=self.into)
+        self.options = Options(feed=str(self.path), into=self.into)
         self.child = 0
 
     def fork(self, call: Callable[[], int]) -> int:
@@ -134,7 +135,7 @@ class FollowingCase(FeedCase):
         def call() -> int:
             start = Start()
             stop_by_signals(start)
-            return tables_module.run(self.options, start.check)
+            return tables_module.follow_feed(self.options, start.check)
 
         self.child = self.fork(call)
 
@@ -148,9 +149,7 @@ class FollowingCase(FeedCase):
         while not os.path.exists(self.into):
             time.sleep(0.01)
         with logged():
-            self.assertEqual(
-                wait.run(Options(command="wait", tables=self.into, lsn=lsn, within=50), never), 0
-            )
+            wait.wait(wait.Options(tables=self.into, lsn=lsn, within=50), never)
 
     def write(self, end: int, lines: list[Line], rng: random.Random) -> None:
         """Writes a commit in pieces; sometimes it is cut off, and written again."""
@@ -201,29 +200,28 @@ class Following(FollowingCase):
             self.feed.commit(end, lines)
         for at in (0, 0x100, 0x150, 0x1000, self.feed.at):
             self.options = Options(
-                command="tables",
                 feed=str(self.path),
                 into=f"{self.folder}/{at}.db",
                 once=True,
                 at=at,
             )
             with logged():
-                self.assertEqual(tables_module.run(self.options, never), 0)
+                self.assertEqual(tables_module.follow_feed(self.options, never), 0)
             self.assertEqual(read(self.options.into), (at & ~0xFF, history.rows[at & ~0xFF]))
-        self.options.at = self.feed.at + 1
+        self.options = dataclasses.replace(self.options, at=self.feed.at + 1)
         with logged(), self.assertRaisesRegex(
             Passing, "the feed has reached 0/2800, and 0/2801 not yet"
         ):
-            tables_module.run(self.options, never)
+            tables_module.follow_feed(self.options, never)
         self.feed.confirm(self.feed.at + 1)
         with logged():
-            self.assertEqual(tables_module.run(self.options, never), 0)
+            self.assertEqual(tables_module.follow_feed(self.options, never), 0)
 
     def test_what_is_confirmed_behind_the_last_look(self) -> None:
         """Then that isn't the last one: what the feed has up to the LSN may have come since."""
         self.feed.commit(0x100, [insert("1", "a", of=KEYED)])
         self.feed.commit(0x200, [insert("2", "b", of=KEYED)], About(0x1FF, 2, 0))
-        self.options.once, self.options.at = True, 0x200
+        self.options = dataclasses.replace(self.options, once=True, at=0x200)
         look, settle = Poll.next, following.Following.settle
 
         def look_before(poll: Poll) -> Commit | None:
@@ -239,16 +237,16 @@ class Following(FollowingCase):
         with logged(), mock.patch.object(
             following.Following, "settle", settle_before
         ), self.assertRaisesRegex(Passing, "has reached 0/100, and 0/200 not"):
-            tables_module.run(self.options, never)
+            tables_module.follow_feed(self.options, never)
         self.feed.confirm(0x100)
         with logged(), mock.patch.object(Poll, "next", look_before):
-            self.assertEqual(tables_module.run(self.options, never), 0)
+            self.assertEqual(tables_module.follow_feed(self.options, never), 0)
         self.assertEqual(read(self.into), (0x200, (Counter([(1, "a"), (2, "b")]), Counter())))
 
     def test_many_commits_in_one_transaction(self) -> None:
         for end in range(0x100, 0x10000, 0x100):
             self.feed.commit(end, [insert(str(end), "x", of=KEYED)])
-        self.options.once = True
+        self.options = dataclasses.replace(self.options, once=True)
         settled = list[int]()
         settle = Rows.settle
 
@@ -257,7 +255,7 @@ class Following(FollowingCase):
             settled.append(at)
 
         with logged(), mock.patch.object(Rows, "settle", note):
-            tables_module.run(self.options, never)
+            tables_module.follow_feed(self.options, never)
         self.assertLess(len(settled), 10)
         self.assertEqual(read(self.into)[0], 0xFF00)
 
@@ -266,11 +264,11 @@ class Following(FollowingCase):
         text = self.feed.text(0x200, [insert("2", "b", of=KEYED), insert("3", "c", of=KEYED)])
         self.feed.put(text.replace(b'"n":1', b'"n":2'))
         for once in (True, False):
-            self.options.once = once
+            self.options = dataclasses.replace(self.options, once=once)
             with logged(), self.assertRaisesRegex(Damaged, "reading 6 Counts"), mock.patch(
                 "pgsub_feed.reader.polling.PATIENCE", 0.1
             ):
-                tables_module.run(self.options, never)
+                tables_module.follow_feed(self.options, never)
             self.assertEqual(read(self.into), (0, (Counter(), Counter())))
 
     def test_lines_that_are_mended(self) -> None:
@@ -292,11 +290,11 @@ class Following(FollowingCase):
         LSN."""
         self.feed.commit(0x100, [insert("1", "a", of=KEYED)])
         size = self.feed.size
-        self.options.once = True
+        self.options = dataclasses.replace(self.options, once=True)
 
         def run_it() -> object:
             with logged():
-                tables_module.run(self.options, never)
+                tables_module.follow_feed(self.options, never)
             return read(self.into)
 
         for end in (0x200, 0x300):
@@ -323,9 +321,9 @@ class Transactions(FollowingCase):
 
         self.feed.commit(0x100, [insert("1", "a", of=KEYED)])
         self.feed.commit(0x200, [insert("2", "b", of=KEYED)])
-        self.options.once = True
+        self.options = dataclasses.replace(self.options, once=True)
         with logged(), mock.patch.object(Rows, "set_up", traced):
-            tables_module.run(self.options, never)
+            tables_module.follow_feed(self.options, never)
         words = [
             it.split()[0]
             for it in told
@@ -337,13 +335,13 @@ class Transactions(FollowingCase):
 
     def test_another_process_has_written(self) -> None:
         self.feed.commit(0x100, [insert("1", "a", of=KEYED)])
-        self.options.once = True
+        self.options = dataclasses.replace(self.options, once=True)
         with logged():
-            tables_module.run(self.options, never)
+            tables_module.follow_feed(self.options, never)
         rows = Rows(self.into)
         self.feed.commit(0x200, [insert("2", "b", of=KEYED)])
         with logged():
-            tables_module.run(self.options, never)
+            tables_module.follow_feed(self.options, never)
         with contextlib.closing(rows.db), self.assertRaisesRegex(
             Exception, "another process has written it meanwhile"
         ):
@@ -357,9 +355,8 @@ class Back(FollowingCase):
         """A copy of the file, as of an LSN."""
         into = f"{self.folder}/back-{at}.db"
         with logged():
-            tables_module.run(
+            tables_module.follow_feed(
                 Options(
-                    command="tables",
                     feed=str(self.path),
                     into=into,
                     base=self.into,
@@ -372,9 +369,9 @@ class Back(FollowingCase):
         return into
 
     def run_it(self) -> None:
-        self.options.once = True
+        self.options = dataclasses.replace(self.options, once=True)
         with logged():
-            tables_module.run(self.options, never)
+            tables_module.follow_feed(self.options, never)
 
     def test_to_each_lsn(self) -> None:
         history = History(random.Random(30), 60)
@@ -398,13 +395,13 @@ class Back(FollowingCase):
 
     def test_a_truncation_in_a_feed_that_begins_later(self) -> None:
         self.feed.commit(0x100, [insert("1", "a", of=KEYED)])
-        self.options.at = 0x100
+        self.options = dataclasses.replace(self.options, at=0x100)
         self.run_it()
         self.feed.end()
         self.feed.commit(0x200, [insert("2", "b", of=KEYED)])
         self.feed.commit(0x300, [truncate(of=KEYED)])
         shutil.copyfile(self.into, self.folder / "base.db")
-        self.options.at = None
+        self.options = dataclasses.replace(self.options, at=None)
         self.run_it()
         next(it for it in sorted(self.path.iterdir()) if len(it.name) == 16).unlink()
         with self.assertRaisesRegex(
@@ -412,7 +409,6 @@ class Back(FollowingCase):
         ):
             self.copied(0x200)
         new = Options(
-            command="tables",
             feed=str(self.path),
             base=str(self.folder / "base.db"),
             into=f"{self.folder}/new.db",
@@ -420,19 +416,19 @@ class Back(FollowingCase):
             at=0x200,
         )
         with logged():
-            self.assertEqual(tables_module.run(new, never), 0)
+            self.assertEqual(tables_module.follow_feed(new, never), 0)
         self.assertEqual(read(new.into)[1][0], Counter([(1, "a"), (2, "b")]))
 
     def test_there_and_back(self) -> None:
         self.feed.commit(0x100, [insert("1", "a", of=KEYED)])
         self.feed.commit(0x200, [insert("2", "b", of=BAG)])
         self.run_it()
-        self.options.at = 0x1FF
+        self.options = dataclasses.replace(self.options, at=0x1FF)
         self.run_it()
         self.assertEqual(read(self.into), (0x100, (Counter([(1, "a")]), Counter())))
         with contextlib.closing(sqlite3.connect(self.into)) as base:
             self.assertEqual(base.execute("SELECT name FROM pgsub_tables").fetchall(), [("keyed",)])
-        self.options.at = None
+        self.options = dataclasses.replace(self.options, at=None)
         self.run_it()
         self.assertEqual(read(self.into), (0x200, (Counter([(1, "a")]), Counter([(2, "b")]))))
 

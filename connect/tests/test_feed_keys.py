@@ -11,9 +11,8 @@ from unittest import mock
 
 from feed_text import Cell, Column, Definition, Line
 
-from pgsub_connect.commands.options import Options
 from pgsub_connect.drift.remembered import Remembered
-from pgsub_connect.store.export import run as export
+from pgsub_connect.store.export import ExportSettings, export_store
 from pgsub_connect.store.known_keys import KnownKeys
 from pgsub_feed.interruption import never
 from pgsub_feed.reader.following import Following
@@ -363,5 +362,5 @@ class FromStore(KeysCase):
     def exported(self) -> str:
         path = str(self.folder / "base.db")
         with logged():
-            export(Options(command="export", store=self.store, into=path), never)
+            export_store(ExportSettings(store=self.store, into=path), never)
         return path

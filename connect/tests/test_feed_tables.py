@@ -16,11 +16,10 @@ from feed_text import Cell, Column, Line
 from pgsub_connect.cli import main
 from pgsub_connect.commands import beside
 from pgsub_connect.commands import tables as tables_module
-from pgsub_connect.commands import wait
-from pgsub_connect.commands.options import Options
+from pgsub_connect.commands.tables import Options
 from pgsub_connect.commands.wait import Awaited
 from pgsub_connect.follow.retention import Limits, retire
-from pgsub_connect.store.export import run as export
+from pgsub_connect.store.export import ExportSettings, export_store
 from pgsub_connect.verify.view import View
 from pgsub_feed.errors import FILE, UNFIT, USAGE, FileError, Passing, Unfit
 from pgsub_feed.files import copy
@@ -28,6 +27,7 @@ from pgsub_feed.interruption import Check, never
 from pgsub_feed.reader.positions import Noted
 from pgsub_feed.reader.segments import segments
 from pgsub_feed.tables import first_rows
+from pgsub_feed.tables.position import read_position
 
 from .feeds import ID, NAME, STOCK, FeedCase, delete, insert, table, truncate, update
 from .stores import Store
@@ -46,12 +46,12 @@ class TablesCase(FeedCase):
         self.feed.commit(self.at, lines)
 
     def options(self, **more: Any) -> Options:
-        return Options(command="tables", feed=str(self.path), into=self.into, once=True, **more)
+        return Options(feed=str(self.path), into=self.into, once=True, **more)
 
     def run_it(self, status: int = 0, **more: Any) -> list[str]:
         """Takes what is there, and returns what is told beside the last line."""
         with logged() as told:
-            self.assertEqual(tables_module.run(self.options(**more), never), status)
+            self.assertEqual(tables_module.follow_feed(self.options(**more), never), status)
         self.assertEqual(
             sorted(it for it in os.listdir(self.folder) if it.startswith("rows")), ["rows.db"]
         )
@@ -718,10 +718,9 @@ class Beginning(TablesCase):
             Noted(str(self.path), "quick", None, 0o600).note(self.at, is_last=True)
             retire(str(self.path), Limits(), self.at, 0.0)
 
-        def export_slowly(options: Options, check: Check) -> int:
-            status = export(options, check)
+        def export_slowly(settings: ExportSettings, check: Check) -> None:
+            export_store(settings, check)
             go_on()
-            return status
 
         def copy_slowly(*words: Any) -> None:
             copy(*words)
@@ -730,7 +729,7 @@ class Beginning(TablesCase):
         patched: Any = (
             mock.patch.object(first_rows, "copy", copy_slowly)
             if "base" in more
-            else mock.patch.object(beside, "export", export_slowly)
+            else mock.patch.object(beside, "export_store", export_slowly)
         )
         with mock.patch("pgsub_connect.store.export.log"), patched:
             self.run_it(reader="rows", **more)
@@ -755,7 +754,7 @@ class Beginning(TablesCase):
     def test_what_one_needs_that_begins_with_an_export_stays(self) -> None:
         base = str(self.folder / "base.db")
         with logged():
-            export(Options(command="export", store=self.store(0x200), into=base), never)
+            export_store(ExportSettings(store=self.store(0x200), into=base), never)
         self.assertEqual(self.beside_another_reader(base=base), [0x200, 0x300, 0x400, 0x500])
 
     def test_what_one_needs_that_goes_back_behind_the_copy_stays(self) -> None:
@@ -766,13 +765,12 @@ class Beginning(TablesCase):
         self.take()
         self.feed.confirm(0x300)
 
-        def export_slowly(options: Options, check: Check) -> int:
-            status = export(options, check)
+        def export_slowly(settings: ExportSettings, check: Check) -> None:
+            export_store(settings, check)
             retire(str(self.path), Limits(), self.at, 0.0)
-            return status
 
         with mock.patch.object(beside, "is_followed", lambda _: True), mock.patch.object(
-            beside, "export", export_slowly
+            beside, "export_store", export_slowly
         ):
             self.run_it(reader="rows", store=self.store(0x300, "b"), at=0x100)
         self.assertEqual(
@@ -817,7 +815,7 @@ class Beginning(TablesCase):
         self.take()
         base = str(self.folder / "base.db")
         with logged():
-            export(Options(command="export", store=str(self.folder / "copy.db"), into=base), never)
+            export_store(ExportSettings(store=str(self.folder / "copy.db"), into=base), never)
         self.run_it(base=base)
         self.assertEqual(
             self.rows("SELECT name, oid FROM pgsub_tables ORDER BY oid"),
@@ -873,7 +871,7 @@ class Beginning(TablesCase):
         store.close()
         base = str(self.folder / "base.db")
         with logged():
-            export(Options(command="export", store=str(self.folder / "copy.db"), into=base), never)
+            export_store(ExportSettings(store=str(self.folder / "copy.db"), into=base), never)
         bag, wider = table(2, "bag", letter="f"), table(columns=[ID, NAME, Column("more", 23)])
         self.at = self.feed.at = 0x200
         self.feed.begin()
@@ -948,7 +946,7 @@ class Initial(TablesCase):
         self.run_it()
         self.write("PRAGMA max_page_count = 1; CREATE TABLE large AS SELECT zeroblob(1000000)")
         with logged(), self.assertRaisesRegex(Passing, "disk is full"):
-            tables_module.run(self.options(init=self.init), never)
+            tables_module.follow_feed(self.options(init=self.init), never)
         self.assertEqual((self.rows("SELECT * FROM stock"), self.tables()), ([(1, "a")], ["stock"]))
 
 
@@ -984,7 +982,7 @@ class Waiting(TablesCase):
             self.path = self.path.rename(self.folder / os.fsdecode(name))
             self.feed.folder, self.feed.path = self.path, self.path / self.feed.path.name
             self.run_it()
-            self.assertEqual(wait.read_file(self.into), (0x100, str(self.path)))
+            self.assertEqual(read_position(self.into), (0x100, str(self.path)))
             with contextlib.closing(View(self.into, never)) as view:
                 self.assertEqual(view.folder, str(self.path))
         self.feed.confirm(0x180)

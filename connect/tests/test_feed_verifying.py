@@ -17,17 +17,20 @@ from feed_text import About
 from feed_text import Column as TextColumn
 
 from pgsub_connect.commands import tables
-from pgsub_connect.commands.options import Options
-from pgsub_connect.commands.words import arguments
-from pgsub_connect.server.publications import Column, Table
+from pgsub_connect.commands.tables import Options
+from pgsub_connect.copy.source import chosen
+from pgsub_connect.server.catalog import Table
+from pgsub_connect.server.subscription import Subscription
 from pgsub_connect.verify import tables_file
-from pgsub_connect.verify.meeting_point import chosen
+from pgsub_connect.verify.tables_comparison import TablesComparison
 from pgsub_feed.errors import FileError, Passing, Stopped, Unfit
 from pgsub_feed.interruption import never
 from pgsub_feed.reader.trail import Gone, Trail
+from pgsub_feed.relation import Column, Shape
 
 from .fake_server import connection_to
 from .feeds import ID, NAME, delete, insert, table, truncate, update
+from .settled import options_of
 from .stores import Cell
 from .test_feed_tables import TablesCase
 from .test_verifying import Publisher
@@ -38,20 +41,14 @@ STOCK = Table(
     "public",
     "stock",
     "r",
-    "d",
-    None,
-    None,
-    [Column("id", 23, -1, True, 1), Column("name", 25, -1, False, 2)],
+    Shape("d", (Column("id", 23, -1, True, 1), Column("name", 25, -1, False, 2))),
 )
 WHOLE = Table(
     2,
     "public",
     "whole",
     "r",
-    "f",
-    None,
-    None,
-    [Column("id", 23, -1, True, 1), Column("name", 25, -1, True, 2)],
+    Shape("f", (Column("id", 23, -1, True, 1), Column("name", 25, -1, True, 2))),
 )
 OF_WHOLE = table(2, "whole", [ID, TextColumn("name", 25, -1, True)], "f")
 Rows = list[Sequence[Cell]]
@@ -79,7 +76,7 @@ class VerifyCase(TablesCase):
     def confirm(self, lsn: int) -> None:
         (self.path / "confirmed").write_text(f"0/{lsn:X}\n")
 
-    def source(self, options: Options, known: Any, check: Any) -> Any:
+    def source(self, _: Subscription, store: str, known: Any, check: Any) -> Any:
         self.known = known
         found = SimpleNamespace(
             plain=connection_to(self.server),
@@ -98,7 +95,7 @@ class VerifyCase(TablesCase):
 
     def verified(self, status: int, **more: Any) -> list[dict[str, Any]]:
         """Compares. Returns what is printed."""
-        options = Options(command="verify", tables=self.into, **more)
+        comparison = TablesComparison(Subscription(), self.into, **more)
 
         def sums(queries: Any) -> str:
             self.server.answer("SUMS", self.server.sums(queries.plan))
@@ -116,7 +113,7 @@ class VerifyCase(TablesCase):
                 mock.patch.multiple("pgsub_connect.verify.digests.Queries", sums=sums, texts=texts)
             )
             stack.enter_context(mock.patch.object(tables_file, "Source", self.source))
-            self.assertEqual(tables_file.run(options, never), status)
+            self.assertEqual(tables_file.compare_tables(comparison, never), status)
         return [json.loads(line) for line in out.getvalue().splitlines()]
 
     def equal(self, **more: Any) -> None:
@@ -255,10 +252,7 @@ class Server(VerifyCase):
             "public",
             "stock",
             "r",
-            "d",
-            None,
-            None,
-            [*STOCK.columns, Column("more", 23, -1, False, 3)],
+            Shape("d", (*STOCK.columns, Column("more", 23, -1, False, 3))),
         )
         for digests in (False, True):
             [found] = self.verified(1, digests=digests)
@@ -283,10 +277,7 @@ class Server(VerifyCase):
                 "public",
                 "flags",
                 "r",
-                "d",
-                None,
-                None,
-                [STOCK.columns[0], Column("is", 16, -1, False, 2)],
+                Shape("d", (STOCK.columns[0], Column("is", 16, -1, False, 2))),
             )
         )
         self.server.tables[3] = [["1", "t"], ["2", None]]
@@ -295,14 +286,14 @@ class Server(VerifyCase):
     def test_tables_that_were_not_chosen(self) -> None:
         self.into += ".chosen"
         with logged():
-            tables.run(self.options(table=["stock"]), never)
+            tables.follow_feed(self.options(table=["stock"]), never)
         self.equal()
         self.assertIn(f"{self.into} was made without 1 table: public.whole", self.said)
-        self.fails(Unfit, "was made without public.whole", table=["whole"])
-        self.equal(table=["stock"])
+        self.fails(Unfit, "was made without public.whole", chosen=["whole"])
+        self.equal(chosen=["stock"])
 
     def test_a_table_of_which_nothing_ever_came(self) -> None:
-        self.published.append(Table(9, "public", "late", "r", "d", None, None, STOCK.columns))
+        self.published.append(Table(9, "public", "late", "r", Shape("d", tuple(STOCK.columns))))
         self.equal()
         self.server.tables[9] = [["1", "x"]]
         for digests in (False, True):
@@ -353,7 +344,7 @@ class Server(VerifyCase):
     def test_what_the_server_does_not_show_as_of_the_point(self) -> None:
         self.left = {1: "altered or dropped"}
         del self.published[0]
-        self.assertEqual(self.verified(0, table=["whole"]), [])
+        self.assertEqual(self.verified(0, chosen=["whole"]), [])
         self.assertFalse(any("don't have now" in it for it in self.said))
         self.published.insert(0, STOCK)
         self.plant("UPDATE stock SET name = 'x' WHERE id = 1")
@@ -374,8 +365,8 @@ class Server(VerifyCase):
             self.said[-1],
             "warning: rows come anew by: pgsub-connect add --store STORE --table public.stock",
         )
-        self.assertEqual(self.verified(1, table=["stock"]), [])
-        self.equal(table=["whole"])
+        self.assertEqual(self.verified(1, chosen=["stock"]), [])
+        self.equal(chosen=["whole"])
 
     def test_numbers_of_4_bytes_to_the_last_bit(self) -> None:
         """What no number of 4 bytes is stored as is found, however close it is; its digits and its
@@ -389,10 +380,7 @@ class Server(VerifyCase):
                 "public",
                 "short",
                 "r",
-                "d",
-                None,
-                None,
-                [STOCK.columns[0], Column("f", 700, -1, False, 2)],
+                Shape("d", (STOCK.columns[0], Column("f", 700, -1, False, 2))),
             )
         )
         self.server.tables[3] = [["1", "0.1"]]
@@ -417,10 +405,7 @@ class Server(VerifyCase):
             "public",
             "stock",
             "r",
-            "d",
-            None,
-            None,
-            [*STOCK.columns, Column("more", 25, -1, False, 3)],
+            Shape("d", (*STOCK.columns, Column("more", 25, -1, False, 3))),
         )
         self.server.tables[1] = [[*it, None] for it in self.server.tables[1]]
         self.equal()
@@ -451,7 +436,7 @@ class Server(VerifyCase):
 
         add(1)
         self.fails(Passing, "being added just now, or refused: public.stock", store=str(store))
-        self.equal(store=str(store), table=["whole"])
+        self.equal(store=str(store), chosen=["whole"])
         path.unlink()
         self.equal(store=str(store))
         self.meanwhile = lambda: add(2)
@@ -479,17 +464,17 @@ class Server(VerifyCase):
             (str(self.path / "confirmed"), "has no tables that follow a feed"),
         ):
             with self.assertRaisesRegex(FileError, text):
-                tables_file.run(Options(tables=path), never)
+                tables_file.compare_tables(TablesComparison(Subscription(), path), never)
 
     def test_ended(self) -> None:
         with mock.patch.object(
             tables_file, "with_server", side_effect=Stopped
         ), self.assertRaisesRegex(Passing, "ended before"):
-            tables_file.run(Options(tables=self.into), never)
+            tables_file.compare_tables(TablesComparison(Subscription(), self.into), never)
         with mock.patch.object(
             tables_file, "with_server", side_effect=sqlite3.DatabaseError("x")
         ), self.assertRaisesRegex(FileError, "rows.db: x"):
-            tables_file.run(Options(tables=self.into), never)
+            tables_file.compare_tables(TablesComparison(Subscription(), self.into), never)
 
 
 class Files(VerifyCase):
@@ -544,9 +529,7 @@ class Files(VerifyCase):
         self.take(delete("77", "none"))
         with logged():
             for path in (self.into, self.other):
-                tables.run(
-                    Options(command="tables", feed=str(self.path), into=path, once=True), never
-                )
+                tables.follow_feed(Options(feed=str(self.path), into=path, once=True), never)
                 self.assertEqual(self.verified(1, other=self.other), [])
                 self.assertIn("public.stock is set aside in", self.said[0])
 
@@ -631,7 +614,7 @@ class Words(TablesCase):
         with contextlib.redirect_stderr(io.StringIO()) as said, self.assertRaises(
             SystemExit
         ) as ended:
-            arguments(["verify", *words])
+            options_of(["verify", *words])
         self.assertEqual(ended.exception.code, 2)
         return said.getvalue()
 
@@ -642,7 +625,7 @@ class Words(TablesCase):
         self.assertIn(
             "pgsub-connect add --store STORE --table T", self.rejected("--tables", "x", "--repair")
         )
-        self.assertEqual(arguments(["verify", "--tables", "a", "--with", "b"]).other, "b")
+        self.assertEqual(options_of(["verify", "--tables", "a", "--with", "b"]).other, "b")
 
     def test_which_store(self) -> None:
         """The publications are those of the store beside whose feed it is."""

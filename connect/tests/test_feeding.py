@@ -3,6 +3,7 @@ it is refused."""
 
 from __future__ import annotations
 
+import dataclasses
 import os
 import stat
 import subprocess
@@ -15,14 +16,14 @@ from unittest import mock
 
 from feed_text import Column, lsn_text
 
-from pgsub_connect.commands.options import Options
-from pgsub_connect.commands.words import arguments
 from pgsub_connect.drift.remembered import Remembered
+from pgsub_connect.drift.tolerance import Tolerance
 from pgsub_connect.follow import feed as feed_module
 from pgsub_connect.follow import tables_process
-from pgsub_connect.follow.feed import Feeding, Keeper
+from pgsub_connect.follow.feed import Feeding, FeedSettings, Keeper
 from pgsub_connect.follow.follower import Follower
-from pgsub_connect.follow.tables_process import Beside, words_of
+from pgsub_connect.follow.tables_process import Beside, TablesSettings, words_of
+from pgsub_connect.server.subscription import Subscription
 from pgsub_connect.status.metrics import metrics_text
 from pgsub_connect.status.progress import Progress
 from pgsub_connect.status.status_file import status_fields
@@ -35,6 +36,7 @@ from pgsub_feed.reader.segments import CONFIRMED, Reader, read_confirmed, segmen
 
 from .fake_server import Quiet
 from .feeds import ID, FeedCase, insert, table, truncate
+from .settled import options_of
 from .test_following import Case
 from .vectors import begin, commit
 from .vectors import insert as inserted
@@ -63,18 +65,28 @@ class Followed(Case):
         self.patch(feed_module, "QUIET", 0.02)
         self.patch(feed_module, "BUSY", 0.02)
 
-    def fed(self, feed: str | None = None, **options: object) -> Follower:
+    def fed(
+        self, feed: str | None = None, settings: dict[str, Any] | None = None, **options: Any
+    ) -> Follower:
         """A follower whose feed is checked, and that is about to run."""
-        follower = self.follower(feed=self.feed if feed is None else feed, **options)
-        follower.life.feeding = it = Feeding(
-            follower.options, self.checkpoint, self.progress, follower.watch.remembered
-        )
+        follower = self.follower(**options)
+        follower.life.feeding = it = self.feeding_of(follower, feed, **(settings or {}))
         it.check()
         self.addCleanup(it.finish)
         it.begin(follower.life.filter, follower.confirming.stored, follower.check_stop)
         return follower
 
-    def follower(self, **options: object) -> Follower:
+    def feeding_of(self, follower: Follower, feed: str | None = None, **settings: Any) -> Feeding:
+        return Feeding(
+            FeedSettings(self.store, self.feed if feed is None else feed, **settings),
+            follower.subscription,
+            follower.start.tolerance,
+            self.checkpoint,
+            self.progress,
+            follower.watch.remembered,
+        )
+
+    def follower(self, **options: Any) -> Follower:
         # (what is remembered lasts from run to run)
         if os.path.exists(self.store + ".tables"):
             remembered = Remembered(self.store)
@@ -146,7 +158,7 @@ class Followed(Case):
             "--feed-slot",
             "pgsub",
         ]
-        follower = self.fed(feed_segment_bytes=5000, feed_segment_seconds=60)
+        follower = self.fed(settings={"segment_bytes": 5000, "segment_seconds": 60})
         self.assertEqual(
             follower.life.filter.words[-12:],
             [*words, "--feed-segment-bytes", "5000", "--feed-segment-seconds", "60"],
@@ -156,7 +168,7 @@ class Followed(Case):
         self.run_until(follower, lambda: self.confirmed() == 0x400)
         os.close(os.dup(self.checkpoint.file))
         self.brain.answer("IDENTIFY_SYSTEM", [["88", "1", "0/1000000", "other"]])
-        known = Feeding(follower.options, self.checkpoint, self.progress, follower.watch.remembered)
+        known = self.feeding_of(follower)
         self.assertEqual(known.source(lambda: None), ("77", "shop", "pgsub"))
 
     def follow_once(self, end: int = 0x108) -> None:
@@ -186,7 +198,7 @@ class Followed(Case):
             self.fed(feed=self.folder + "/other")
         self.unlock()
         self.assertFalse(os.path.exists(self.folder + "/other"))
-        follower = self.fed(feed="", without_feed=True)
+        follower = self.fed(feed="", settings={"is_left": True})
         self.assertIn(
             f"warning: the feed {self.feed} ends here: whoever reads it begins anew, from an export and another feed",
             self.said,
@@ -206,7 +218,7 @@ class Followed(Case):
             self.said,
         )
         self.unlock()
-        follower = self.fed(feed=self.folder + "/other", without_feed=True)
+        follower = self.fed(feed=self.folder + "/other", settings={"is_left": True})
         self.server.to_send = [begin(0x300, 9), inserted(1), commit(0x300, 0x308)]
         self.run_until(follower, lambda: self.confirmed() == 0x308)
         self.feed = self.folder + "/other"
@@ -325,9 +337,20 @@ class Followed(Case):
 class Refused(Quiet):
     """What a start refuses before anything is made."""
 
-    def feeding(self, **options: object) -> Feeding:
-        chosen = Options(store=self.store, feed=self.store + ".feed", **options)  # type: ignore[arg-type]
-        return Feeding(chosen, mock.Mock(), Progress(), Remembered(self.store))
+    def feeding(self, tables: str = "") -> Feeding:
+        feed = self.store + ".feed"
+        return Feeding(
+            FeedSettings(
+                self.store,
+                feed,
+                tables=TablesSettings(tables, feed, self.store) if tables else None,
+            ),
+            Subscription(),
+            Tolerance(),
+            mock.Mock(),
+            Progress(),
+            Remembered(self.store),
+        )
 
     def setUp(self) -> None:
         super().setUp()
@@ -369,7 +392,7 @@ class Refused(Quiet):
             self.assertEqual(stat.S_IMODE(os.stat(f"{self.folder}/{mode:o}").st_mode), made)
 
     def test_words(self) -> None:
-        options = arguments(
+        options = options_of(
             "follow --store s --tables rows.db --feed-max-bytes 10GB --feed-max-age 7d".split()
         )
         self.assertEqual(
@@ -377,9 +400,9 @@ class Refused(Quiet):
             ("s.feed", 10 << 30, 7 * 86400.0),
         )
         self.assertEqual(
-            arguments("follow --store s --feed f --feed-max-bytes 500".split()).feed_max_bytes, 500
+            options_of("follow --store s --feed f --feed-max-bytes 500".split()).feed_max_bytes, 500
         )
-        self.assertEqual(arguments("follow --store s".split()).feed, "")
+        self.assertEqual(options_of("follow --store s".split()).feed, "")
 
 
 class Kept(FeedCase):
@@ -400,8 +423,8 @@ class Kept(FeedCase):
         self.progress = Progress()
         self.progress.stream.position = 0x600
 
-    def keeper(self, confirmed: int = 0x600, **options: object) -> Keeper:
-        chosen = Options(feed=str(self.path), **options)  # type: ignore[arg-type]
+    def keeper(self, confirmed: int = 0x600, **settings: Any) -> Keeper:
+        chosen = FeedSettings("copy.db", str(self.path), **settings)
         return Keeper(chosen, str(self.path), self.progress, lambda: Reached(confirmed, 0x600))
 
     def read(self, name: str, lsn: int) -> None:
@@ -427,7 +450,7 @@ class Kept(FeedCase):
 
     def test_a_reader_that_loses_segments_is_named(self) -> None:
         self.read("slow", 0x100)
-        self.keeper(feed_max_bytes=4000).tend(100.0)
+        self.keeper(max_bytes=4000).tend(100.0)
         self.assertEqual([base for base, _ in segments(str(self.path))][-1], 0x500)
         self.assertIn(
             "warning: the reader slow hadn't read all of that, and has to begin anew: the feed may have 4000 bytes",
@@ -533,15 +556,13 @@ class Tables(FeedCase):
         patch.start()
         self.addCleanup(patch.stop)
         self.into, self.progress = str(self.folder / "rows.db"), Progress()
-        self.options = Options(
-            store=str(self.folder / "copy.db"), feed=str(self.path), tables=self.into
-        )
+        self.settings = TablesSettings(self.into, str(self.path), str(self.folder / "copy.db"))
 
     def kept(self, code: str | None = None) -> Beside:
         """One that runs this in the place of `pgsub-connect tables`; by default that itself, from
         the beginning of the feed, which notes at once how far it is, and bears for a short time
         what is wrong."""
-        it = Beside(self.options, self.progress)
+        it = Beside(self.settings, self.progress)
         if code is not None:
             it.words = [sys.executable, "-S", "-c", code]
         else:
@@ -605,7 +626,7 @@ class Tables(FeedCase):
 
     def test_before_they_are_made_they_have_nothing(self) -> None:
         """What a new reader needs is kept under its name: that isn't what it has."""
-        kept = Beside(self.options, self.progress)
+        kept = Beside(self.settings, self.progress)
         Noted(str(self.path), "tables", None, 0o600).note(0x300, is_last=True)
         with mock.patch.object(kept, "is_alive", lambda: True):
             self.assertFalse(kept.has(0x300))
@@ -671,12 +692,10 @@ class Tables(FeedCase):
         )
 
     def test_how_it_is_started(self) -> None:
-        self.options.init, self.options.mode = "my.sql", 0o640
-        options = arguments(words_of(self.options)[3:])
-        self.assertEqual(
-            (options.command, options.feed, options.into), ("tables", str(self.path), self.into)
-        )
-        self.assertEqual(options.store, self.options.store)
+        settings = dataclasses.replace(self.settings, init="my.sql", mode=0o640)
+        options = options_of(words_of(settings)[3:])
+        self.assertEqual((options.feed, options.into), (str(self.path), self.into))
+        self.assertEqual(options.store, self.settings.store)
         self.assertEqual(
             (options.reader, options.mode, options.while_input, options.once),
             ("tables", 0o640, True, False),
@@ -693,7 +712,7 @@ class Tables(FeedCase):
             name: value for name, value in os.environ.items() if not name.startswith("PYTHON")
         }
         done = subprocess.run(
-            [*words_of(self.options)[:3], "tables"],
+            [*words_of(self.settings)[:3], "tables"],
             cwd=self.folder,
             env=environment,
             capture_output=True,

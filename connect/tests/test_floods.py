@@ -13,13 +13,13 @@ from unittest import mock
 from server_messages import described, row
 
 from pgsub_connect.errors import ServerError, WrongAnswer
-from pgsub_connect.server import connection as connection_module
 from pgsub_connect.server import notices
 from pgsub_connect.server import rows as rows_module
+from pgsub_connect.server import wire
 from pgsub_connect.server.connection import Connection
 from pgsub_feed.errors import Stopped
-from tests import small_server
 
+from . import small_server
 from .small_server import SmallServer, answered, error, message
 from .test_postgres import Case, StopsLater
 
@@ -161,17 +161,15 @@ class Moved(unittest.TestCase):
         """Whatever the length and the place are. What is around them stays."""
         for length in (
             1,
-            connection_module.PAGE,
-            connection_module.MOVED - 1,
-            connection_module.MOVED,
-            3 * connection_module.MOVED + 4097,
+            wire.PAGE,
+            wire.MOVED - 1,
+            wire.MOVED,
+            3 * wire.MOVED + 4097,
         ):
-            for before in (0, 5, connection_module.PAGE):
+            for before in (0, 5, wire.PAGE):
                 content = os.urandom(length)
                 memory = ctypes.create_string_buffer(b"x" * before + content + b"y" * 5000)
-                self.assertTrue(
-                    connection_module.moved(ctypes.addressof(memory) + before, length) == content
-                )
+                self.assertTrue(wire.moved(ctypes.addressof(memory) + before, length) == content)
                 self.assertEqual(
                     (memory.raw[:before], memory.raw[before + length :]),
                     (b"x" * before, b"y" * 5000 + b"\0"),

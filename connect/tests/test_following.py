@@ -11,21 +11,21 @@ import threading
 import time
 import unittest
 from collections.abc import Callable, Iterator, Sequence
+from typing import Any
 from unittest import mock
 
-from pgsub_connect.commands.options import Options
-from pgsub_connect.drift import watch
 from pgsub_connect.drift.findings import About
 from pgsub_connect.drift.remembered import Remembered
 from pgsub_connect.errors import FilterFault, ServerError, Unconnected
-from pgsub_connect.follow import filter_life
+from pgsub_connect.follow import drift_watch, filter_life
 from pgsub_connect.follow import follower as follower_module
 from pgsub_connect.follow import schedule
 from pgsub_connect.follow import session as session_module
 from pgsub_connect.follow import upkeep
 from pgsub_connect.follow.follower import Follower
+from pgsub_connect.server import addresses
 from pgsub_connect.server import connection as connection_module
-from pgsub_connect.server import session, transport
+from pgsub_connect.server import session, ticks, transport
 from pgsub_connect.server.session import Server
 from pgsub_connect.server.transport import Protection
 from pgsub_connect.status.progress import Progress
@@ -42,6 +42,7 @@ from pgsub_feed.errors import Passing, Unfit
 from pgsub_feed.texts import lsn_text, parse_lsn
 
 from .fake_server import FakeServer, Quiet, Row
+from .followed import followed
 from .small_server import READY, SmallServer, error
 from .vectors import a_catalog, a_table, begin, commit, insert, keepalive
 
@@ -76,7 +77,7 @@ class Case(Quiet):
         self.server = SmallServer(self.folder, self.brain)
         self.addCleanup(self.server.close)
         for where, name, by in (
-            (connection_module, "TICK", 0.02),
+            (ticks, "TICK", 0.02),
             *((where, "STEP", 0.02) for where in FOLLOW),
             (statuses, "QUIET", 0.3),
             (filter_life, "SLEEP", 0.02),
@@ -84,20 +85,19 @@ class Case(Quiet):
             (schedule, "FIRST_DELAY", 0.02),
         ):
             self.patch(where, name, by)
-        self.patch(watch.Watch, "compare", lambda *_: True)
+        self.patch(drift_watch.Watch, "compare", lambda *_: True)
 
     def patch(self, where: object, name: str, by: object) -> None:
         patch = mock.patch.object(where, name, by)
         patch.start()
         self.addCleanup(patch.stop)
 
-    def follower(self, **options: object) -> Follower:
+    def follower(self, **options: Any) -> Follower:
         self.checkpoint = Checkpoint(self.store)
         self.addCleanup(os.close, self.checkpoint.file)
         if not os.path.exists(self.store):
             with open(self.store, "w", encoding="ascii") as file:
                 file.write("0")
-        chosen = Options(store=self.store, dsn=self.server.dsn(), publication=["pgsub"], **options)  # type: ignore[arg-type]
         child = Filter(
             ["/usr/bin/python3", "-S", "-E", FAKE, "follow", "--store", self.store],
             (self.checkpoint.file,),
@@ -106,7 +106,7 @@ class Case(Quiet):
         self.progress, remembered = Progress(), Remembered(self.store)
         remembered.begin_copy(a_catalog(a_table(1, "t")), 100)
         return Follower(
-            chosen,
+            *followed(self.store, self.server.dsn(), **options),
             self.checkpoint,
             child,
             self.progress,
@@ -247,7 +247,7 @@ class Sessions(Case):
             seen.append(connection is follower.session.connection)
             return True
 
-        self.patch(watch.Watch, "compare", compare)
+        self.patch(drift_watch.Watch, "compare", compare)
         self.run_until(follower, lambda: self.server.sessions == 1)
         self.assertEqual(seen, [False])
 
@@ -307,7 +307,7 @@ class Sessions(Case):
         )
         self.server.to_send = [begin(0x100, 7), insert(1), commit(0x100, 0x108)]
         follower = self.follower()
-        follower.options.publication = ["pgsub", "late"]
+        follower.subscription.note_publications(["pgsub", "late"])
         found = f"the server leaves out changes from before a publication was made: {text}"
         self.run_until(follower, lambda: self.confirmed() == 0x108)
         self.assertIn(f"warning: found: publication at 0/0: {found}", self.said)
@@ -321,7 +321,7 @@ class Sessions(Case):
         with self.assertRaisesRegex(Unfit, "leaves out changes"):
             self.run_until(follower, lambda: False)
 
-    def follower_again(self, **options: object) -> Follower:
+    def follower_again(self, **options: Any) -> Follower:
         self.patch(Checkpoint, "lock", lambda *_: None)
         return self.follower(**options)
 
@@ -370,8 +370,8 @@ class Sessions(Case):
 
     def test_a_server_that_hangs_while_a_table_is_added(self) -> None:
         """Nothing of the session is read meanwhile, so it is asked on another connection."""
-        self.patch(connection_module, "LEAST_LIMIT", 0.05)
-        self.patch(connection_module, "CONNECT_LIMIT", 0.05)
+        self.patch(addresses, "LEAST_LIMIT", 0.05)
+        self.patch(addresses, "CONNECT_LIMIT", 0.05)
         self.patch(session, "QUICK", 0.05)
         follower = self.follower(silence=30.0)
         follower.confirming.last_sent, now, self.progress.server.started = (
@@ -747,7 +747,7 @@ class Fits(Case):
                     follower.start.start_replication(connection, self.server_now(1))
                 self.assertTrue(raised.exception.is_lasting())
 
-    def follower_alone(self, **options: object) -> Follower:
+    def follower_alone(self, **options: Any) -> Follower:
         self.patch(Checkpoint, "lock", lambda *_: None)
         follower = self.follower(**options)
         follower.life.filter.status = b"r" + bytes(33)

@@ -11,11 +11,10 @@ import unittest
 from collections.abc import Iterator
 from unittest import mock
 
-from pgsub_connect.add import addable, adder
-from pgsub_connect.commands import verify
-from pgsub_connect.commands.options import Options
+from pgsub_connect.add import addable, turn
 from pgsub_connect.errors import Delayed, ServerError, Unrepaired
 from pgsub_connect.follow import schedule
+from pgsub_connect.server.subscription import Subscription
 from pgsub_connect.status.progress import Progress
 from pgsub_connect.store.at_rest import read_request
 from pgsub_connect.store.snapshot import Snapshots
@@ -23,6 +22,8 @@ from pgsub_connect.stream import gate
 from pgsub_connect.stream.frames import flushed
 from pgsub_connect.stream.gate import Gating, Making, is_shared, too_large_to_copy
 from pgsub_connect.stream.hold import Hold
+from pgsub_connect.verify import store as verify_store
+from pgsub_connect.verify.comparison import Compared
 from pgsub_connect.verify.meeting_point import Request
 from pgsub_feed.errors import Passing, Stopped
 from pgsub_feed.interruption import never
@@ -93,7 +94,7 @@ class Looks(Quiet):
         patch.start()
         self.addCleanup(patch.stop)
         self.hold, self.progress, self.gone = Hold(), Progress(), list[str]()
-        self.gating = Gating(Options(), self.progress, self.hold, never, self.gone.append)
+        self.gating = Gating(Subscription(), self.progress, self.hold, never, self.gone.append)
         self.progress.server.is_waited_for = True
         self.addCleanup(self.gating.end_session)
 
@@ -354,7 +355,7 @@ class Synchronous(AddingCase):
 
     def test_rows_that_take_too_long(self) -> None:
         """The table is refused, and another session begins at once."""
-        self.patch(adder, "LONGEST_WAIT", 0.0)
+        self.patch(turn, "LONGEST_WAIT", 0.0)
         self.patch(schedule, "FIRST_DELAY", 60.0)
         self.want(T)
 
@@ -405,10 +406,15 @@ class Tries(unittest.TestCase):
 
     def tries(self, *results: object) -> tuple[object, int]:
         tried = mock.Mock(side_effect=results)
-        quick = mock.patch.object(verify, "PAUSE", 0.0)
-        with mock.patch.object(verify, "repair_once", tried), quick, logged():
+        quick = mock.patch.object(verify_store, "PAUSE", 0.0)
+        with mock.patch.object(verify_store, "repair_once", tried), quick, logged():
             try:
-                return verify.repair(Options(), verify.Compared(), never), tried.call_count
+                return (
+                    verify_store.repair(
+                        verify_store.StoreComparison(Subscription(), "s"), Compared(), never
+                    ),
+                    tried.call_count,
+                )
             except Passing as error:
                 return error, tried.call_count
 
@@ -427,7 +433,7 @@ class Sizes(unittest.TestCase):
         server = FakeServer()
         server.answer("size", [["16385", str(size)]])
         source = mock.Mock(plain=server.connect(""), standbys=lambda: standbys)
-        verify.check_sizes(Options(dsn=dsn), source, [table(T, "t")])
+        verify_store.check_sizes(Subscription(dsn), source, [table(T, "t")])
 
     def test_small_ones(self) -> None:
         self.check("pgsub", 1000)

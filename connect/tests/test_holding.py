@@ -13,10 +13,10 @@ import unittest
 from collections.abc import Callable, Iterator
 from unittest import mock
 
-from pgsub_connect.commands.options import Options
 from pgsub_connect.errors import ServerError
 from pgsub_connect.follow.ending import Ending
 from pgsub_connect.follow.requests import Requests as Asked
+from pgsub_connect.server.subscription import Subscription
 from pgsub_connect.status.progress import Progress
 from pgsub_connect.store import snapshot
 from pgsub_connect.store.at_rest import read_request
@@ -58,7 +58,7 @@ class Holds(unittest.TestCase):
         self.filter.waiting = 0
         self.filter.confirmed.return_value = 0x100
         self.requests = Asked(
-            Options(), self.snapshots, mock.Mock(), mock.Mock(), upkeep, self.ending
+            Subscription(), self.snapshots, mock.Mock(), mock.Mock(), upkeep, self.ending
         )
 
     def confirm(self, confirmed: int, position: int) -> int:

@@ -12,7 +12,8 @@ from pgsub_connect.status.progress import STATES, Progress
 from pgsub_connect.status.status_file import status_fields
 from pgsub_connect.stream.messages import EPOCH
 from pgsub_connect.stream.stream_log import Noting
-from tests import vectors
+
+from . import vectors
 
 
 class Behind(unittest.TestCase):

@@ -22,10 +22,12 @@ LAYERS = (
     "pgsub_connect.version",
     "pgsub_connect.embedded",
     "pgsub_connect.server",
+    "pgsub_connect.preconditions",
     "pgsub_connect.drift",
     "pgsub_connect.status",
     "pgsub_connect.store",
     "pgsub_connect.stream",
+    "pgsub_connect.record",
     "pgsub_connect.copy",
     "pgsub_connect.add",
     "pgsub_connect.verify",
@@ -175,11 +177,9 @@ class Layers(unittest.TestCase):
         self.assertEqual(cycles(edges), [{"a", "b", "c"}])
 
     def test_what_is_imported_for_types_alone(self) -> None:
-        it = Module(CONNECT / "pgsub_connect" / "follow" / "session.py")
-        names = {"pgsub_connect.commands.options", "pgsub_connect.follow.stall", "pgsub_connect"}
-        self.assertEqual(
-            it.imports(names), {"pgsub_connect.commands.options", "pgsub_connect.follow.stall"}
-        )
+        it = Module(CONNECT / "pgsub_connect" / "stream" / "missed_rows.py")
+        names = {"pgsub_connect.stream.filter_end", "pgsub_connect.store.checkpoint"}
+        self.assertEqual(it.imports({*names, "pgsub_connect"}), names)
 
 
 if __name__ == "__main__":

@@ -10,19 +10,21 @@ import unittest
 from collections.abc import Iterator
 from unittest import mock
 
-from pgsub_connect.commands.options import Options
-from pgsub_connect.commands.verify import meet
-from pgsub_connect.copy.copier import CHANGED
+from pgsub_connect.copy.source import Source
+from pgsub_connect.copy.tries import CHANGED
+from pgsub_connect.copy.unchanged import ALTERED, LOCKED, MOVED
 from pgsub_connect.errors import NoSlot, ServerError
-from pgsub_connect.server.publications import Table
+from pgsub_connect.server.catalog import Table
+from pgsub_connect.server.subscription import Subscription
 from pgsub_connect.store.checkpoint_lines import FOLLOWING, Known
 from pgsub_connect.store.snapshot import Snapshots, position_in
 from pgsub_connect.stream.hold import write_request
 from pgsub_connect.verify import meeting_point
-from pgsub_connect.verify.meeting_point import Request, Source
-from pgsub_connect.verify.unchanged import ALTERED, LOCKED, MOVED
+from pgsub_connect.verify.meeting_point import Request
+from pgsub_connect.verify.store import meet
 from pgsub_feed.errors import Passing, Stopped, Unfit
 from pgsub_feed.interruption import Check, never
+from pgsub_feed.relation import Shape
 
 from .fake_server import FakeServer, Quiet, Row
 from .stores import StoreCase
@@ -164,18 +166,16 @@ class Servers(Quiet):
         super().setUp()
         self.server = FakeServer()
         self.identity: Row = ["77", "1", "0/1000", "shop"]
-        self.table = Table(1, "public", "t", "r", "d", None, None)
+        self.table = Table(1, "public", "t", "r", Shape("d", ()))
         self.server.answer("IDENTIFY_SYSTEM", lambda _: [self.identity])
         self.server.answer("pg_is_in_recovery", [["f"]])
         self.server.answer("CREATE_REPLICATION_SLOT", [["x", "0/200", "snap", "pgoutput"]])
         self.tables = [self.table]
-        self.replace("pgsub_connect.verify.meeting_point.LOOK", 0.001)
-        for where in ("verify.meeting_point", "copy.copier", "server.waits"):
+        self.replace("pgsub_connect.copy.source.LOOK", 0.001)
+        for where in ("copy.source", "copy.tables", "server.waits"):
             self.replace(f"pgsub_connect.{where}.Connection", self.server.connect)
-        self.replace(
-            "pgsub_connect.verify.meeting_point.published_tables", lambda *_: list(self.tables)
-        )
-        self.replace("pgsub_connect.copy.copier.are_so_named", lambda *_: True)
+        self.replace("pgsub_connect.copy.source.published_tables", lambda *_: list(self.tables))
+        self.replace("pgsub_connect.copy.tables.are_so_named", lambda *_: True)
 
     def replace(self, name: str, by: object) -> None:
         patch = mock.patch(name, by)
@@ -183,7 +183,7 @@ class Servers(Quiet):
         self.addCleanup(patch.stop)
 
     def source(self, known: Known = KNOWN) -> Source:
-        source = Source(Options(command="verify", store="s", publication=["pgsub"]), known, never)
+        source = Source(Subscription(publications=["pgsub"]), "s", known, never)
         self.addCleanup(source.close)
         return source
 
@@ -293,7 +293,7 @@ class Servers(Quiet):
 
     def two(self) -> Source:
         """A source of two tables, the second of which is in two partitions."""
-        self.tables = [self.table, Table(2, "public", "u", "p", "d", None, None)]
+        self.tables = [self.table, Table(2, "public", "u", "p", Shape("d", ()))]
         return self.source()
 
     def test_which_file_a_table_is_in_when_the_slot_is_made(self) -> None:
@@ -317,8 +317,8 @@ class Servers(Quiet):
         source = self.two()
         self.tables = [
             self.table,
-            Table(2, "public", "u", "p", "f", None, None),
-            Table(3, "public", "new", "r", "d", None, None),
+            Table(2, "public", "u", "p", Shape("f", ())),
+            Table(3, "public", "new", "r", Shape("d", ())),
         ]
         source.see("snap", leaves=True)
         self.assertEqual(([it.oid for it in source.tables], source.left), ([1], {2: ALTERED}))
@@ -326,7 +326,7 @@ class Servers(Quiet):
     def test_what_is_renamed_behind_the_snapshot_is_left_out(self) -> None:
         source = self.two()
         self.replace(
-            "pgsub_connect.copy.copier.are_so_named",
+            "pgsub_connect.copy.tables.are_so_named",
             lambda _, tables: 2 not in [it.oid for it in tables],
         )
         source.see("snap", leaves=True)
@@ -366,7 +366,7 @@ class Servers(Quiet):
             source.see("snap")
 
     def test_which_tables(self) -> None:
-        other = Table(2, "Odd schema", "t", "r", "d", None, None)
+        other = Table(2, "Odd schema", "t", "r", Shape("d", ()))
         self.tables = [self.table, other]
         source = self.source()
         self.assertEqual(source.chosen([]), [self.table, other])

@@ -17,13 +17,14 @@ from hypothesis import given, settings
 from hypothesis import strategies as st
 
 from pgsub_connect.copy.messages import relation
-from pgsub_connect.server.publications import Column, Table
+from pgsub_connect.copy.source import Source
+from pgsub_connect.server.catalog import Table
 from pgsub_connect.verify import sides
 from pgsub_connect.verify.digests import Plan, Queries
-from pgsub_connect.verify.meeting_point import Source
 from pgsub_connect.verify.repair_rows import Changes, Mender, NoChange, changes_of
 from pgsub_connect.verify.sides import Copy, Sides
 from pgsub_feed.interruption import never
+from pgsub_feed.relation import Column, Shape
 from pgsub_feed.tables.row_texts import text_of
 
 from .drawn import ANY
@@ -32,14 +33,14 @@ from .row_filter import Store, Subscriber
 from .test_verifying import EQUAL_ROWS, KEYED, ROWS, WHOLE, Case, Rows
 from .vectors import begin, commit, data, logged
 
-NOTHING = Table(3, "public", "bare", "r", "n", None, None, [Column("a", 25, -1, False, 1)])
+NOTHING = Table(3, "public", "bare", "r", Shape("n", (Column("a", 25, -1, False, 1),)))
 # A key of two columns, of which the first isn't one.
 COLUMNS = [
     Column("n", 25, -1, False, 1),
     Column("a", 25, -1, True, 2),
     Column("b", 25, -1, True, 3),
 ]
-TWO = Table(4, "public", "two", "r", "i", None, None, COLUMNS)
+TWO = Table(4, "public", "two", "r", Shape("i", tuple(COLUMNS)))
 TOO_MANY: Rows = [[f"too many {it}", None] for it in range(300)]
 Some = dict[tuple[str | None, ...], int]
 WORDS = st.sampled_from(["", None, "a", "b\t\\", "c\n", "\u00e4", "n", "1:", "\\N"])

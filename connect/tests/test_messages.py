@@ -21,7 +21,8 @@ from pgsub_connect.copy.messages import (
     unescaped,
 )
 from pgsub_connect.errors import WrongAnswer
-from pgsub_connect.server.publications import Column, Table
+from pgsub_connect.server.catalog import Table
+from pgsub_feed.relation import Column, Shape
 
 from .drawn import ANY
 
@@ -34,10 +35,7 @@ def table_of(width: int, oid: int = 16385) -> Table:
         "public",
         "t",
         "r",
-        "d",
-        None,
-        None,
-        [Column(f"c{it}", 25, -1, it == 0) for it in range(width)],
+        Shape("d", tuple([Column(f"c{it}", 25, -1, it == 0) for it in range(width)])),
     )
 
 
@@ -101,10 +99,7 @@ class Bytes(unittest.TestCase):
             "shop",
             "st\u00f6ck",
             "r",
-            "f",
-            None,
-            None,
-            [Column("id", 23, -1, True), Column("q", 1043, 24, False)],
+            Shape("f", (Column("id", 23, -1, True), Column("q", 1043, 24, False))),
         )
         self.assertEqual(
             relation(table).hex(),
@@ -126,7 +121,7 @@ class Bytes(unittest.TestCase):
 
     def test_relation_of_the_catalog_has_no_schema(self) -> None:
         self.assertEqual(
-            relation(Table(1, "pg_catalog", "t", "r", "d", None, None)).hex(),
+            relation(Table(1, "pg_catalog", "t", "r", Shape("d", ()))).hex(),
             "52" "00000001" "00" "7400" "64" "0000",
         )
 

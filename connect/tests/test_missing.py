@@ -12,10 +12,10 @@ from pathlib import Path
 from unittest import mock
 
 from pgsub_connect import cli
-from pgsub_connect.commands.options import Options
-from pgsub_connect.commands.words import ENDS, KINDS
-from pgsub_connect.drift.missed_rows import Misses, texts_of
+from pgsub_connect.commands import follow
+from pgsub_connect.commands.follow import ACCEPTED, ENDS
 from pgsub_connect.drift.remembered import Remembered
+from pgsub_connect.drift.tolerance import Tolerance
 from pgsub_connect.errors import MISSED, ServerError
 from pgsub_connect.follow.follower import Follower
 from pgsub_connect.server.connection import Connection
@@ -28,6 +28,7 @@ from pgsub_connect.stream.awake import Awake
 from pgsub_connect.stream.filter_end import FilterEnded, Missing
 from pgsub_connect.stream.filter_input import FilterInput
 from pgsub_connect.stream.frames import flushed
+from pgsub_connect.stream.missed_rows import Misses, texts_of
 from pgsub_feed.errors import UNFIT, Passing, Unfit
 
 from .test_following import FAKE, Case
@@ -492,12 +493,12 @@ class Rejected(FollowCase):
 
 
 class Told(FollowCase):
-    def misses(self, **options: object) -> Misses:
+    def misses(self, accept: Sequence[str] = ()) -> Misses:
         self.checkpoint = Checkpoint(self.store)
         self.addCleanup(os.close, self.checkpoint.file)
         self.progress, remembered = Progress(), Remembered(self.store)
         remembered.begin_copy(a_catalog(a_table(1, "t")), 100)
-        return Misses(Options(store=self.store, **options), self.checkpoint, self.progress, remembered)  # type: ignore[arg-type]
+        return Misses(Tolerance(accept), self.checkpoint, self.progress, remembered)
 
     def test_the_first_at_once_and_more_each_ten_seconds(self) -> None:
         misses = self.misses()
@@ -690,7 +691,7 @@ class Statuses(FollowCase):
         )
 
     def test_of_the_command(self) -> None:
-        self.patch(cli, "Asker", mock.Mock())
+        self.patch(follow, "Asker", mock.Mock())
         self.addCleanup(os.umask, os.umask(0o077))
         for number in (signal.SIGINT, signal.SIGTERM, signal.SIGUSR1):
             self.addCleanup(signal.signal, number, signal.getsignal(number))
@@ -713,7 +714,7 @@ class Statuses(FollowCase):
 
     def test_help(self) -> None:
         self.assertIn("9 ended as asked, but changes found no", ENDS)
-        self.assertIn("missing", KINDS)
+        self.assertIn("missing", ACCEPTED)
 
 
 if __name__ == "__main__":

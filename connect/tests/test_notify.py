@@ -8,7 +8,7 @@ import socket
 import threading
 import time
 import unittest
-from collections.abc import Iterator
+from collections.abc import Callable, Iterator
 from contextlib import contextmanager
 from unittest import mock
 
@@ -173,7 +173,7 @@ class Following(Case):
     def test_between_sessions(self) -> None:
         self.patch(schedule, "FIRST_DELAY", 60.0)
         follower = self.follower()
-        follower.note_connected(True)
+        follower.begin_after(True)
         error = ServerError("gone", "57P01")
         with mock.patch.object(follower.session, "run", side_effect=error):
             self.follow_for(follower, WITHIN)
@@ -232,13 +232,13 @@ class FirstRows(Copying):
         copier = self.copier()
         self.progress.notifier = Notifier(manager.address, WITHIN)
         began = time.monotonic()
-        real = copier.wait_for
+        real = copier.sender.wait_for
 
-        def wait_for(has_come: object, *more: object) -> None:
+        def wait_for(has_come: Callable[[], bool], *more: int) -> None:
             until = time.monotonic() + 0.6
-            real(lambda: time.monotonic() > until and has_come(), *more)  # type: ignore[operator, arg-type]
+            real(lambda: time.monotonic() > until and has_come(), *more)
 
-        with mock.patch.object(copier, "wait_for", wait_for):
+        with mock.patch.object(copier.sender, "wait_for", wait_for):
             copier.run()
         ended = time.monotonic()
         manager.close()

@@ -12,8 +12,8 @@ from pgsub_connect.status.progress import Progress
 from pgsub_connect.stream.messages import relation_of
 from pgsub_connect.stream.stream_log import Noting
 from pgsub_connect.stream.transactions import changes_text
-from tests import vectors
 
+from . import vectors
 from .vectors import (
     ID,
     NAME,
@@ -196,7 +196,7 @@ class Relations(Case):
             (self.found(), self.remembered.last_sent(1), self.noting.relation_log.wants_look),
             ({}, 500, False),
         )
-        self.assertFalse(self.remembered.is_urgent and self.remembered.news)
+        self.assertFalse(self.remembered.is_urgent and self.remembered.found.news)
 
     def test_a_column(self) -> None:
         self.note(begin(500, 7), relation(1, "t", [ID, NAME, MORE]), insert(1))

@@ -15,8 +15,8 @@ from pgsub_connect.drift.remembered import Remembered
 from pgsub_connect.status.counters import StreamCounters
 from pgsub_connect.stream.messages import relation_of
 from pgsub_connect.stream.stream_log import Noting
-from tests import vectors
 
+from . import vectors
 from .vectors import a_catalog, a_table, begin, commit, data, insert, relation
 
 MB = 1 << 20

@@ -13,7 +13,6 @@ from typing import Any
 from unittest import mock
 
 from pgsub_connect.commands.add import noted
-from pgsub_connect.commands.options import Options
 from pgsub_connect.drift.remembered import Remembered
 from pgsub_connect.store import at_rest, export
 from pgsub_connect.store.snapshot import Snapshots
@@ -253,7 +252,7 @@ class Replaced(Quiet):
         store = self.path.removesuffix(".tables")
         remembered = Remembered(store, 0o640)
         remembered.keep_made({"pgsub": 5})
-        self.assertTrue(noted(Options(command="add", store=store), [7], []))
+        self.assertTrue(noted(store, 0o600, [7], []))
         self.assertEqual(stat.S_IMODE(os.stat(self.path).st_mode), 0o640)
 
 
@@ -326,7 +325,7 @@ class Links(Case):
         for suffix in ("-wal", "-journal"):
             shutil.copy(self.victim, self.folder + "/far/app.db" + suffix)
         with logged(), self.assertRaisesRegex(FileError, "isn't followed"):
-            export.run(Options(command="export", store=self.path, into=self.into), never)
+            export.export_store(export.ExportSettings(store=self.path, into=self.into), never)
         with self.assertRaisesRegex(FileError, "isn't followed"), placed(self.into, 0o600):
             self.fail("it was followed")
         with self.assertRaisesRegex(FileError, "isn't followed"):

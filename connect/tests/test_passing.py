@@ -4,18 +4,16 @@ rejected."""
 from __future__ import annotations
 
 import collections
-import dataclasses
 import os
 import tempfile
 import unittest
 from collections.abc import Sequence
 from unittest import mock
 
-from pgsub_connect.commands.options import Options
-from pgsub_connect.commands.record import Aside, Recording
 from pgsub_connect.drift.remembered import Remembered
 from pgsub_connect.errors import ServerError
 from pgsub_connect.follow.follower import Follower
+from pgsub_connect.record.recording import Aside, Recording
 from pgsub_connect.status.progress import Progress
 from pgsub_connect.store.checkpoint import Checkpoint
 from pgsub_connect.store.snapshot import Snapshots
@@ -23,6 +21,7 @@ from pgsub_connect.stream.filter import Filter
 from pgsub_connect.stream.filter_end import REJECTED, FilterEnded
 from pgsub_connect.stream.filter_input import PIECE, ROOM
 
+from .followed import followed
 from .vectors import a_catalog, a_table, begin, commit, insert, keepalive, logged, relation
 
 FAKE = os.path.join(os.path.dirname(os.path.abspath(__file__)), "fake_filter.py")
@@ -68,9 +67,8 @@ class Case(unittest.TestCase):
         )
         self.recording = Recording(folder.name + "/r.pgx", False, 1 << 30)
         self.addCleanup(self.recording.out.close)
-        options = Options(store=self.store, publication=["pgsub"], skip=0x210)
         self.follower = Follower(
-            options,
+            *followed(self.store, skip=0x210),
             Checkpoint(self.store),
             self.child,
             Progress(),
@@ -147,14 +145,9 @@ class Passes(Case):
             "proto_version '1', publication_names",
             follower.life.form.command("pgsub", ["pgsub"], 0),
         )
-        chosen = dataclasses.replace(
-            follower.options,
-            proto=follower.life.form.proto,
-            streaming=follower.life.form.is_streaming(),
-        )
         connection = mock.Mock()
         connection.parameter.return_value = "13.9"
-        self.recording.begin_session(connection, chosen, 0x100)
+        self.recording.begin_session(follower.start.recorded(connection, 0x100))
         self.recording.flush()
         with open(self.recording.path, encoding="ascii") as file:
             self.assertIn("# protocol version 1, from 0/100", file.read())

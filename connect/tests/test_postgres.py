@@ -13,20 +13,14 @@ from unittest import mock
 from psycopg import pq
 
 from pgsub_connect.errors import ServerError, Unconnected
-from pgsub_connect.server import connection as connection_module
-from pgsub_connect.server.connection import (
-    COPY_BOTH,
-    Connection,
-    addresses_of,
-    connect_limit,
-    hosts_of,
-    parameters,
-)
+from pgsub_connect.server import addresses, libpq, login, ticks, wire
+from pgsub_connect.server.addresses import addresses_of, connect_limit, hosts_of, parameters
+from pgsub_connect.server.connection import COPY_BOTH, Connection
 from pgsub_connect.server.libpq import LIBPQ
 from pgsub_feed.errors import Stopped
 from pgsub_feed.interruption import never
-from tests import small_server
 
+from . import small_server
 from .fake_server import FakeServer, Quiet
 from .small_server import SmallServer, error, message
 
@@ -52,9 +46,9 @@ class Case(Quiet):
         self.folder = self.make_folder()
         self.brain = FakeServer()
         self.server = self.start()
-        ticks = mock.patch.object(connection_module, "TICK", 0.02)
-        ticks.start()
-        self.addCleanup(ticks.stop)
+        short = mock.patch.object(ticks, "TICK", 0.02)
+        short.start()
+        self.addCleanup(short.stop)
         others = mock.patch.dict(os.environ, OTHERS, clear=True)
         others.start()
         self.addCleanup(others.stop)
@@ -67,7 +61,7 @@ class Case(Quiet):
         return server
 
     def connect(self, dsn: str = "", check: object = never, limit: float = 10.0) -> Connection:
-        with mock.patch.object(connection_module, "CONNECT_LIMIT", limit):
+        with mock.patch.object(addresses, "CONNECT_LIMIT", limit):
             connection = Connection(dsn or self.server.dsn(), check=check)  # type: ignore[arg-type]
         self.addCleanup(connection.close)
         return connection
@@ -123,12 +117,10 @@ class Queries(Case):
 class Connects(Case):
     def test_a_server_that_doesnt_answer(self) -> None:
         self.server.lets_in = False
-        with mock.patch.object(connection_module, "CONNECT_LIMIT", 2.0), self.assertRaises(Stopped):
+        with mock.patch.object(addresses, "CONNECT_LIMIT", 2.0), self.assertRaises(Stopped):
             self.connect(check=StopsLater(3))
-        connection = Connection.__new__(Connection)
-        connection.check, connection.limit = never, 0.1
         with self.assertRaisesRegex(ServerError, "no answer within"):
-            connection.connect_to(parameters(self.server.dsn()))
+            login.connect_to(parameters(self.server.dsn()), 0.1, never)
 
     def test_refused(self) -> None:
         for port, sqlstate, lasts in (
@@ -155,7 +147,7 @@ class Connects(Case):
 
         def at(*ports: int) -> object:
             return mock.patch.object(
-                connection_module,
+                login,
                 "addresses_of",
                 lambda *_: [{**settings, "port": str(it)} for it in ports],
             )
@@ -196,7 +188,7 @@ class Connects(Case):
         raw = mock.Mock(pgconn_ptr=77)
         for kind, calls in (("python", 1), ("c", 1), ("binary", 0)):
             with mock.patch.object(pq, "__impl__", kind), mock.patch("ctypes.CDLL") as library:
-                connection_module.set_verbosity(raw, 2)
+                libpq.set_verbosity(raw, 2)
             self.assertEqual(library.return_value.PQsetErrorVerbosity.call_count, calls, kind)
 
     def test_standbys_alone_are_waited_for(self) -> None:
@@ -271,7 +263,7 @@ class Connects(Case):
         with mock.patch("socket.getaddrinfo", side_effect=lambda *_, **__: [][: ended.wait(20)]):
             with self.assertRaises(Stopped):
                 addresses_of(settings, StopsLater(3))
-            with mock.patch.object(connection_module, "CONNECT_LIMIT", 0.1), self.assertRaisesRegex(
+            with mock.patch.object(addresses, "CONNECT_LIMIT", 0.1), self.assertRaisesRegex(
                 ServerError, "no answer within"
             ):
                 addresses_of(settings, never)
@@ -347,9 +339,9 @@ class Copies(Case):
             server.to_send = list(sent)
             lots, more, until = list[list[bytes]](), True, time.monotonic() + 20
             with mock.patch.object(
-                connection_module,
+                wire,
                 "GET_COPY_DATA",
-                connection_module.GET_COPY_DATA if quick else None,
+                wire.GET_COPY_DATA if quick else None,
             ):
                 connection = self.connect(server.dsn())
                 connection.run("START_REPLICATION", COPY_BOTH, 5.0)
@@ -375,9 +367,9 @@ class Copies(Case):
         )
         for quick in (True, False):
             with mock.patch.object(small_server, "COPY_BOTH", body), mock.patch.object(
-                connection_module,
+                wire,
                 "GET_COPY_DATA",
-                connection_module.GET_COPY_DATA if quick else None,
+                wire.GET_COPY_DATA if quick else None,
             ):
                 connection, found, until = self.connect(), list[bytes](), time.monotonic() + 20
                 connection.run("START_REPLICATION", COPY_BOTH, 5.0)
@@ -458,12 +450,12 @@ class Wrapped(unittest.TestCase):
         ):
             connection.raw = mock.Mock(ssl_in_use=tls, host=host, pgconn_ptr=77)
             call.return_value = gss
-            with mock.patch.object(connection_module, "GSS_IN_USE", None if gss is None else call):
+            with mock.patch.object(libpq, "GSS_IN_USE", None if gss is None else call):
                 self.assertIs(connection.is_wrapped(), wrapped, (tls, host, gss))
 
     def test_of_a_connection(self) -> None:
         """libpq has the call."""
-        self.assertTrue(LIBPQ is None or connection_module.GSS_IN_USE is not None)
+        self.assertTrue(LIBPQ is None or libpq.GSS_IN_USE is not None)
 
 
 if __name__ == "__main__":

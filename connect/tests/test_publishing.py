@@ -3,29 +3,20 @@ rejected."""
 
 from __future__ import annotations
 
+import dataclasses
 import re
 import unittest
 from unittest import mock
 
 from pgsub_connect.errors import ServerError
 from pgsub_connect.server import publication_setup
-from pgsub_connect.server.publication_setup import (
-    Maker,
-    Wanted,
-    identity,
-    names_of,
-    publishable_tables,
-)
-from pgsub_connect.server.publications import (
-    Column,
-    Leaves,
-    Table,
-    published_tables,
-    put_columns,
-    united,
-    with_cure,
-)
+from pgsub_connect.server.catalog import Leaves, Part, Table
+from pgsub_connect.server.catalog_reader import read_parts
+from pgsub_connect.server.publication_setup import Maker, Wanted, names_of
+from pgsub_connect.server.publications import published_tables, united, with_cure
+from pgsub_connect.server.replica_identity import identity, publishable_tables
 from pgsub_feed.errors import Stopped
+from pgsub_feed.relation import Column, Shape
 
 from .fake_server import FakeServer, Quiet, Row, connection_to
 
@@ -36,18 +27,12 @@ def table(
     oid: int = 16385,
     row_filter: str | None = None,
     kind: str = "r",
-    columns: list[Column] | None = None,
+    columns: tuple[Column, ...] = (KEY, OTHER),
+    publication: str = "pgsub",
+    leaves: Leaves | None = None,
 ) -> Table:
-    return Table(
-        oid,
-        "public",
-        'st"k',
-        kind,
-        "d",
-        row_filter,
-        None,
-        [KEY, OTHER] if columns is None else columns,
-    )
+    parts = {publication: Part(row_filter, None, False)}
+    return Table(oid, "public", 'st"k', kind, Shape("d", columns), parts, leaves=leaves)
 
 
 class Query(unittest.TestCase):
@@ -67,7 +52,7 @@ class Query(unittest.TestCase):
 
     def test_no_columns(self) -> None:
         self.assertEqual(
-            table(columns=[]).query(), 'COPY (SELECT  FROM ONLY "public"."st""k") TO STDOUT'
+            table(columns=()).query(), 'COPY (SELECT  FROM ONLY "public"."st""k") TO STDOUT'
         )
 
 
@@ -88,23 +73,23 @@ class Unlogged(unittest.TestCase):
     """Rows of partitions whose changes are in no log aren't read."""
 
     def test_unlogged_ones_are_left_out(self) -> None:
-        some = table(kind="p", row_filter="a OR b")
-        some.leaves = Leaves(['"public"."p1"'], [7, 8], [])
+        leaves = Leaves(['"public"."p1"'], [7, 8], [])
+        some = table(kind="p", row_filter="a OR b", leaves=leaves)
         self.assertEqual(
             some.source(), 'FROM "public"."st""k" WHERE (a OR b) AND tableoid NOT IN (7, 8)'
         )
-        some.row_filter = None
+        some = table(kind="p", leaves=leaves)
         self.assertEqual(some.source(), 'FROM "public"."st""k" WHERE tableoid NOT IN (7, 8)')
 
     def test_foreign_ones_are_not_touched(self) -> None:
-        some = table(kind="p", row_filter="(id > 3)")
-        some.leaves = Leaves(['"public"."p1"', '"x"."p2"'], [7], [9])
+        leaves = Leaves(['"public"."p1"', '"x"."p2"'], [7], [9])
+        some = table(kind="p", row_filter="(id > 3)", leaves=leaves)
         each = (
             'SELECT "id", "Q""x" FROM ONLY "public"."p1" WHERE (id > 3)',
             'SELECT "id", "Q""x" FROM ONLY "x"."p2" WHERE (id > 3)',
         )
         self.assertEqual(some.source(), f"FROM ({' UNION ALL '.join(each)}) AS logged")
-        some.leaves = Leaves([], [], [9])
+        some = dataclasses.replace(some, leaves=Leaves([], [], [9]))
         self.assertEqual(
             some.source(),
             'FROM (SELECT "id", "Q""x" FROM ONLY "public"."st""k" WHERE (id > 3)) AS logged',
@@ -141,29 +126,38 @@ class United(unittest.TestCase):
     def test_filters_are_joined_by_or(self) -> None:
         tables = [
             table(row_filter="(id > 3)"),
-            table(row_filter="(id < 0)"),
-            table(row_filter="(id > 3)"),
+            table(row_filter="(id < 0)", publication="b"),
+            table(row_filter="(id > 3)", publication="c"),
         ]
         self.assertEqual(united(tables).row_filter, "((id > 3)) OR ((id < 0))")
 
     def test_one_filter_stays_as_it_is(self) -> None:
-        self.assertEqual(united([table(row_filter="(id > 3)")] * 2).row_filter, "(id > 3)")
+        tables = [table(row_filter="(id > 3)", publication=it) for it in "ab"]
+        self.assertEqual(united(tables).row_filter, "(id > 3)")
 
     def test_no_filter_wins(self) -> None:
-        self.assertIsNone(united([table(row_filter="(id > 3)"), table()]).row_filter)
+        tables = [table(row_filter="(id > 3)"), table(publication="b")]
+        self.assertIsNone(united(tables).row_filter)
 
     def test_other_columns_are_rejected(self) -> None:
         with self.assertRaisesRegex(
             ServerError, "different column lists for table public.st"
         ) as raised:
-            united([table(), table(columns=[KEY])])
+            united([table(), table(columns=(KEY,))])
         self.assertTrue(raised.exception.is_lasting())
 
 
 def row(
-    oid: int, name: str, kind: str = "r", row_filter: str | None = None, listed: str | None = None
+    oid: int,
+    name: str,
+    kind: str = "r",
+    row_filter: str | None = None,
+    listed: str | None = None,
+    publication: str = "a",
 ) -> list[str | None]:
-    return [str(oid), "public", name, kind, "d", row_filter, listed]
+    """A row of what is published. (The server lists what is sent, and what was asked for.)"""
+    named = [publication, str(oid), "public", name, kind, "d"]
+    return [*named, row_filter, None, listed, "f", "t", "t", "1", "7", "t", "0"]
 
 
 ATTRIBUTES = (
@@ -195,25 +189,26 @@ class Published(unittest.TestCase):
         self.server = FakeServer()
         self.server.answer("FROM pg_catalog.pg_attribute", attributes)
 
+    def publish(self, *rows: Row) -> None:
+        self.server.answer("pg_get_publication_tables", list(rows))
+
     def test_union_by_oid(self) -> None:
-        self.server.answer("('a')", [row(9, "x"), row(5, "y")])
-        self.server.answer("('b')", [row(5, "y", row_filter="(v)"), row(7, "z")])
+        of_b = [row(5, "y", row_filter="(v)", publication="b"), row(7, "z", publication="b")]
+        self.publish(row(9, "x"), row(5, "y"), *of_b)
         found = published_tables(connection_to(self.server), ["a", "b"])
         self.assertEqual(
             [(it.oid, it.row_filter) for it in found], [(5, None), (7, None), (9, None)]
         )
 
     def test_partitions_that_are_sent_as_their_root(self) -> None:
-        self.server.answer("('a')", [row(5, "p1")])
-        self.server.answer("('b')", [row(4, "p", kind="p")])
+        self.publish(row(5, "p1"), row(4, "p", kind="p", publication="b"))
         self.server.answer("pg_partition_ancestors", [["5", "4"], ["5", "3"]])
         self.assertEqual(
             [it.oid for it in published_tables(connection_to(self.server), ["a", "b"])], [4]
         )
 
     def test_a_list_of_all_columns_is_none(self) -> None:
-        self.server.answer("('a')", [row(5, "t")])
-        self.server.answer("('b')", [row(5, "t", listed="1,2,4")])
+        self.publish(row(5, "t"), row(5, "t", listed="1,2,4", publication="b"))
         self.assertEqual(
             len(published_tables(connection_to(self.server), ["a", "b"])[0].columns), 3
         )
@@ -221,39 +216,38 @@ class Published(unittest.TestCase):
     def test_lists_before_15(self) -> None:
         server = FakeServer(130010)
         published_tables(connection_to(server), ["a"])
-        self.assertNotIn("p.attrs", server.commands[0])
-        self.assertNotIn("p.qual", server.commands[0])
+        self.assertNotIn("g.attrs", server.commands[0])
+        self.assertNotIn("g.qual", server.commands[0])
 
-    def columns(self, version: int, listed: list[int] | None) -> tuple[list[str], str]:
+    def columns(self, version: int, listed: str | None) -> tuple[list[str], str]:
         server = FakeServer(version)
         server.answer("FROM pg_catalog.pg_attribute", attributes)
-        tables = [
-            Table(5, "public", "t", "r", "d", None, listed),
-            Table(6, "public", "u", "r", "d", None, [2]),
-        ]
-        put_columns(connection_to(server), tables)
+        server.answer(
+            "pg_get_publication_tables", [row(5, "t", listed=listed), row(6, "u", listed="2")]
+        )
+        tables = read_parts(connection_to(server), ["a"])
         self.assertEqual([it.name for it in tables[1].columns], ["v"])
-        self.assertEqual(len(server.commands), 1)
+        self.assertEqual(len(server.commands), 2)
         return [it.name for it in tables[0].columns], server.commands[-1]
 
     def test_generated_columns(self) -> None:
         """From 18 on what the server says is exact."""
         for version, listed, wanted in (
             (150018, None, ["id", "v", "w"]),
-            (150018, [1, 3], ["id"]),
-            (180006, [1, 3], ["id", "g"]),
+            (150018, "1,3", ["id"]),
+            (180006, "1,3", ["id", "g"]),
             (180006, None, ["id", "v", "w"]),
         ):
             self.assertEqual(self.columns(version, listed)[0], wanted, (version, listed))
         self.assertNotIn("attgenerated", self.columns(110000, None)[1])
 
     def test_one_query_reads_the_columns_of_all(self) -> None:
-        self.server.answer("('a')", [row(9, "x"), row(5, "y"), row(7, "z")])
+        self.publish(row(9, "x"), row(5, "y"), row(7, "z"))
         self.assertEqual(
             [len(it.columns) for it in published_tables(connection_to(self.server), ["a"])],
             [3, 3, 3],
         )
-        self.assertEqual(len(self.server.told("pg_attribute")), 1)
+        self.assertEqual(len(self.server.told("WHERE a.attrelid IN")), 1)
 
     def test_tables_that_may_be_listed(self) -> None:
         for version, roots in ((150018, True), (120000, False)):

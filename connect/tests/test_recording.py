@@ -6,17 +6,20 @@ import itertools
 import os
 import time
 import unittest
+from typing import Any
 from unittest import mock
 
-from pgsub_connect import cli
-from pgsub_connect.commands.options import Options
-from pgsub_connect.commands.record import Recorder, Recording
+from pgsub_connect.commands import record
+from pgsub_connect.record.recorder import Recorder, RecordSettings
+from pgsub_connect.record.recording import Recording
 from pgsub_connect.server import transport
 from pgsub_connect.server.connection import Connection
+from pgsub_connect.server.subscription import Subscription
 from pgsub_connect.stream.frames import COPY_DONE, flushed
 from pgsub_feed.errors import FileError, UsageError
 
 from .fake_server import FakeServer, Quiet
+from .settled import options_of
 from .small_server import SmallServer
 from .test_passing import framed
 from .vectors import begin, commit, insert, keepalive
@@ -101,10 +104,13 @@ class Case(Quiet):
         server.to_send, server.version = list(payloads), version
         return server
 
-    def record(self, *, append: bool = False, size: int = 1 << 20, **options: object) -> Recorder:
+    def record(self, *, append: bool = False, size: int = 1 << 20, **options: Any) -> Recorder:
         # (so that no fault makes it wait without end)
-        chosen = Options(dsn=self.server.dsn(), publication=["pgsub"], **{"seconds": 10.0, **options})  # type: ignore[arg-type]
-        recorder = Recorder(chosen, Recording(self.path, append, size))
+        subscription = Subscription(self.server.dsn(), publications=["pgsub"])
+        options.setdefault("seconds", 10.0)
+        recorder = Recorder(
+            subscription, RecordSettings(**options), Recording(self.path, append, size)
+        )
         try:
             recorder.connect()
             recorder.run()
@@ -204,16 +210,15 @@ class Versions(Case):
     def test_what_a_server_hasnt_got_is_told_before_anything_is_made(self) -> None:
         self.server.version = "13.9"
         for name in ("streaming", "binary", "messages"):
-            options = Options(
-                command="record", dsn=self.server.dsn(), publication=["pgsub"], create="permanent", record=self.path, **{name: True}  # type: ignore[arg-type]
-            )
-            with mock.patch.object(cli, "create_slot") as made, mock.patch.object(
-                cli, "stop_by_signals"
+            words = ["record", "--dsn", self.server.dsn(), "--create", "--record", self.path]
+            options = options_of([*words, f"--{name}"])
+            with mock.patch.object(record, "create_slot") as made, mock.patch.object(
+                record, "stop_by_signals"
             ):
                 with self.assertRaisesRegex(
                     UsageError, f"--{name} needs PostgreSQL 14, and this is 13.9"
                 ):
-                    cli.record(options)
+                    record.record(options)
             made.assert_not_called()
         self.assertEqual(self.brain.told("START_REPLICATION"), [])
 

@@ -16,9 +16,7 @@ from unittest import mock
 
 from pgsub_connect.commands import add
 from pgsub_connect.commands import refresh as refresh_module
-from pgsub_connect.commands.options import Options
 from pgsub_connect.commands.refresh import CHANGED, EXTRA, MISSING, OTHER, Told, compared
-from pgsub_connect.commands.words import arguments
 from pgsub_connect.drift.findings import NOTHING, About
 from pgsub_connect.drift.remembered import Remembered
 from pgsub_connect.errors import ServerError
@@ -29,6 +27,7 @@ from pgsub_feed.errors import FileError, Passing, Stopped, Unfit
 from pgsub_feed.interruption import Check, never
 
 from .fake_server import FakeServer, Quiet
+from .settled import options_of
 from .small_world import table
 from .vectors import ID, NAME, PGSUB, a_catalog, a_shape, a_table
 
@@ -152,8 +151,11 @@ class Case(Quiet):
             patch.start()
             self.addCleanup(patch.stop)
 
-    def options(self, *names: str, yes: bool = True) -> Options:
-        return Options(store=self.store, publication=["pgsub"], table=list(names), yes=yes)
+    def options(self, *names: str) -> add.Options:
+        return add.Options(store=self.store, publication=["pgsub"], table=names)
+
+    def refreshed(self, yes: bool = True) -> refresh_module.Options:
+        return refresh_module.Options(store=self.store, publication=["pgsub"], yes=yes)
 
     def refresh(
         self, status: int, yes: bool = True, answer: bool = False, check: Check = never
@@ -161,7 +163,7 @@ class Case(Quiet):
         with contextlib.redirect_stdout(io.StringIO()) as out, mock.patch.object(
             refresh_module, "ask_terminal", lambda *_: answer
         ):
-            self.assertEqual(refresh_module.run(self.options(yes=yes), check), status)
+            self.assertEqual(refresh_module.refresh(self.refreshed(yes), check), status)
         return [json.loads(it) for it in out.getvalue().splitlines()]
 
     def wanted(self) -> dict[int, str]:
@@ -202,7 +204,7 @@ class Case(Quiet):
 class Adds(Case):
     def test_by_the_follower(self) -> None:
         with self.followed() as asked:
-            self.assertEqual(add.run(self.options("one", "public.two", "one"), never), 0)
+            self.assertEqual(add.add_tables(self.options("one", "public.two", "one"), never), 0)
         self.assertEqual((asked, self.wanted()), ([[1, 2]], {}))
         self.assertEqual(
             sorted(os.listdir(os.path.dirname(self.store))),
@@ -210,24 +212,24 @@ class Adds(Case):
         )
 
     def test_by_the_next_start(self) -> None:
-        self.assertEqual(add.run(self.options("two"), never), 0)
+        self.assertEqual(add.add_tables(self.options("two"), never), 0)
         self.assertEqual(self.wanted(), {2: ""})
         self.assertIn("the next start adds public.two", self.said[-1])
 
     def test_refused(self) -> None:
         with self.followed(why="public.one can't be read"):
-            self.assertEqual(add.run(self.options("one"), never), 1)
+            self.assertEqual(add.add_tables(self.options("one"), never), 1)
         self.assertIn("error: public.one can't be read", self.said)
         with self.followed("it is too large"), self.assertRaisesRegex(
             ServerError, "adds none: it is too large"
         ) as raised:
-            add.run(self.options("one"), never)
+            add.add_tables(self.options("one"), never)
         self.assertTrue(raised.exception.is_lasting())
         self.assertFalse(os.path.exists(self.store + ".request"))
 
     def test_a_table_that_is_not_published(self) -> None:
         with self.assertRaisesRegex(Unfit, "no published table four"):
-            add.run(self.options("four"), never)
+            add.add_tables(self.options("four"), never)
 
     def test_an_end_while_it_waits(self) -> None:
         """The follower goes on with it, or the next start does."""
@@ -241,22 +243,20 @@ class Adds(Case):
             is_taken = bool(self.wanted()) and not os.path.exists(self.store + ".request")
 
         with self.followed(why=None):
-            self.assertEqual(add.run(self.options("one"), check), 0)
+            self.assertEqual(add.add_tables(self.options("one"), check), 0)
         self.assertIn("goes on with it", self.said[-1])
         self.assertEqual(self.wanted(), {1: ""})
         with self.assertRaisesRegex(Passing, "the next start adds public.one"):
-            add.wait(self.options(), {1: "public.one"}, never)
+            add.wait(self.store, {1: "public.one"}, never)
 
     def test_words(self) -> None:
-        options = arguments("add --store s --table one --table two".split())
-        self.assertEqual((options.command, options.table), ("add", ["one", "two"]))
-        options = arguments("refresh --store s --yes --publication p".split())
-        self.assertEqual(
-            (options.command, options.yes, options.publication), ("refresh", True, ["p"])
-        )
+        options = options_of("add --store s --table one --table two".split())
+        self.assertEqual(options.table, ("one", "two"))
+        options = options_of("refresh --store s --yes --publication p".split())
+        self.assertEqual((options.yes, options.publication), (True, ("p",)))
         for words in ("add --store s", "add --table t", "refresh", "refresh --store s --table t"):
             with contextlib.redirect_stderr(io.StringIO()), self.assertRaises(SystemExit):
-                arguments(words.split())
+                options_of(words.split())
 
 
 class Mended(Case):
@@ -275,7 +275,7 @@ class Mended(Case):
             self.assertEqual(remembered.added(oid, remembered.found_of(oid)), kinds)
             self.assertEqual([it.oid for it in compared(remembered, now)], left)
             remembered.restore(remembered.written())
-        self.assertEqual((remembered.found, remembered.mended), ({}, {}))
+        self.assertEqual((remembered.found, remembered.found.mended), ({}, {}))
 
     def test_what_is_found_again_is_to_be_mended_again(self) -> None:
         remembered = self.remembered
@@ -374,7 +374,7 @@ class Refreshes(Case):
         with contextlib.redirect_stdout(io.StringIO()), mock.patch(
             "sys.stdin.isatty", lambda: False
         ), self.assertRaisesRegex(Unfit, "refresh asks on"):
-            refresh_module.run(self.options(yes=False), never)
+            refresh_module.refresh(self.refreshed(False), never)
 
 
 if __name__ == "__main__":

@@ -5,11 +5,11 @@ from __future__ import annotations
 import unittest
 
 from pgsub_connect.add import adder
-from pgsub_connect.commands.drop import read_known
 from pgsub_connect.drift.findings import About
 from pgsub_connect.drift.remembered import Remembered
 from pgsub_connect.errors import NoSlot, ServerError, Unconnected
 from pgsub_connect.store.checkpoint import Checkpoint
+from pgsub_connect.store.checkpoint_at_rest import read_known
 from pgsub_feed.errors import Passing, Unfit
 
 from .adding_case import OTHER, THIRD, Case, Run, T

@@ -6,6 +6,7 @@ import contextlib
 import dataclasses
 import io
 import json
+import operator
 import os
 import stat
 import tempfile
@@ -92,8 +93,10 @@ class File(Case):
         self.remembered.note_made({"pgsub": 900})
         before = self.remembered
         after = self.again()
-        for field in ("catalog", "made", "sent", "names", "held", "found", "told", "left"):
-            self.assertEqual(getattr(after, field), getattr(before, field), field)
+        fields = ("catalog", "made", "sent", "names", "names.held", "found", "found.told", "left")
+        for field in fields:
+            value = operator.attrgetter(field)
+            self.assertEqual(value(after), value(before), field)
         kept = after.catalog and after.catalog.publications["pgsub"]
         self.assertEqual(kept and (kept.owner, kept.since), (10, "742"))
         self.assertEqual(after.publications(), ["pgsub", "other"])
@@ -348,7 +351,9 @@ class Looks(Case):
             (again.left, list(again.sent), again.wanted, again.unwanted, again.found),
             (set(), [1], {}, set(), {}),
         )
-        self.assertEqual((self.names(), again.held), ({"public.t": (1, [])}, {1: ("public", "t")}))
+        self.assertEqual(
+            (self.names(), again.names.held), ({"public.t": (1, [])}, {1: ("public", "t")})
+        )
         # (one whose rows stay is told)
         for oid in (30, 31):
             self.note(oid, "staging", 1000 * oid)
@@ -489,9 +494,9 @@ class LooksAndMessages(Case):
         self.remembered.begin_copy(a_catalog(T), 100)
         self.remembered.look(a_catalog(T, U, lsn=300))
         self.remembered.forget_told(299)
-        self.assertEqual(len(self.remembered.told), 1)
+        self.assertEqual(len(self.remembered.found.told), 1)
         self.remembered.forget_told(300)
-        self.assertEqual(self.remembered.told, {})
+        self.assertEqual(self.remembered.found.told, {})
 
 
 class Names(Case):

@@ -15,13 +15,14 @@ from unittest import mock
 from pgsub_connect.copy.messages import relation as relation_body
 from pgsub_connect.drift.findings import About
 from pgsub_connect.drift.remembered import Remembered
-from pgsub_connect.drift.watch import Watch
 from pgsub_connect.errors import Unrepaired
+from pgsub_connect.follow.drift_watch import Watch
 from pgsub_connect.follow.repair import Repairing, Unusable, messages_in
-from pgsub_connect.server.publications import Table
+from pgsub_connect.server.catalog import Table
 from pgsub_connect.store import snapshot
 from pgsub_connect.store.snapshot import Snapshots
 from pgsub_connect.stream.hold import Hold
+from pgsub_connect.stream.memory_limit import BufferLimits
 from pgsub_connect.verify.digests import Plan
 from pgsub_connect.verify.meeting_point import Request
 from pgsub_connect.verify.repair_rows import Changes, changes_of
@@ -328,16 +329,16 @@ class Repaired(Repairs):
     def test_what_may_be_buffered(self) -> None:
         """Following goes on in the same session where nothing was passed on."""
         run = self.running(proto=1)
-        run.follower.options.max_buffered = 50
+        run.follower.requests.repairing.limits = BufferLimits(50, 1 << 24)
         with self.assertRaisesRegex(Unrepaired, "50 may be buffered"):
             self.repair()
         self.change()
         self.assertTrue(run.until(lambda: self.is_stored(run)), (self.said, run.raised))
         self.assertEqual(run.progress.server.sessions, 1)
-        run.follower.options.max_buffered, run.follower.options.max_frame = 1 << 20, 30
+        run.follower.requests.repairing.limits = BufferLimits(1 << 20, 30)
         with self.assertRaisesRegex(Unrepaired, "--max-frame"):
             self.repair()
-        run.follower.options.max_frame = 1 << 20
+        run.follower.requests.repairing.limits = BufferLimits(1 << 20, 1 << 20)
         self.repair()
         self.ends(run)
 

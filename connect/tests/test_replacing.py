@@ -11,9 +11,10 @@ from collections.abc import Iterator
 from pgsub_connect.add.replacement import Leaving, Rows, payload_of
 from pgsub_connect.copy.messages import NULL
 from pgsub_connect.errors import ServerError
-from pgsub_connect.server.publications import Column, Table
+from pgsub_connect.server.catalog import Table
 from pgsub_connect.stream.messages import final_lsn
 from pgsub_feed.reader.commits import XID
+from pgsub_feed.relation import Column, Shape
 
 from .row_filter import Fault, Store, Subscriber, number, read_tuple, spelled
 from .vectors import (
@@ -191,10 +192,7 @@ STOCK = Table(
     "public",
     "stock",
     "r",
-    "d",
-    None,
-    None,
-    [Column("id", 23, -1, True, 1), Column("note", 25, -1, False, 2)],
+    Shape("d", (Column("id", 23, -1, True, 1), Column("note", 25, -1, False, 2))),
 )
 
 
@@ -375,7 +373,7 @@ class Recorded(unittest.TestCase):
                 for (key, name), (kind, more) in zip(relation.columns, numbers)
             ]
             table = Table(
-                oid, relation.namespace, relation.name, "r", relation.letter, None, None, columns
+                oid, relation.namespace, relation.name, "r", Shape(relation.letter, tuple(columns))
             )
             lines = [
                 line_of(it)

@@ -8,13 +8,13 @@ import re
 import unittest
 from unittest import mock
 
-from pgsub_connect.commands.options import Options
 from pgsub_connect.errors import ServerError
 from pgsub_connect.follow import server_watch
 from pgsub_connect.follow.server_watch import Asker, SlotWarning
 from pgsub_connect.server import session
+from pgsub_connect.server.subscription import Subscription
 from pgsub_connect.status import files
-from pgsub_connect.status.files import Replaced, Reporter, program_version
+from pgsub_connect.status.files import Replaced, Reporter, ReportSettings, program_version
 from pgsub_connect.status.findings import Counted
 from pgsub_connect.status.metrics import metrics_text
 from pgsub_connect.status.progress import STATES, Progress
@@ -85,7 +85,7 @@ class Files(Quiet):
     def test_reporter(self) -> None:
         progress = Progress()
         reporter = Reporter(
-            Options(
+            ReportSettings(
                 store="copy.db", status_file=self.path, metrics_file=self.path + ".prom", mode=0o640
             ),
             progress,
@@ -104,7 +104,7 @@ class Files(Quiet):
         """Prometheus reads nothing else, and whoever reads the status file sees it replaced each
         second."""
         reporter = Reporter(
-            Options(
+            ReportSettings(
                 store=os.fsdecode(b"copy\xff.db"),
                 status_file=self.path,
                 metrics_file=self.path + ".prom",
@@ -119,7 +119,7 @@ class Files(Quiet):
     def test_the_heartbeat_is_that_of_the_main_loop(self) -> None:
         progress = Progress()
         progress.heartbeat = 1e9
-        Reporter(Options(store="copy.db", status_file=self.path), progress).write()
+        Reporter(ReportSettings(store="copy.db", status_file=self.path), progress).write()
         with open(self.path, encoding="utf-8") as file:
             shown = json.load(file)
         self.assertEqual(shown["heartbeat"], "2001-09-09T01:46:40Z")
@@ -245,7 +245,7 @@ class Asks(Quiet):
         self.server.answer("pg_replication_slots", lambda _: [[self.standby, *self.row]])
         self.progress = Progress()
         self.progress.server.sessions = 1
-        self.asker = Asker(Options(status_file="x"), self.progress)
+        self.asker = Asker(Subscription(), True, self.progress)
 
     def test_end_and_slot(self) -> None:
         self.asker.ask()
@@ -301,7 +301,7 @@ class Asks(Quiet):
 
     def test_the_thread_ends(self) -> None:
         with mock.patch.object(server_watch, "SHOWN", 0.001):
-            asker = Asker(Options(status_file="x"), self.progress)
+            asker = Asker(Subscription(), True, self.progress)
         asker.start()
         while not self.progress.stream.lag.end:
             pass

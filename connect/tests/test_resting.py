@@ -16,14 +16,15 @@ import threading
 import time
 import unittest
 from collections.abc import Iterator
+from typing import Any
 from unittest import mock
 
 from pgsub_connect.cli import main
 from pgsub_connect.commands import snapshot
-from pgsub_connect.commands.options import Options
 from pgsub_connect.store import at_rest as at_rest_module
 from pgsub_connect.store import export
 from pgsub_connect.store.at_rest import at_rest
+from pgsub_connect.store.export import ExportSettings
 from pgsub_connect.store.snapshot import Snapshots
 from pgsub_feed.errors import FILE, PASSING, USAGE, FileError, Passing, Stopped
 from pgsub_feed.files import own_name
@@ -46,8 +47,12 @@ class Case(StoreCase):
         self.made = {"copy.db", "copy.db.connector"}
         self.ended = threading.Event()
 
-    def options(self) -> Options:
-        return Options(command="export", store=self.path, into=self.into)
+    def options(self, mode: int = 0o600) -> snapshot.Options:
+        return snapshot.Options(self.path, self.into, mode)
+
+    def settings(self, **more: Any) -> ExportSettings:
+        chosen: dict[str, Any] = {"store": self.path, "into": self.into, **more}
+        return ExportSettings(**chosen)
 
     def left(self) -> set[str]:
         return set(os.listdir(self.folder)) - self.made
@@ -112,14 +117,13 @@ class Held(Case):
                 self.folder + "/killed.db" + suffix, "wb"
             ) as new:
                 new.write(old.read())
-        options = self.options()
-        options.store = self.folder + "/killed.db"
-        before = {suffix: os.stat(options.store + suffix).st_size for suffix in ("", "-wal")}
+        settings = self.settings(store=self.folder + "/killed.db")
+        before = {suffix: os.stat(settings.store + suffix).st_size for suffix in ("", "-wal")}
         with logged():
-            export.run(options, never)
+            export.export_store(settings, never)
         self.assertEqual(self.rows(), [(1, "x"), (2, "y")])
         self.assertEqual(
-            {suffix: os.stat(options.store + suffix).st_size for suffix in ("", "-wal")}, before
+            {suffix: os.stat(settings.store + suffix).st_size for suffix in ("", "-wal")}, before
         )
         self.assertEqual(
             self.left() - {"copy.db-wal", "copy.db-shm"}, {"killed.db", "killed.db-wal", "rows.db"}
@@ -133,13 +137,12 @@ class Held(Case):
         os.mkdir(self.folder + "/far")
         for suffix in ("", "-wal"):
             shutil.copyfile(self.path + suffix, self.folder + "/far/killed.db" + suffix)
-        options = self.options()
-        options.store = self.folder + "/link.db"
-        os.symlink("far/killed.db", options.store)
+        settings = self.settings(store=self.folder + "/link.db")
+        os.symlink("far/killed.db", settings.store)
         with logged():
-            export.run(options, never)
+            export.export_store(settings, never)
             self.assertEqual(self.rows(), [(1, "x"), (2, "y")])
-            snapshots = Snapshots(options.store, self.folder + "/snapshot.db", 0.0)
+            snapshots = Snapshots(settings.store, self.folder + "/snapshot.db", 0.0)
             snapshots.take(0x130, never)
             snapshots.wait()
         with contextlib.closing(sqlite3.connect(self.folder + "/snapshot.db")) as base:
@@ -201,7 +204,7 @@ class Held(Case):
 class Asked(Case):
     def test_export(self) -> None:
         with self.followed(), logged() as told:
-            self.assertEqual(export.run(self.options(), never), 0)
+            export.export_store(self.settings(), never)
         self.assertEqual(self.rows(), [(1, "x")])
         self.assertEqual(self.left(), {"rows.db"})
         self.assertIn("its follower is asked for a copy", told[0])
@@ -209,7 +212,7 @@ class Asked(Case):
     def test_snapshot(self) -> None:
         with self.followed(), logged():
             for _ in range(2):
-                self.assertEqual(snapshot.run(self.options(), never), 0)
+                snapshot.copy_store(self.options(), never)
         self.assertEqual(self.left(), {"rows.db"})
         self.assertTrue(snapshot.is_snapshot(self.into))
 
@@ -218,21 +221,21 @@ class Asked(Case):
         with open(self.path + ".request", "w") as file:
             json.dump({"into": self.folder + "/other.db"}, file)
         with self.followed(), logged():
-            self.assertEqual(export.run(self.options(), never), 0)
+            export.export_store(self.settings(), never)
         self.assertEqual(self.left(), {"rows.db", "other.db"})
 
     def test_a_request_that_was_answered_by_an_error(self) -> None:
         with open(self.path + ".request", "w") as file:
             json.dump({"into": self.folder + "/other.db", "error": "No space left on device"}, file)
         with self.followed(), logged():
-            self.assertEqual(export.run(self.options(), never), 0)
+            export.export_store(self.settings(), never)
         self.assertEqual(self.left(), {"rows.db"})
 
     def test_a_follower_that_cant(self) -> None:
         with self.followed(0x200), logged(), self.assertRaisesRegex(
             Passing, "follower couldn't copy it: the copy isn't at 0/200"
         ):
-            export.run(self.options(), never)
+            export.export_store(self.settings(), never)
         self.assertEqual(self.left(), set())
 
     def test_a_follower_that_ends(self) -> None:
@@ -245,24 +248,24 @@ class Asked(Case):
                 if next(calls) == 3:
                     stack.close()
 
-            self.assertEqual(export.run(self.options(), check), 0)
+            export.export_store(self.settings(), check)
         self.assertEqual(self.rows(), [(1, "x")])
         self.assertEqual(self.left(), {"rows.db"})
 
     def test_a_follower_that_doesnt_answer(self) -> None:
         with self.locked(), mock.patch.object(at_rest_module, "PATIENCE", 0.05), logged():
             with self.assertRaisesRegex(Passing, "hasn't begun to copy it"):
-                export.run(self.options(), never)
+                export.export_store(self.settings(), never)
             self.assertEqual(self.left(), set())
             with open(self.path + ".request", "w") as file:
                 json.dump({"into": self.folder + "/other.db"}, file)
             with self.assertRaisesRegex(Passing, "another request waits"):
-                export.run(self.options(), never)
+                export.export_store(self.settings(), never)
         self.assertEqual(self.left(), {"copy.db.request"})
 
     def test_ended_by_a_signal(self) -> None:
         with self.locked(), logged(), self.assertRaises(Passing):
-            export.run(self.options(), mock.Mock(side_effect=[None, None, Stopped]))
+            export.export_store(self.settings(), mock.Mock(side_effect=[None, None, Stopped]))
         self.assertEqual(self.left(), set())
 
     def test_a_request_in_another_folder(self) -> None:
@@ -283,19 +286,17 @@ class Asked(Case):
     def test_a_folder_by_another_name(self) -> None:
         with tempfile.TemporaryDirectory() as room:
             os.symlink(self.folder, room + "/link")
-            options = self.options()
-            options.store = room + "/link/copy.db"
+            settings = self.settings(store=room + "/link/copy.db")
             with self.followed(), logged():
-                self.assertEqual(export.run(options, never), 0)
+                export.export_store(settings, never)
         self.assertEqual(self.left(), {"rows.db"})
 
 
 class Taken(Case):
     def test_without_a_follower(self) -> None:
-        options = self.options()
-        options.mode = 0o640
+        options = self.options(0o640)
         with logged() as told:
-            self.assertEqual(snapshot.run(options, never), 0)
+            snapshot.copy_store(options, never)
         self.assertEqual(told, [f"{self.into}: the rows at 0/130"])
         self.assertEqual(stat.S_IMODE(os.stat(self.into).st_mode), 0o640)
         self.assertTrue(os.path.exists(self.path))
@@ -305,22 +306,22 @@ class Taken(Case):
         self.store.base.execute("PRAGMA journal_mode = WAL")
         self.store.close()
         with logged():
-            snapshot.run(self.options(), never)
+            snapshot.copy_store(self.options(), never)
         with open(self.into, "rb") as file:
             self.assertEqual(file.read(20)[18:], b"\1\1")
 
     def test_what_isnt_an_earlier_copy(self) -> None:
         with logged():
-            snapshot.run(self.options(), never)
+            snapshot.copy_store(self.options(), never)
         for ending in ("-wal", ".connector"):
             open(self.into + ending, "w").close()
             with self.assertRaisesRegex(FileError, "is there and isn't an earlier copy"):
-                snapshot.run(self.options(), never)
+                snapshot.copy_store(self.options(), never)
             os.unlink(self.into + ending)
         with open(self.into, "w") as file:
             file.write("mine")
         with self.assertRaisesRegex(FileError, "is there and isn't an earlier copy"):
-            snapshot.run(self.options(), never)
+            snapshot.copy_store(self.options(), never)
 
     def test_what_a_follower_has_to_leave(self) -> None:
         """What isn't an earlier copy is refused as by `snapshot`, before anything is made."""
@@ -361,7 +362,7 @@ class Taken(Case):
         with self.followed(), logged(), mock.patch(
             "os.rename", side_effect=OSError(18, "Invalid cross-device link")
         ):
-            self.assertEqual(snapshot.run(self.options(), never), 0)
+            snapshot.copy_store(self.options(), never)
         self.assertEqual(self.left(), {"rows.db"})
 
     def left_after(self, path: str, names: list[str], age: float = 1e9) -> set[str]:
@@ -408,7 +409,7 @@ class Taken(Case):
         ]
         self.assertEqual(self.left_after(self.into, kept), set(kept))
         with logged():
-            self.assertEqual(export.run(self.options(), never), 0)
+            export.export_store(self.settings(), never)
         self.assertEqual(self.left(), {*kept, "rows.db"})
 
     def leave_journal(self, path: str) -> None:
@@ -436,7 +437,7 @@ class Taken(Case):
         os.unlink(self.into)
         self.leave_journal(self.into)
         with logged():
-            self.assertEqual(export.run(self.options(), never), 0)
+            export.export_store(self.settings(), never)
         self.assertEqual(self.rows(), [(1, "x")])
 
     def test_a_follower_s_copy_that_a_link_leads_to(self) -> None:

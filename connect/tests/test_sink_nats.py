@@ -12,8 +12,7 @@ from unittest import mock
 
 from feed_text import Line
 
-from pgsub_connect.commands.options import Options
-from pgsub_connect.store.export import run as export
+from pgsub_connect.store.export import ExportSettings, export_store
 from pgsub_feed.errors import EngineError, FileError, Passing, TooLarge, Unfit, UsageError
 from pgsub_feed.formats.keys import subject
 from pgsub_feed.interruption import never
@@ -244,7 +243,7 @@ class GoesOn(NatsCase):
         store.row(1, "1", "a")
         store.row(1, "2", None)
         path = str(self.folder / "export.db")
-        export(Options(command="export", store=store.path, into=path, text=True), never)
+        export_store(ExportSettings(store=store.path, into=path, is_text=True), never)
         return path
 
     def test_a_part_of_a_base_that_another_sink_publishes(self) -> None:

@@ -18,9 +18,9 @@ from feed_replay import Replay, replay
 from feed_text import About, Column, Line, Writer
 
 from pgsub_connect.commands import sink as sink_module
-from pgsub_connect.commands.options import Options
+from pgsub_connect.commands.sink import Options
 from pgsub_connect.follow.retention import Limits, retire
-from pgsub_connect.store.export import run as export
+from pgsub_connect.store.export import ExportSettings, export_store
 from pgsub_feed.errors import EngineError, FileError, Passing, Stopped, Unfit, UsageError
 from pgsub_feed.interruption import never
 from pgsub_feed.reader.commits import Commit
@@ -177,7 +177,7 @@ class Changes(RedisCase):
                 raise Stopped
 
         with logged():
-            sink_module.run(Options(command="sink", feed=str(self.path), url="redis://h"), check)
+            sink_module.write_feed(Options(feed=str(self.path), url="redis://h"), check)
         self.assertEqual(
             (self.server.rows(), self.server.at()), (stock(("1", "a"), ("4", "d")), "0/200")
         )
@@ -373,14 +373,14 @@ class Others(RedisCase):
             if next(times) == 300:
                 self.server.do([b"SET", b"pgsub:sink", b"other"])
 
-        options = Options(command="sink", feed=str(self.path), url="redis://h")
+        options = Options(feed=str(self.path), url="redis://h")
         with mock.patch(
             "pgsub_feed.sinks.redis_calls.Connection", lambda *_: calls.pop()
         ), mock.patch("time.sleep"):
             with mock.patch("pgsub_feed.sinks.redis_engine.OFTEN", 0.0), self.assertRaisesRegex(
                 Unfit, "another sink has begun .* other"
             ):
-                sink_module.run(options, check)
+                sink_module.write_feed(options, check)
 
     def test_rows_are_something_else_by_now(self) -> None:
         self.server.do([b"SET", b"stock:2", b"text"])
@@ -435,8 +435,8 @@ class Others(RedisCase):
                     raise Stopped
 
             with contextlib.suppress(Passing, Stopped), logged():
-                sink_module.run(
-                    Options(command="sink", feed=str(self.path), url="redis://h", once=True), check
+                sink_module.write_feed(
+                    Options(feed=str(self.path), url="redis://h", once=True), check
                 )
             found.append(states.index((self.server.rows(), self.server.at())))
         # (of commits that wait together all are left, or none)
@@ -459,7 +459,7 @@ class Begins(RedisCase):
 
     def export(self, text: bool = True) -> str:
         path = str(self.folder / "export.db")
-        export(Options(command="export", store=self.store.path, into=path, text=text), never)
+        export_store(ExportSettings(store=self.store.path, into=path, is_text=text), never)
         return path
 
     def test_needs_a_base(self) -> None:

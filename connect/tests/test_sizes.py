@@ -4,9 +4,8 @@ from __future__ import annotations
 
 import unittest
 
-from pgsub_connect.commands.options import Options
 from pgsub_connect.stream.filter_end import FRAME_TOO_LARGE, MEMORY, SPOOL_FULL, FilterEnded
-from pgsub_connect.stream.memory_limit import LONGEST_FRAME
+from pgsub_connect.stream.memory_limit import LONGEST_FRAME, BufferLimits
 from pgsub_connect.stream.too_large import LEAST, KilledTwice, Kills, text_of
 from pgsub_feed.errors import REJECTED
 
@@ -45,7 +44,7 @@ class Killed(unittest.TestCase):
 
 
 class Texts(unittest.TestCase):
-    OPTIONS = Options(max_buffered=1000, max_frame=500)
+    LIMITS = BufferLimits(max_buffered=1000, max_frame=500)
 
     def test_full(self) -> None:
         for transaction, parts in (
@@ -63,7 +62,7 @@ class Texts(unittest.TestCase):
         ):
             for part in parts:
                 self.assertIn(
-                    part, text_of(FilterEnded(SPOOL_FULL, ""), self.OPTIONS, transaction, 0)
+                    part, text_of(FilterEnded(SPOOL_FULL, ""), self.LIMITS, transaction, 0)
                 )
 
     def test_frame(self) -> None:
@@ -78,21 +77,21 @@ class Texts(unittest.TestCase):
             ),
         ):
             self.assertEqual(
-                text_of(FilterEnded(FRAME_TOO_LARGE, ""), self.OPTIONS, (0, 0), longest),
+                text_of(FilterEnded(FRAME_TOO_LARGE, ""), self.LIMITS, (0, 0), longest),
                 f"{wanted}, and memory for it",
             )
-        options = Options(max_buffered=1 << 40, max_frame=LONGEST_FRAME - 5)
-        text = text_of(FilterEnded(FRAME_TOO_LARGE, ""), options, (0, 0), LONGEST_FRAME - 6)
+        limits = BufferLimits(1 << 40, LONGEST_FRAME - 5)
+        text = text_of(FilterEnded(FRAME_TOO_LARGE, ""), limits, (0, 0), LONGEST_FRAME - 6)
         self.assertIn(f"give --max-frame {LONGEST_FRAME}, and", text)
-        options.max_frame = LONGEST_FRAME
+        limits = BufferLimits(1 << 40, LONGEST_FRAME)
         self.assertIn(
             "the most that can be",
-            text_of(FilterEnded(FRAME_TOO_LARGE, ""), options, (0, 0), LONGEST_FRAME),
+            text_of(FilterEnded(FRAME_TOO_LARGE, ""), limits, (0, 0), LONGEST_FRAME),
         )
 
     def test_others(self) -> None:
         for status in (1, 3, 12, 13, MEMORY, 15, -9):
-            self.assertEqual(text_of(FilterEnded(status, ""), self.OPTIONS, (7, 1200), 600), "")
+            self.assertEqual(text_of(FilterEnded(status, ""), self.LIMITS, (7, 1200), 600), "")
 
 
 class Follows(Case):
@@ -100,6 +99,9 @@ class Follows(Case):
         with logged() as lines:
             self.follower.life.note_end(FilterEnded(status, said))
         return lines
+
+    def limit(self, limits: BufferLimits) -> None:
+        self.follower.life.limits = limits
 
     def test_killed(self) -> None:
         """In a transaction that isn't complete, or isn't stored yet; what others did between
@@ -129,7 +131,7 @@ class Follows(Case):
 
     def test_full(self) -> None:
         self.take(Source([begin(0x100, 7), *[insert(1)] * 10]))
-        self.follower.options.max_buffered = 100
+        self.limit(BufferLimits(100))
         self.assertEqual(
             self.end(SPOOL_FULL),
             ["warning: open transactions were too much at a time: they come whole from now on"],
@@ -144,7 +146,7 @@ class Follows(Case):
     def test_frame(self) -> None:
         long = insert(1) + bytes(1 << 17)
         self.take(Source([begin(0x100, 7), long, insert(1)]))
-        self.follower.options.max_frame = 1 << 16
+        self.limit(BufferLimits(max_frame=1 << 16))
         with logged() as lines, self.assertRaises(FilterEnded):
             self.follower.life.note_end(FilterEnded(FRAME_TOO_LARGE, "pgsub: wire 3 TooLarge"))
         self.assertIn(

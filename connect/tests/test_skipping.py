@@ -9,8 +9,8 @@ from pgsub_connect.drift.remembered import Remembered
 from pgsub_connect.status.progress import Progress
 from pgsub_connect.store.checkpoint import Checkpoint
 from pgsub_connect.stream.skip import Skipping
-from tests import vectors
 
+from . import vectors
 from .vectors import (
     a_catalog,
     a_table,

@@ -3,6 +3,7 @@
 from __future__ import annotations
 
 import contextlib
+import dataclasses
 import io
 import json
 import sqlite3
@@ -14,16 +15,16 @@ from unittest import mock
 from pgsub_connect import cli
 from pgsub_connect.commands import add as add_module
 from pgsub_connect.commands import verify
-from pgsub_connect.commands.options import Options
-from pgsub_connect.commands.verify import Verifier
+from pgsub_connect.copy.source import Source
 from pgsub_connect.errors import NoSlot, Unrepaired
-from pgsub_connect.server.publications import Column, Table
+from pgsub_connect.server.catalog import Table
 from pgsub_connect.store.checkpoint_lines import FOLLOWING, Known
+from pgsub_connect.verify.comparison import Compared, Verifier, settled
 from pgsub_connect.verify.digests import NotText, Plan, Summing, fields_of
-from pgsub_connect.verify.meeting_point import Source
 from pgsub_connect.verify.sides import Copy, Sides
 from pgsub_feed.errors import FileError, Passing, Stopped, Unfit
 from pgsub_feed.interruption import never
+from pgsub_feed.relation import Column, Shape
 from pgsub_feed.tables.row_texts import text_of
 from pgsub_feed.tables.values import Malformed
 
@@ -36,20 +37,14 @@ KEYED = Table(
     "public",
     "keyed",
     "r",
-    "d",
-    None,
-    None,
-    [Column("id", 23, -1, True, 1), Column("name", 25, -1, False, 2)],
+    Shape("d", (Column("id", 23, -1, True, 1), Column("name", 25, -1, False, 2))),
 )
 WHOLE = Table(
     2,
     "public",
     "whole",
     "r",
-    "f",
-    None,
-    None,
-    [Column("a", 25, -1, True, 1), Column("b", 25, -1, True, 2)],
+    Shape("f", (Column("a", 25, -1, True, 1), Column("b", 25, -1, True, 2))),
 )
 Rows = list[Sequence[Cell]]
 ROWS: Rows = [[str(it), f"name {it}"] for it in range(600)]
@@ -97,7 +92,7 @@ class Case(StoreCase):
     def setUp(self) -> None:
         super().setUp()
         self.server = Publisher({1: list(ROWS), 2: list(EQUAL_ROWS)})
-        self.options = Options(command="verify", store=self.path)
+        self.options = verify.Options(store=self.path)
         self.store.table(1, "keyed", ((1, "id", 23, -1), (0, "name", 25, -1)))
         self.store.table(2, "whole", ((1, "a", 25, -1), (1, "b", 25, -1)), letter="f")
         self.keep({1: ROWS, 2: EQUAL_ROWS})
@@ -139,7 +134,7 @@ class Case(StoreCase):
                 mock.patch.multiple("pgsub_connect.verify.digests.Queries", sums=sums, texts=texts)
             )
             copy = stack.enter_context(contextlib.closing(Copy(self.path, self.path, 0x130, never)))
-            self.is_equal = Verifier(self.options, Sides(cast(Source, source), copy)).run(
+            self.is_equal = Verifier(self.options.show, Sides(cast(Source, source), copy)).run(
                 list(self.tables)
             )
         return [json.loads(line) for line in out.getvalue().splitlines()]
@@ -226,7 +221,7 @@ class Finds(Case):
 
     def test_a_table_that_is_empty_here(self) -> None:
         self.keep({2: EQUAL_ROWS})
-        self.options.show = 5
+        self.options = dataclasses.replace(self.options, show=5)
         self.assertEqual([it["copy"] for it in self.compare()], [None] * 5)
         self.assertIn(
             "warning: public.keyed: 600 rows on the server, 0 in the copy; 4 of 4 chunks differ",
@@ -236,14 +231,14 @@ class Finds(Case):
 
     def test_a_table_that_is_empty_there(self) -> None:
         self.server.tables[1] = []
-        self.options.show = 1
+        self.options = dataclasses.replace(self.options, show=1)
         found = self.compare()
         self.assertEqual([it["server"] for it in found], [None])
         self.assertEqual(len(self.server.asked[0][1]), 1)
 
     def test_no_more_than_may_be_shown(self) -> None:
         self.keep({})
-        self.options.show = 0
+        self.options = dataclasses.replace(self.options, show=0)
         self.assertEqual((self.compare(), self.is_equal, self.server.asked), ([], False, []))
 
     def test_other_columns(self) -> None:
@@ -274,7 +269,7 @@ class Finds(Case):
         """What is in a row can't do anything to a terminal."""
         out = io.StringIO()
         with contextlib.redirect_stdout(out):
-            Verifier(self.options, mock.Mock()).tell({"row": {"a": "\x1b[2J\x9b\u202e"}})
+            Verifier(self.options.show, mock.Mock()).tell({"row": {"a": "\x1b[2J\x9b\u202e"}})
         self.assertTrue(out.getvalue().rstrip("\n").isprintable())
 
 
@@ -291,7 +286,7 @@ class Reads(Case):
 
     def ends(self, error: BaseException, expected: type[Exception]) -> None:
         with mock.patch.object(verify, "verify", side_effect=error), self.assertRaises(expected):
-            verify.run(self.options, never)
+            verify.compare_all(self.options, never)
 
     def test_how_it_ends(self) -> None:
         self.ends(Stopped(), Passing)
@@ -319,7 +314,7 @@ class Reads(Case):
         """In the place of comparisons, those that find this of tables, and leave those out."""
         results = iter(several)
 
-        def compare(options: Options, choose: Any, found: verify.Compared, check: Any) -> None:
+        def compare(_: object, choose: Any, found: Compared, check: Any) -> None:
             self.compared.append(
                 [
                     it.oid
@@ -344,39 +339,39 @@ class Reads(Case):
             ([WHOLE, KEYED], True, [WHOLE], 7, {WHOLE.oid: WHOLE.text()}),
         )
         for different, repair, left, status, asked in cases:
-            self.options.repair = repair
+            self.options = dataclasses.replace(self.options, repair=repair)
             with mock.patch.multiple(
                 verify,
                 compare=self.finds((different, {})),
                 repair=lambda *_, it=left: it,
             ), mock.patch.object(add_module, "add", return_value=7) as add:
-                self.assertEqual(verify.run(self.options, never), status)
-            self.assertEqual(add.call_args and add.call_args.args[1], asked)
+                self.assertEqual(verify.compare_all(self.options, never), status)
+            self.assertEqual(add.call_args and add.call_args.args[2], asked)
 
     def test_what_others_had_truncated_is_compared_once_more(self) -> None:
         """The others are compared all the same. What is left in the end isn't equal."""
         left = {2: "public.whole was truncated meanwhile"}
         with mock.patch.object(verify, "compare", self.finds(([], left), ([], {}))), logged():
-            self.assertEqual(verify.run(self.options, never), 0)
+            self.assertEqual(verify.compare_all(self.options, never), 0)
         self.assertEqual(self.compared, [[1, 2], [2]])
         with mock.patch.object(verify, "compare", self.finds(([], left), ([], left))), logged():
             with self.assertRaisesRegex(
                 Passing, "^not compared: public.whole was truncated meanwhile: compare later"
             ):
-                verify.run(self.options, never)
+                verify.compare_all(self.options, never)
         with mock.patch.object(
             verify, "compare", self.finds(([KEYED], left), ([], left))
         ), logged() as told:
-            self.assertEqual(verify.run(self.options, never), 1)
+            self.assertEqual(verify.compare_all(self.options, never), 1)
         self.assertEqual(told[-1], "warning: not compared: public.whole was truncated meanwhile")
 
     def test_what_the_follower_does_not_pass_on(self) -> None:
-        self.options.repair = True
+        self.options = dataclasses.replace(self.options, repair=True)
         repair = mock.Mock(side_effect=Unrepaired("too much"))
         with mock.patch.multiple(
             verify, compare=self.finds(([WHOLE], {})), repair=repair
         ), logged() as told:
-            self.assertEqual(verify.run(self.options, never), 1)
+            self.assertEqual(verify.compare_all(self.options, never), 1)
         self.assertEqual(told, ["error: too much"])
 
     def test_which_tables_differ(self) -> None:
@@ -393,7 +388,7 @@ class Reads(Case):
             (False, True, [KEYED, WHOLE]),
         ):
             with contextlib.closing(Copy(self.path, self.path, 0x130, never)) as copy:
-                verifier = Verifier(self.options, Sides(source, copy))
+                verifier = Verifier(self.options.show, Sides(source, copy))
                 with mock.patch.multiple(
                     verifier, has_columns=lambda _, it=columns: it, is_equal=lambda *_, it=equal: it
                 ):
@@ -402,12 +397,12 @@ class Reads(Case):
 
     def test_what_is_being_added_is_not_compared(self) -> None:
         known = Known(FOLLOWING, adding={"2": 0})
-        self.assertEqual(verify.settled([KEYED], known), [KEYED])
+        self.assertEqual(settled([KEYED], known), [KEYED])
         with self.assertRaisesRegex(Passing, "being added just now, or refused: public.whole"):
-            verify.settled([KEYED, WHOLE], known)
+            settled([KEYED, WHOLE], known)
         with self.assertRaisesRegex(Passing, "keyed"):
-            verify.settled([KEYED], known, {1})
+            settled([KEYED], known, {1})
 
     def test_nobody_follows(self) -> None:
         with self.assertRaisesRegex(Passing, "a follower has to run"):
-            verify.run(self.options, never)
+            verify.compare_all(self.options, never)

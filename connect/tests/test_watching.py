@@ -8,13 +8,13 @@ import unittest
 from unittest import mock
 
 from pgsub_connect import cli
-from pgsub_connect.commands.options import Options
-from pgsub_connect.commands.words import arguments, settle_options
-from pgsub_connect.drift import watch as watch_module
 from pgsub_connect.drift.remembered import Remembered
-from pgsub_connect.drift.watch import Watch
+from pgsub_connect.drift.tolerance import Tolerance
 from pgsub_connect.errors import ServerError
+from pgsub_connect.follow import drift_watch as watch_module
+from pgsub_connect.follow.drift_watch import Watch
 from pgsub_connect.server.catalog import Catalog
+from pgsub_connect.server.subscription import Subscription
 from pgsub_connect.status.progress import Progress
 from pgsub_connect.status.status_file import status_fields
 from pgsub_connect.store.checkpoint import Checkpoint
@@ -23,6 +23,7 @@ from pgsub_feed.interruption import never
 from pgsub_feed.relation import Relation
 
 from .fake_server import FakeServer, connection_to
+from .settled import settled
 from .vectors import ID, NAME, PGSUB, a_catalog, a_shape, a_table, logged
 
 T, U = a_table(1, "t"), a_table(2, "u")
@@ -43,15 +44,18 @@ class Case(unittest.TestCase):
     def watch(self, *accept: str, strict: bool = False) -> Watch:
         """That of a new run."""
         self.progress, self.remembered = Progress(), Remembered(self.store)
-        options = Options(
-            store=self.store, publication=["pgsub"], accept=list(accept), strict=strict
+        watch = Watch(
+            Subscription(publications=["pgsub"]),
+            Tolerance(accept, strict),
+            self.checkpoint,
+            self.progress,
+            self.remembered,
         )
-        watch = Watch(options, self.checkpoint, self.progress, self.remembered)
         watch.begin()
         return watch
 
     def compare(self, watch: Watch, now: Catalog) -> None:
-        with mock.patch("pgsub_connect.drift.watch.read_catalog", return_value=now):
+        with mock.patch("pgsub_connect.follow.drift_watch.read_catalog", return_value=now):
             watch.compare(connection_to(FakeServer()), 100)
 
 
@@ -80,7 +84,7 @@ class Shown(Case):
             watch_module, "PART", 1e9
         ):
             self.compare(watch, a_catalog(T, U, lsn=200))
-            watch.options.strict = True
+            watch.tolerance.is_strict = True
             with self.assertRaisesRegex(Unfit, "public.v"):
                 self.compare(watch, a_catalog(T, U, a_table(3, "v"), lsn=300))
 
@@ -184,11 +188,12 @@ class Found(Case):
 class Looks(Case):
     def test_where_a_table_is_unknown(self) -> None:
         watch = self.watch()
-        with mock.patch("pgsub_connect.drift.watch.Connection") as connection, mock.patch(
-            "pgsub_connect.drift.watch.settle"
+        with mock.patch("pgsub_connect.follow.drift_watch.Connection") as connection, mock.patch(
+            "pgsub_connect.follow.drift_watch.settle"
         ):
             with mock.patch(
-                "pgsub_connect.drift.watch.read_catalog", return_value=a_catalog(T, U, lsn=200)
+                "pgsub_connect.follow.drift_watch.read_catalog",
+                return_value=a_catalog(T, U, lsn=200),
             ), logged() as said:
                 self.assertFalse(watch.tend(True, never, 100))
             self.assertEqual(len(said), 1)
@@ -197,12 +202,14 @@ class Looks(Case):
 
     def test_now_and_then(self) -> None:
         """No message tells that a partition was detached, or a row filter altered."""
-        with mock.patch("pgsub_connect.drift.watch.AT_LEAST", 5.0), mock.patch(
+        with mock.patch("pgsub_connect.follow.drift_watch.AT_LEAST", 5.0), mock.patch(
             "time.monotonic"
-        ) as clock, mock.patch("pgsub_connect.drift.watch.Connection") as connection, mock.patch(
-            "pgsub_connect.drift.watch.settle"
+        ) as clock, mock.patch(
+            "pgsub_connect.follow.drift_watch.Connection"
+        ) as connection, mock.patch(
+            "pgsub_connect.follow.drift_watch.settle"
         ), mock.patch(
-            "pgsub_connect.drift.watch.read_catalog", return_value=a_catalog(T, U, lsn=200)
+            "pgsub_connect.follow.drift_watch.read_catalog", return_value=a_catalog(T, U, lsn=200)
         ), logged() as said:
             clock.return_value = 100.0
             watch = self.watch()
@@ -215,7 +222,7 @@ class Looks(Case):
     def test_that_fail_are_tried_again(self) -> None:
         watch = self.watch()
         with mock.patch(
-            "pgsub_connect.drift.watch.Connection", side_effect=ServerError("gone")
+            "pgsub_connect.follow.drift_watch.Connection", side_effect=ServerError("gone")
         ) as connection, logged() as said:
             self.assertTrue(watch.tend(True, never, 100))
             self.assertTrue(watch.tend(True, never, 100))
@@ -230,10 +237,10 @@ class Looks(Case):
             ([now], 0),
         ]
         for outcomes, lines in cases:
-            with mock.patch("pgsub_connect.drift.watch.Connection"), mock.patch(
-                "pgsub_connect.drift.watch.settle"
+            with mock.patch("pgsub_connect.follow.drift_watch.Connection"), mock.patch(
+                "pgsub_connect.follow.drift_watch.settle"
             ), mock.patch(
-                "pgsub_connect.drift.watch.read_catalog", side_effect=outcomes
+                "pgsub_connect.follow.drift_watch.read_catalog", side_effect=outcomes
             ), logged() as said:
                 for outcome in outcomes:
                     self.assertIs(watch.look_again(never, 100), outcome is now)
@@ -242,7 +249,7 @@ class Looks(Case):
     def test_a_lock_in_the_way(self) -> None:
         watch, connection = self.watch(), mock.Mock()
         with mock.patch(
-            "pgsub_connect.drift.watch.read_catalog",
+            "pgsub_connect.follow.drift_watch.read_catalog",
             side_effect=ServerError("lock timeout", "55P03"),
         ), logged() as said:
             self.assertFalse(watch.compare(connection, 100))
@@ -252,7 +259,8 @@ class Looks(Case):
         )
         self.assertIn("can't be looked at now: lock timeout", said[0])
         with mock.patch(
-            "pgsub_connect.drift.watch.read_catalog", side_effect=ServerError("gone", "57P01")
+            "pgsub_connect.follow.drift_watch.read_catalog",
+            side_effect=ServerError("gone", "57P01"),
         ), self.assertRaises(ServerError):
             watch.compare(connection, 100)
 
@@ -290,9 +298,8 @@ class Words(Case):
         if store:
             with open(self.store, "w", encoding="ascii") as file:
                 file.write("a store")
-        options = arguments(["follow", "--store", self.store, "--pgsub", "/bin/true", *words])
-        settle_options(options)
-        return options.publication
+        options = settled(["follow", "--store", self.store, "--pgsub", "/bin/true", *words])
+        return list(options.publication)
 
     def test_the_default_publications_are_those_that_were_followed(self) -> None:
         self.assertEqual(self.publications(store=False), ["pgsub"])

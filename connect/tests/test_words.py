@@ -12,16 +12,19 @@ import subprocess
 import sys
 import unittest
 from collections.abc import Callable
+from typing import Any
 from unittest import mock
 
 from pgsub_connect import cli
 from pgsub_connect.cli import main
+from pgsub_connect.commands import follow, names
 from pgsub_connect.commands.drop import ask_terminal
-from pgsub_connect.commands.options import Options
-from pgsub_connect.commands.words import arguments, parsers_of_commands, settle_options
+from pgsub_connect.drift.tolerance import Tolerance
 from pgsub_connect.errors import FilterFault, ServerError
 from pgsub_connect.server import followed_publications
 from pgsub_connect.server.followed_publications import require_published
+from pgsub_connect.server.publication_setup import Wanted
+from pgsub_connect.server.subscription import Subscription
 from pgsub_connect.stream.filter_end import FilterEnded
 from pgsub_connect.stream.too_large import KilledTwice
 from pgsub_feed.errors import (
@@ -40,6 +43,7 @@ from pgsub_feed.errors import (
 )
 
 from .fake_server import FakeServer, Quiet, Row
+from .settled import options_of, settled
 
 CONNECT = os.path.dirname(os.path.dirname(os.path.abspath(__file__)))
 
@@ -49,7 +53,7 @@ class Words(Quiet):
         with contextlib.redirect_stderr(io.StringIO()) as stderr, self.assertRaises(
             SystemExit
         ) as ended:
-            arguments(text.split())
+            options_of(text.split())
         self.assertEqual(ended.exception.code, USAGE)
         return stderr.getvalue()
 
@@ -129,36 +133,35 @@ class Words(Quiet):
 
     def test_read(self) -> None:
         words = "--store s --create --table t --table u --until 16/B374D848 --mode 640 --accept-gap --accept values --skip 0/5"
-        options = arguments(words.split())
+        name, options = cli.arguments(words.split())
         self.assertEqual(
-            (options.command, options.table, options.until, options.mode),
-            ("follow", ["t", "u"], 0x16B374D848, 0o640),
+            (name, options.table, options.until, options.mode),
+            ("follow", ("t", "u"), 0x16B374D848, 0o640),
         )
-        self.assertEqual((options.skip, options.streaming), (5, True))
-        self.assertTrue(
-            options.accepts("gap") and options.accepts("slot") and options.accepts("values")
-        )
-        self.assertFalse(options.accepts("history"))
-        self.assertEqual(arguments(["--record", "f", "--until", "now"]).command, "record")
-        options = arguments(
+        self.assertEqual(options.skip, 5)
+        tolerance = Tolerance(options.accept)
+        self.assertTrue(all(map(tolerance.accepts, ("gap", "slot", "values"))))
+        self.assertFalse(tolerance.accepts("history"))
+        self.assertEqual(cli.arguments(["--record", "f", "--until", "now"])[0], "record")
+        options = options_of(
             "record --record f --create temporary --table t --transactions 3".split()
         )
         self.assertEqual(
             (options.create, options.table, options.transactions, options.streaming),
-            ("temporary", ["t"], 3, False),
+            ("temporary", ("t",), 3, False),
         )
 
     def test_each_help_tells_the_exit_status(self) -> None:
-        for name, parser in parsers_of_commands()[1].items():
-            self.assertRegex(parser.format_help(), r"(?i)\bexit status\b", name)
+        for name in cli.COMMANDS:
+            self.assertRegex(cli.parser_of(name).format_help(), r"(?i)\bexit status\b", name)
 
     def test_limits_in_the_help(self) -> None:
-        help_text = " ".join(parsers_of_commands()[1]["follow"].format_help().split())
+        help_text = " ".join(cli.parser_of("follow").format_help().split())
         self.assertIn("(default: what may be buffered, at most 2147483643)", help_text)
 
-    def settled(self, *words: str) -> Options:
-        options = arguments(["follow", "--store", "/nonexistent/s", *words])
-        settle_options(options)
+    def settled(self, *words: str) -> follow.Options:
+        options = settled(["follow", "--store", "/nonexistent/s", *words])
+        assert isinstance(options, follow.Options)
         return options
 
     def test_passwords_are_warned_of(self) -> None:
@@ -190,7 +193,7 @@ class Words(Quiet):
         self.assertEqual(self.said, [])
 
     def test_limits(self) -> None:
-        with mock.patch("pgsub_connect.commands.words.default_buffered", lambda: 1 << 28):
+        with mock.patch("pgsub_connect.commands.arguments.sizes.default_buffered", lambda: 1 << 28):
             self.assertEqual(
                 (self.settled().max_buffered, self.settled().max_frame), (1 << 28, 1 << 28)
             )
@@ -199,7 +202,7 @@ class Words(Quiet):
 
     def filter_words(self, *words: str) -> list[str]:
         options = self.settled("--max-buffered", "5000", "--pgsub", "/bin/pgsub", *words)
-        return cli.make_filter(options, mock.Mock(file=3), "/nonexistent/s").words
+        return follow.make_filter(options, mock.Mock(file=3), "/nonexistent/s").words
 
     def test_words_of_the_filter(self) -> None:
         words = [
@@ -245,7 +248,7 @@ class Ends(Quiet):
             (OSError(errno.EACCES, "x"), FILE),
             (ZeroDivisionError("x"), BUG),
         ):
-            with mock.patch.dict(cli.RUNS, {"names": mock.Mock(side_effect=error)}):
+            with mock.patch.object(names, "run", mock.Mock(side_effect=error)):
                 self.assertEqual(main(["names", "--store", "/nonexistent/s"]), status, error)
 
     def test_no_store_leaves_no_file(self) -> None:
@@ -255,10 +258,10 @@ class Ends(Quiet):
         self.assertEqual(os.listdir(folder), [])
 
     def test_a_bug_is_told_with_its_place(self) -> None:
-        def fail(_: Options) -> None:
+        def fail(_: names.Options) -> int:
             raise ZeroDivisionError("\x1b[2J")
 
-        with mock.patch.dict(cli.RUNS, {"names": fail}):
+        with mock.patch.object(names, "run", fail):
             main(["names", "--store", "/nonexistent/s"])
         self.assertIn("test_words.py", self.said[0])
 
@@ -273,7 +276,7 @@ class Ends(Quiet):
     def test_signals(self) -> None:
         """The first one asks for the end, the second one is the end."""
         code = (
-            "import os, sys, time\nfrom pgsub_connect.cli import Start, stop_by_signals\nstart = Start()\nstop_by_signals(start)\n"
+            "import os, sys, time\nfrom pgsub_feed.program import Start, stop_by_signals\nstart = Start()\nstop_by_signals(start)\n"
             "print('ready', flush=True)\nwhile not start.stop_asked:\n    time.sleep(0.01)\n"
             "print('asked', flush=True)\nwhile True:\n    time.sleep(0.01)\n"
         )
@@ -345,9 +348,9 @@ class Compares(Quiet):
     def look_up(self, command: str) -> list[Row]:
         return [[next((oid for name, oid in self.oids.items() if f"'{name}'" in command), None)]]
 
-    def compare(self, *tables: str, **options: object) -> None:
-        chosen = Options(store="s", publication=["pgsub"], create="permanent", table=list(tables), **options)  # type: ignore[arg-type]
-        require_published(chosen, lambda: None)
+    def compare(self, *tables: str, **options: Any) -> None:
+        wanted = Wanted(["pgsub"], list(tables), **options)
+        require_published(Subscription(publications=["pgsub"]), wanted, lambda: None)
         self.assertEqual(self.server.opened, self.server.closed)
 
     def test_the_same(self) -> None:

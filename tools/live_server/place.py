@@ -237,7 +237,7 @@ class Shared:
 
 
 def killed_at(place: Place, name: str, after: bool) -> None:
-    """Runs the connector, which ends at once where it makes a call of its module `copying`."""
+    """Runs the connector, which ends at once where it makes a call, as of its module `copier`."""
     code = KILLED_AT.format(house=str(place.options.connect.parent), name=name, before="real(*words)" if after else "pass")
     words = [sys.executable, "-c", code, *place.words("--create")[1:]]
     place.has_ended(place.started(words), 77, "")
@@ -249,11 +249,11 @@ import os, sys
 sys.path.insert(0, {house!r})
 from pgsub_connect import cli
 from pgsub_connect.copy import copier
-real = copier.{name}
+real = {name}
 def last(*words, **more):
     {before}
     os._exit(77)
-copier.{name} = last
+{name} = last
 sys.argv[0] = {house!r} + "/pgsub-connect"
 cli.run()
 """

@@ -4,10 +4,10 @@ from __future__ import annotations
 
 from typing import Protocol
 
-from pgsub_feed.relation import Column, Relation, Shape
+from pgsub_feed.interruption import Check
+from pgsub_feed.relation import Relation
 
-from ..server.publications import Column as TableColumn
-from ..server.publications import Table
+from ..server.catalog import Table
 from ..stream.gate import CURE, TABLE
 
 
@@ -24,6 +24,19 @@ class Stream(Protocol):
 
     def push(self, frames: bytes) -> None:
         """Gives the filter frames, and waits until it has room."""
+
+
+class Publications(Protocol):
+    """What is known of the publications, and what was found there."""
+
+    def look_again(self, check: Check, position: int) -> bool:
+        """Reads them on a connection of its own. Returns whether that was possible."""
+
+    def show(self) -> None:
+        """Tells what was found."""
+
+    def keep(self) -> None:
+        """Puts what was found on the disk, and tells it."""
 
 
 class TooLarge(Exception):
@@ -51,16 +64,8 @@ def table_of(relation: Relation | None) -> Table | None:
     """A table that isn't published any more, as it was described."""
     if relation is None:
         return None
-    shape = relation.shape
-    columns = [
-        TableColumn(it.name, it.type_oid, it.modifier, it.key, it.number) for it in shape.columns
-    ]
-    name = relation.name
-    return Table(relation.oid, relation.namespace, name, "r", shape.identity, None, None, columns)
+    return Table(relation.oid, relation.namespace, relation.name, "r", relation.shape)
 
 
 def relation_of(table: Table) -> Relation:
-    columns = tuple(
-        Column(it.name, it.type_oid, it.modifier, it.key, it.number) for it in table.columns
-    )
-    return Relation(table.oid, table.namespace, table.name, Shape(table.identity, columns))
+    return Relation(table.oid, table.namespace, table.name, table.shape)

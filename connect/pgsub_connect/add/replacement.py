@@ -91,7 +91,7 @@ from pgsub_feed.reader.commits import XID
 
 from ..copy.messages import InsertHeads, begin, commit, frame, inserts, relation
 from ..errors import ServerError
-from ..server.publications import Table
+from ..server.catalog import Table
 from ..stream.messages import BEGIN, CHANGES, COMMIT, RELATION, START, TRUNCATE, final_lsn
 
 # What CopyData and XLogData add to a message, and what the filter adds where it buffers one, in

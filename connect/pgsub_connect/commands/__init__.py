@@ -1,1 +1,3 @@
-"""The subcommands, one file each, and the words of their command lines."""
+"""The subcommands: one module each, with its options, its help, what is rejected of them, and `run`.
+
+`arguments` has the options that several share, `signals` what asks for the end."""

@@ -7,33 +7,47 @@ file, or here, where none runs. The follower goes on with it whatever becomes of
 
 from __future__ import annotations
 
+import argparse
 import contextlib
+import dataclasses
 import os
 import stat
 import time
-from collections.abc import Mapping
+from collections.abc import Mapping, Sequence
 from types import MappingProxyType
-from typing import TYPE_CHECKING
 
 from pgsub_feed import log
 from pgsub_feed.errors import Passing, Stopped
 from pgsub_feed.files import own_name, remove, remove_files
 from pgsub_feed.interruption import Check
+from pgsub_feed.program import check_signals
 from pgsub_feed.texts import counted
 
+from ..copy.source import chosen
 from ..drift.remembered import Remembered
 from ..errors import ServerError
+from ..server.catalog import Table
 from ..server.connection import Connection
 from ..server.publication_setup import names_of
-from ..server.publications import Table, published_tables
+from ..server.publications import published_tables
 from ..server.session import settle
+from ..server.subscription import Subscription
 from ..store.at_rest import LOOK, check_there, is_followed, put_request, read_request
-from ..verify.meeting_point import chosen
-from .drop import locked, read_known
+from ..store.checkpoint_at_rest import locked, read_known
+from .arguments.exit_status import ADDED
+from .arguments.files import check_files, use_mode
+from .arguments.server import (
+    ServerOptions,
+    TrustOptions,
+    add_server,
+    add_trust,
+    settled_server,
+    trust_store,
+)
+from .arguments.texts import each
 
-if TYPE_CHECKING:
-    from .options import Options
-
+ABOUT = "copy tables anew beside what is followed: new ones of the publication, or any whose rows are wrong"
+ENDS = ADDED
 
 DONE, REFUSED = 0, 1
 # How long a follower may take until it has answered a request, in seconds: it may be about to
@@ -43,27 +57,66 @@ PATIENCE = 120.0
 WAIT = 0.3
 
 
-def read_published(options: Options, check: Check) -> list[Table]:
-    """The tables that the publications have now."""
-    connection = Connection(options.dsn, name=f"{options.slot} tables", check=check)
-    with contextlib.closing(connection):
-        settle(connection)
-        return published_tables(connection, options.publication)
+@dataclasses.dataclass(frozen=True)
+class Options(ServerOptions, TrustOptions):
+    """Which tables are added, to which store."""
+
+    store: str = ""
+    table: Sequence[str] = ()
 
 
-def run(options: Options, check: Check) -> int:
-    """Adds tables; the exit status."""
-    check_there(options.store)
-    options.slot = read_known(options.store + ".connector").slot or options.slot
-    return add(
-        options,
-        {it.oid: it.text() for it in chosen(read_published(options, check), options.table)},
-        check,
+def add_options(parser: argparse.ArgumentParser) -> None:
+    add_server(parser)
+    add_trust(parser)
+    add = parser.add_argument
+    add(
+        "--store",
+        metavar="FILE",
+        required=True,
+        help="the store; its follower adds them, or does so at its next start",
+    )
+    add(
+        "--table",
+        action="append",
+        required=True,
+        help="a published table, may be repeated; what the copy has of it is replaced",
     )
 
 
+def settled(options: Options) -> Options:
+    """The options with what they leave out."""
+    check_files(options.store, {}, {"--dsn-file": options.dsn_file})
+    options = settled_server(options, options.store, told=each("--table", options.table))
+    use_mode(options.mode)
+    return options
+
+
+def run(options: Options) -> int:
+    """Adds tables; the exit status."""
+    options = settled(options)
+    trust_store(options.store, options.accept)
+    return add_tables(options, check_signals())
+
+
+def add_tables(options: Options, check: Check) -> int:
+    check_there(options.store)
+    slot = read_known(options.store + ".connector").slot or options.slot
+    published = read_published(dataclasses.replace(options.subscription(), slot=slot), check)
+    tables = {it.oid: it.text() for it in chosen(published, list(options.table))}
+    return add(options.store, options.mode, tables, check)
+
+
+def read_published(subscription: Subscription, check: Check) -> list[Table]:
+    """The tables that the publications have now."""
+    connection = Connection(subscription.dsn, name=f"{subscription.slot} tables", check=check)
+    with contextlib.closing(connection):
+        settle(connection)
+        return published_tables(connection, subscription.publications)
+
+
 def add(
-    options: Options,
+    store: str,
+    mode: int,
     adds: dict[int, str],
     check: Check,
     removes: Mapping[int, str] = MappingProxyType({}),
@@ -76,15 +129,15 @@ def add(
         [*parts, *([f"removes the rows of {names_of(list(removes.values()))}"] if removes else [])]
     )
     while True:
-        if is_followed(options.store):
-            if ask(options.store, check, add=list(adds), remove=list(removes)):
+        if is_followed(store):
+            if ask(store, check, add=list(adds), remove=list(removes)):
                 break
-        elif noted(options, list(adds), list(removes)):
-            log.info(f"{options.store} isn't followed now: the next start {names}")
+        elif noted(store, mode, list(adds), list(removes)):
+            log.info(f"{store} isn't followed now: the next start {names}")
             return DONE
     log.info(f"its follower {names}")
     try:
-        return wait(options, tables, check)
+        return wait(store, tables, check)
     except Stopped:
         log.info("the follower goes on with it")
         return DONE
@@ -119,24 +172,24 @@ def ask(store: str, check: Check, **oids: list[int]) -> bool:
     return True
 
 
-def noted(options: Options, adds: list[int], removes: list[int]) -> bool:
+def noted(store: str, mode: int, adds: list[int], removes: list[int]) -> bool:
     """Notes what is wanted where nobody follows. Returns false where somebody does by now."""
     try:
-        with locked(options.store + ".connector"):
+        with locked(store + ".connector"):
             # (the follower may have been told another mode)
             with contextlib.suppress(FileNotFoundError):
-                options.mode = stat.S_IMODE(os.stat(options.store + ".tables").st_mode)
-            Remembered(options.store, options.mode).want(adds, removes)
+                mode = stat.S_IMODE(os.stat(store + ".tables").st_mode)
+            Remembered(store, mode).want(adds, removes)
     except Passing:
         return False
     return True
 
 
-def wait(options: Options, tables: dict[int, str], check: Check) -> int:
+def wait(store: str, tables: dict[int, str], check: Check) -> int:
     """Waits until tables are there, or are refused; the exit status."""
     left, status = dict(tables), DONE
     while left:
-        wanted = Remembered(options.store).wanted
+        wanted = Remembered(store).wanted
         for oid, name in list(left.items()):
             if oid not in wanted:
                 log.info(f"{name} is done")
@@ -146,9 +199,9 @@ def wait(options: Options, tables: dict[int, str], check: Check) -> int:
             else:
                 continue
             del left[oid]
-        if left and not is_followed(options.store):
+        if left and not is_followed(store):
             raise Passing(
-                f"{options.store} isn't followed any more: the next start adds {names_of(list(left.values()))}"
+                f"{store} isn't followed any more: the next start adds {names_of(list(left.values()))}"
             )
         check()
         time.sleep(WAIT)

@@ -8,8 +8,7 @@ from collections.abc import Collection
 from pgsub_feed.interruption import Check
 
 from ..store.at_rest import is_followed
-from ..store.export import run as export
-from .options import Options
+from ..store.export import ExportSettings, export_store
 
 
 @dataclasses.dataclass(frozen=True)
@@ -23,12 +22,5 @@ class StoreBeside:
         return is_followed(self.path)
 
     def export(self, into: str, is_text: bool, chosen: Collection[str], check: Check) -> None:
-        options = Options(
-            command="export",
-            store=self.path,
-            into=into,
-            mode=self.mode,
-            text=is_text,
-            table=list(chosen),
-        )
-        export(options, check)
+        settings = ExportSettings(self.path, into, is_text, tuple(chosen), self.mode)
+        export_store(settings, check)

@@ -3,34 +3,49 @@ publications and its files."""
 
 from __future__ import annotations
 
+import argparse
 import contextlib
-import fcntl
+import dataclasses
 import os
 import select
 import sys
 import time
-from collections.abc import Callable, Iterator
-from typing import TYPE_CHECKING, Any
+from collections.abc import Callable
+from typing import Any
 
 from pgsub_feed import log
 from pgsub_feed.errors import FileError, Passing, Unfit
 from pgsub_feed.files import OF_FILE, meant, own_files
 from pgsub_feed.interruption import Check, never
-from pgsub_feed.json_texts import Unreadable, object_of, open_plain, whole_of
+from pgsub_feed.json_texts import Unreadable, object_of, whole_of
+from pgsub_feed.program import check_signals
 from pgsub_feed.texts import identifier, literal
 
 from ..drift.remembered_lines import read_lines
 from ..errors import understood
-from ..server.connection import TICK, Connection
-from ..server.publication_setup import inserts_of, oid_of, other_slots
+from ..server.connection import Connection
+from ..server.publication_content import oid_of, other_slots
+from ..server.publication_setup import inserts_of
 from ..server.session import Server, database_oid, is_same_database, settle
-from ..store.checkpoint import has_name
-from ..store.checkpoint_lines import Known, read_file
+from ..server.ticks import TICK
+from ..store.checkpoint_at_rest import locked, read_known
 from ..store.placing import OF_COPY, OF_STORE
+from .arguments.files import check_files, use_mode
+from .arguments.server import (
+    ServerOptions,
+    TrustOptions,
+    add_server,
+    add_trust,
+    settled_server,
+    trust_store,
+)
 
-if TYPE_CHECKING:
-    from .options import Options
-
+ABOUT = "drop slot, publications and files"
+ENDS = """\
+exit status: 0 dropped, but for what somebody said no to; 2 usage error; 3 a file can't be used; 4 the server rejected a command for good; 5
+it isn't the server or slot that the store follows, or nobody is there to ask; 6 a bug; 7 something is in the way only for now, such as a
+follower that runs
+"""
 
 # Beside which names processes make files for themselves: copies that a follower is asked for, and
 # exports with which a sink begins.
@@ -39,20 +54,37 @@ ASKED = (".export", ".base")
 PATIENCE = 5.0
 
 
-def read_known(path: str) -> Known:
-    """What the checkpoint has, or nothing where it isn't there."""
-    try:
-        file = open_plain(path)
-    except FileNotFoundError:
-        return Known()
-    except OSError as error:
-        raise FileError(f"{path}: {error.strerror}") from None
-    except Unreadable as error:
-        raise FileError(f"{path}: {error}") from None
-    try:
-        return read_file(file, path).known
-    finally:
-        os.close(file)
+@dataclasses.dataclass(frozen=True)
+class Options(ServerOptions, TrustOptions):
+    """Whose slot, publications and files go."""
+
+    store: str = ""
+    yes: bool = False
+
+
+def add_options(parser: argparse.ArgumentParser) -> None:
+    add_server(parser)
+    add_trust(parser)
+    add = parser.add_argument
+    add(
+        "--store",
+        metavar="FILE",
+        required=True,
+        help="the store whose slot, publications and files go",
+    )
+    add(
+        "--yes",
+        action="store_true",
+        help="don't ask; what somebody else may have made or may use stays",
+    )
+
+
+def settled(options: Options) -> Options:
+    """The options with what they leave out."""
+    check_files(options.store, {}, {"--dsn-file": options.dsn_file})
+    options = settled_server(options, options.store)
+    use_mode(options.mode)
+    return options
 
 
 def read_remembered(path: str) -> dict[str, Any]:
@@ -68,31 +100,6 @@ def made_publications(remembered: dict[str, Any]) -> dict[str, int]:
     with contextlib.suppress(Unreadable):
         return {name: whole_of(oid) for name, oid in object_of(remembered.get("made")).items()}
     return {}
-
-
-@contextlib.contextmanager
-def locked(path: str) -> Iterator[None]:
-    """Holds the checkpoint's lock, so that no connector begins meanwhile. Raises where one is at
-    work."""
-    try:
-        file = os.open(path, os.O_RDWR | os.O_CLOEXEC)
-    except FileNotFoundError:
-        yield
-        return
-    except OSError as error:
-        raise FileError(f"{path}: {error.strerror}") from None
-    try:
-        try:
-            fcntl.flock(file, fcntl.LOCK_EX | fcntl.LOCK_NB)
-        except BlockingIOError:
-            raise Passing(
-                f"{path}: a connector or its filter is at work on this store: end it first"
-            ) from None
-        if not has_name(file, path):
-            raise Passing(f"{path} was removed meanwhile")
-        yield
-    finally:
-        os.close(file)
 
 
 def files_of(store: str) -> list[str]:
@@ -270,11 +277,14 @@ class Dropper:
             log.info(f"the feed {feed} stays: remove the folder once nobody reads it")
 
 
-def run(options: Options, check: Check = never) -> int:
+def run(options: Options) -> int:
     """Drops it all; the exit status."""
-    Dropper(
-        options,
-        (lambda _: True) if options.yes else lambda question: ask_terminal(question, check),
-        check,
-    ).run()
+    options = settled(options)
+    trust_store(options.store, options.accept)
+    check = check_signals()
+
+    def ask(question: str) -> bool:
+        return options.yes or ask_terminal(question, check)
+
+    Dropper(options, ask, check).run()
     return 0

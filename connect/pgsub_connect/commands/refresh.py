@@ -14,31 +14,82 @@ changed since, and what was found and not accepted. Of the server only the catal
 
 from __future__ import annotations
 
+import argparse
+import dataclasses
 import json
-from typing import TYPE_CHECKING, NamedTuple
+from typing import NamedTuple
 
 from pgsub_feed import log
 from pgsub_feed.errors import FileError
 from pgsub_feed.interruption import Check
+from pgsub_feed.program import check_signals
 from pgsub_feed.texts import counted
 
-from ..drift.differences import PUBLICATION, VALUES
 from ..drift.doubts import resolved
+from ..drift.findings import PUBLICATION, VALUES
 from ..drift.remembered import Remembered
-from ..server.catalog import Catalog, read_catalog
+from ..server.catalog import Catalog
+from ..server.catalog_reader import read_catalog
 from ..server.connection import Connection
 from ..server.publication_setup import names_of
 from ..server.session import settle
+from ..server.subscription import Subscription
 from ..store.at_rest import check_there
+from ..store.checkpoint_at_rest import read_known
 from . import add
-from .drop import ask_terminal, read_known
+from .arguments.exit_status import ADDED
+from .arguments.files import check_files, use_mode
+from .arguments.server import (
+    ServerOptions,
+    TrustOptions,
+    add_server,
+    add_trust,
+    settled_server,
+    trust_store,
+)
+from .drop import ask_terminal
 
-if TYPE_CHECKING:
-    from .options import Options
-
+ABOUT = "tell which tables lack rows, were altered, or left the publication, and mend it"
+ENDS = ADDED
 
 DONE, LEFT = 0, 1
 MISSING, CHANGED, EXTRA, OTHER = "missing", "changed", "extra", "other"
+
+
+@dataclasses.dataclass(frozen=True)
+class Options(ServerOptions, TrustOptions):
+    """Which store is compared, and whether it is mended without asking."""
+
+    store: str = ""
+    yes: bool = False
+
+
+def add_options(parser: argparse.ArgumentParser) -> None:
+    add_server(parser)
+    add_trust(parser)
+    add = parser.add_argument
+    add(
+        "--store",
+        metavar="FILE",
+        required=True,
+        help="the store that is compared with what is published",
+    )
+    add("--yes", action="store_true", help="mend it without asking")
+
+
+def settled(options: Options) -> Options:
+    """The options with what they leave out."""
+    check_files(options.store, {}, {"--dsn-file": options.dsn_file})
+    options = settled_server(options, options.store)
+    use_mode(options.mode)
+    return options
+
+
+def run(options: Options) -> int:
+    """Compares, asks and has it done; the exit status."""
+    options = settled(options)
+    trust_store(options.store, options.accept)
+    return refresh(options, check_signals())
 
 
 class Told(NamedTuple):
@@ -69,7 +120,7 @@ def compared(remembered: Remembered, now: Catalog) -> list[Told]:
         for text in texts_of(remembered, kind):
             oids = remembered.tables_of(text)
             for oid in oids:
-                if oid not in remembered.mended.get(text, ()):
+                if oid not in remembered.found.mended.get(text, ()):
                     found.setdefault(oid, []).append(text)
             if not oids:
                 others.append(text)
@@ -97,14 +148,14 @@ def texts_of(remembered: Remembered, kind: str) -> list[str]:
     return [*found.texts, *([f"{kind}: and {found.more} more, see the log"] if found.more else [])]
 
 
-def run(options: Options, check: Check) -> int:
-    """Compares, asks and has it done; the exit status."""
+def refresh(options: Options, check: Check) -> int:
     check_there(options.store)
-    options.slot = read_known(options.store + ".connector").slot or options.slot
+    slot = read_known(options.store + ".connector").slot or options.slot
+    subscription = dataclasses.replace(options.subscription(), slot=slot)
     remembered = Remembered(options.store, options.mode)
     if remembered.catalog is None:
         raise FileError(f"{remembered.path}: there is no such file yet: the next session makes it")
-    told = compared(remembered, read_now(options, check, remembered.catalog))
+    told = compared(remembered, read_now(subscription, check, remembered.catalog))
     for it in told:
         print(it.line(), flush=True)
     tables = {it.oid: it.table for it in told if it.what in (MISSING, CHANGED)}
@@ -127,13 +178,13 @@ def run(options: Options, check: Check) -> int:
     )
     if not options.yes and not ask_terminal(f"{'; '.join(parts)}?", check, "refresh"):
         return LEFT
-    return add.add(options, tables, check, extra)
+    return add.add(options.store, options.mode, tables, check, extra)
 
 
-def read_now(options: Options, check: Check, before: Catalog) -> Catalog:
-    connection = Connection(options.dsn, name=f"{options.slot} tables", check=check)
+def read_now(subscription: Subscription, check: Check, before: Catalog) -> Catalog:
+    connection = Connection(subscription.dsn, name=f"{subscription.slot} tables", check=check)
     try:
         settle(connection)
-        return resolved(connection, before, read_catalog(connection, options.publication))
+        return resolved(connection, before, read_catalog(connection, subscription.publications))
     finally:
         connection.close()

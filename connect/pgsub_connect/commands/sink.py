@@ -4,13 +4,15 @@ from __future__ import annotations
 
 import argparse
 import contextlib
-from typing import TYPE_CHECKING
+import dataclasses
+from collections.abc import Sequence
 
 from pgsub_feed import log
-from pgsub_feed.arguments import plain_name
+from pgsub_feed.arguments import lsn, plain_name
 from pgsub_feed.errors import UsageError
 from pgsub_feed.interruption import Check
 from pgsub_feed.ownership import readable_by, readable_text
+from pgsub_feed.program import check_signals
 from pgsub_feed.reader.reading import Reading
 from pgsub_feed.sinks import nats_engine, redis_calls, redis_hashes, redis_streams
 from pgsub_feed.sinks.engine import Engine
@@ -18,11 +20,10 @@ from pgsub_feed.sinks.following import keep
 from pgsub_feed.sinks.redis_engine import Redis
 from pgsub_feed.texts import lsn_text
 
+from .arguments.files import check_files, use_mode
+from .arguments.texts import check_texts, each
+from .arguments.types import mode
 from .beside import StoreBeside
-
-if TYPE_CHECKING:
-    from .options import Options
-
 
 ABOUT = """\
 write a feed to Redis or to NATS JetStream
@@ -46,6 +47,11 @@ NATS: subjects are STREAM.schema.table, and STREAM.commit for the last message o
 completed. --table goes by the names that tables have just then. With --reader, an LSN counts after 150 seconds, once the server has synced
 it.
 """
+ENDS = """\
+exit status: 0 ended as asked; 1 a change is larger than the engine takes; 2 usage error; 3 a file can't be used; 4 the engine rejected a
+command for good; 5 the feed lacks commits after those that are written, or another sink has begun, or something else has written what the
+sink keeps; 6 a bug; 7 something is in the way only for now, such as an engine that isn't there: start it again
+"""
 SCHEMES = {"redis": "redis", "rediss": "redis", "unix": "redis", "nats": "nats", "tls": "nats"}
 
 
@@ -67,6 +73,36 @@ def stream_name(text: str) -> str:
             f"{text!r} is no name of a stream: letters, digits, - and _"
         )
     return text
+
+
+@dataclasses.dataclass(frozen=True)
+class Options:
+    """Which feed is followed, into which engine, and up to where."""
+
+    url: str = ""
+    url_file: str | None = None
+    feed: str = ""
+    base: str | None = None
+    store: str = ""
+    form: str | None = None
+    stream: str | None = None
+    table: Sequence[str] = ()
+    reader: str | None = None
+    once: bool = False
+    until: int | None = None
+    mode: int = 0o600
+
+    def reading(self) -> Reading:
+        return Reading(
+            self.feed,
+            tuple(sorted(set(self.table))),
+            follows=not self.once,
+            until=self.until,
+            base=self.base,
+            store=StoreBeside(self.store, self.mode) if self.store else None,
+            name=self.reader,
+            mode=self.mode,
+        )
 
 
 def add_options(parser: argparse.ArgumentParser) -> None:
@@ -97,6 +133,12 @@ def add_options(parser: argparse.ArgumentParser) -> None:
         default="",
         help="begin with the rows of this store; its follower is asked for a copy",
     )
+    add_kept(parser)
+
+
+def add_kept(parser: argparse.ArgumentParser) -> None:
+    """Options on what the engine gets, and for how long."""
+    add = parser.add_argument
     add(
         "--as",
         dest="form",
@@ -121,6 +163,11 @@ def add_options(parser: argparse.ArgumentParser) -> None:
         type=plain_name,
         help="keep the LSN as FOLDER/readers/NAME too, once the engine's disk has the rows",
     )
+    add_end(parser)
+
+
+def add_end(parser: argparse.ArgumentParser) -> None:
+    """Options on for how long it follows."""
     whole = parser.add_mutually_exclusive_group().add_argument
     whole(
         "--follow",
@@ -130,6 +177,30 @@ def add_options(parser: argparse.ArgumentParser) -> None:
         help="follow the feed until a signal asks for the end (default)",
     )
     whole("--once", dest="once", action="store_true", help="end once all that is there is written")
+    parser.add_argument(
+        "--until", type=lsn, metavar="LSN", help="end before the first commit above this LSN"
+    )
+    parser.add_argument(
+        "--mode",
+        type=mode,
+        default=0o600,
+        metavar="OCTAL",
+        help="mode of a file that is made (default: 600)",
+    )
+
+
+def check_options(parser: argparse.ArgumentParser, options: Options) -> Options:
+    """Rejects options that don't go together."""
+    if bool(options.url) == bool(options.url_file):
+        parser.error("either a URL or --url-file is needed")
+    return options
+
+
+def settled(options: Options) -> Options:
+    check_files(options.store, {}, {"--url-file": options.url_file, "--base": options.base})
+    check_texts(each("--table", options.table))
+    use_mode(options.mode)
+    return options
 
 
 def engine_of(options: Options, check: Check) -> Engine:
@@ -146,33 +217,31 @@ def engine_of(options: Options, check: Check) -> Engine:
     return Redis(calls, redis_hashes.Hashes(calls, check), check)
 
 
-def reading_of(options: Options) -> Reading:
-    return Reading(
-        options.feed,
-        tuple(sorted(set(options.table))),
-        follows=not options.once,
-        until=options.until if isinstance(options.until, int) else None,
-        base=options.base,
-        store=StoreBeside(options.store, options.mode) if options.store else None,
-        name=options.reader,
-        mode=options.mode,
-    )
-
-
-def run(options: Options, check: Check) -> int:
+def run(options: Options) -> int:
     """Follows a feed; the exit status."""
+    write_feed(settled(options), check_signals())
+    return 0
+
+
+def with_url(options: Options) -> Options:
+    """The options with the URL of a file, which is warned of where others may read it."""
     if options.url_file:
         with open(options.url_file, encoding="utf-8") as file:
-            options.url, readable = file.readline().strip(), readable_by(file.fileno())
-        if readable and "@" in options.url:
-            log.warning(readable_text(options.url_file, readable))
-        if not scheme(options.url):
+            found, readable = file.readline().strip(), readable_by(file.fileno())
+        options = dataclasses.replace(options, url=found)
+        if readable and "@" in found:
+            log.warning(readable_text(options.url_file or "", readable))
+        if not scheme(found):
             raise UsageError(
                 f"{options.url_file}: its first line is no URL as redis://.. or nats://.."
             )
     elif "@" in options.url:
         log.warning("the password on the command line can be read by every account: use --url-file")
+    return options
+
+
+def write_feed(options: Options, check: Check) -> None:
+    options = with_url(options)
     with contextlib.closing(engine_of(options, check)) as engine:
-        keep(reading_of(options), engine, check)
+        keep(options.reading(), engine, check)
         log.info(f"all up to {lsn_text(engine.at)} is written")
-    return 0

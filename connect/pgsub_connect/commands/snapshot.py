@@ -2,23 +2,36 @@
 
 from __future__ import annotations
 
+import argparse
+import dataclasses
 import os
 import sqlite3
-from typing import TYPE_CHECKING
 
 from pgsub_feed import log
 from pgsub_feed.errors import FileError, Passing, Stopped
 from pgsub_feed.files import LOG, copy, placed, remove
 from pgsub_feed.interruption import Check
+from pgsub_feed.program import check_signals
 from pgsub_feed.texts import lsn_text
 
 from ..store.at_rest import at_rest, failed
 from ..store.file import check_store, is_store
 from ..store.placing import check_into
 from ..store.snapshot import fold, position_in
+from .arguments.exit_status import COPIED
+from .arguments.store_copy import StoreCopyOptions, add_store_copy, settled_store_copy
 
-if TYPE_CHECKING:
-    from .options import Options
+ABOUT = "copy a store into one file"
+ENDS = COPIED
+
+
+@dataclasses.dataclass(frozen=True)
+class Options(StoreCopyOptions):
+    """What is copied."""
+
+
+def add_options(parser: argparse.ArgumentParser) -> None:
+    add_store_copy(parser)
 
 
 def is_snapshot(path: str) -> bool:
@@ -36,8 +49,17 @@ def check_copied(store: str, path: str, option: str = "--into") -> None:
     check_into(store, path, is_snapshot, "an earlier copy of a store", option)
 
 
-def run(options: Options, check: Check) -> int:
+def settled(options: Options) -> Options:
+    return settled_store_copy(options)
+
+
+def run(options: Options) -> int:
     """Copies a store; the exit status."""
+    copy_store(settled(options), check_signals())
+    return 0
+
+
+def copy_store(options: Options, check: Check) -> None:
     check_copied(options.store, options.into)
     try:
         with at_rest(options.store, options.into, check) as (path, is_own), placed(
@@ -51,7 +73,6 @@ def run(options: Options, check: Check) -> int:
     if position is None:
         raise FileError(f"{options.store}: the store has no position")
     log.info(f"{options.into}: the rows at {lsn_text(position)}")
-    return 0
 
 
 def put(path: str, new: str, is_own: bool, check: Check) -> None:

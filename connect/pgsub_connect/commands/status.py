@@ -8,16 +8,12 @@ import dataclasses
 import re
 import sys
 import time
-from collections.abc import Callable
-from typing import TYPE_CHECKING, Any
+from collections.abc import Callable, Sequence
+from typing import Any
 
 from pgsub_feed import json_texts, log
 from pgsub_feed.arguments import BYTES, SECONDS, duration
 from pgsub_feed.texts import counted, shortened
-
-if TYPE_CHECKING:
-    from .options import Options
-
 
 ABOUT = """\
 tell how a follower with --status-file is, as a probe does
@@ -26,6 +22,8 @@ It prints one line. The exit status is 0 where all is well; 1 where the follower
 slot, is further behind than --max-lag (or it isn't known how far), has set a table of `rows.db` aside, or, with --strict, has found what
 may have made the copy wrong;
 2 for a usage error; 3 where there is no such file, or it isn't a status file."""
+# (the exit status is in what it is about)
+ENDS = None
 FINE, BAD, NO_FILE = 0, 1, 3
 LAG = re.compile(rf"(\d+(?:\.\d+)?)({'|'.join([*SECONDS, *BYTES])})")
 # Of which kind the fields are that are looked at.
@@ -60,6 +58,16 @@ def lag_limit(text: str) -> Limit:
         if unit in SECONDS
         else Limit(text, "lag_bytes", number * BYTES[unit])
     )
+
+
+@dataclasses.dataclass(frozen=True)
+class Options:
+    """Which file is read, and what is well."""
+
+    status_file: str = ""
+    max_lag: Sequence[Limit] = ()
+    max_age: float = 30.0
+    strict: bool = False
 
 
 def add_options(parser: argparse.ArgumentParser) -> None:
@@ -152,7 +160,7 @@ def text_of(status: dict[str, Any], age: float, wrong: list[str]) -> str:
 
 def run(options: Options) -> int:
     """Prints how the follower is; the exit status."""
-    path = options.status_file or ""
+    path = options.status_file
     try:
         status = read(path)
         age = age_of(status, time.time())

@@ -4,15 +4,17 @@ transaction."""
 from __future__ import annotations
 
 import argparse
+import dataclasses
 import os
 import select
 import sqlite3
-from typing import TYPE_CHECKING
+from collections.abc import Sequence
 
 from pgsub_feed import log
-from pgsub_feed.arguments import plain_name
+from pgsub_feed.arguments import lsn, plain_name
 from pgsub_feed.errors import Stopped
 from pgsub_feed.interruption import Check
+from pgsub_feed.program import check_signals
 from pgsub_feed.reader.reading import Reading
 from pgsub_feed.tables.first_rows import check_file
 from pgsub_feed.tables.following import Wanted, keep
@@ -22,11 +24,11 @@ from pgsub_feed.texts import lsn_text
 
 from ..server.publication_setup import names_of
 from ..store.known_keys import KnownKeys
+from .arguments.exit_status import FED
+from .arguments.files import check_files, use_mode
+from .arguments.texts import check_texts, each
+from .arguments.types import mode
 from .beside import StoreBeside
-
-if TYPE_CHECKING:
-    from .options import Options
-
 
 ABOUT = """\
 keep ordinary tables of SQLite that follow a feed
@@ -35,8 +37,43 @@ FILE gets one table for each published table, and keeps the LSN of the last comm
 read it meanwhile, and sees whole commits. It is gone on with where it is there; a new one begins with the feed's first commit, or with
 the rows of an export.
 """
+ENDS = FED
 # The exit status where tables are set aside.
 LEFT = 1
+
+
+@dataclasses.dataclass(frozen=True)
+class Options:
+    """Which feed is followed, into which file, and up to where."""
+
+    feed: str = ""
+    into: str = ""
+    base: str | None = None
+    store: str = ""
+    init: str | None = None
+    table: Sequence[str] = ()
+    reader: str | None = None
+    digests: bool = False
+    once: bool = False
+    while_input: bool = False
+    at: int | None = None
+    mode: int = 0o600
+
+    def wanted(self) -> Wanted:
+        """What is kept, and the rows that it begins with."""
+        store = self.store or store_at(os.path.abspath(self.feed))
+        reading = Reading(
+            self.feed,
+            tuple(self.table),
+            follows=not self.once,
+            until=self.at,
+            base=self.base,
+            store=StoreBeside(self.store, self.mode) if self.store else None,
+            name=self.reader,
+            mode=self.mode,
+        )
+        keys = KnownKeys(store) if store else None
+        return Wanted(self.into, reading, self.init, self.digests, keys)
 
 
 def add_options(parser: argparse.ArgumentParser) -> None:
@@ -55,6 +92,12 @@ def add_options(parser: argparse.ArgumentParser) -> None:
         default="",
         help="begin with the rows of this store; its follower is asked for a copy",
     )
+    add_kept(parser)
+
+
+def add_kept(parser: argparse.ArgumentParser) -> None:
+    """Options on what the file has, and for how long it follows."""
+    add = parser.add_argument
     add(
         "--init",
         metavar="FILE",
@@ -77,6 +120,11 @@ def add_options(parser: argparse.ArgumentParser) -> None:
         action="store_true",
         help="keep a digest of each table, for `verify`; a file that has them keeps them",
     )
+    add_end(parser)
+
+
+def add_end(parser: argparse.ArgumentParser) -> None:
+    """Options on for how long it follows."""
     whole = parser.add_mutually_exclusive_group().add_argument
     whole(
         "--follow",
@@ -88,6 +136,35 @@ def add_options(parser: argparse.ArgumentParser) -> None:
     whole(
         "--once", dest="once", action="store_true", help="end once all that is there is in the file"
     )
+    parser.add_argument(
+        "--while-input", action="store_true", help="end once standard input ends, too"
+    )
+    parser.add_argument(
+        "--at",
+        type=lsn,
+        metavar="LSN",
+        help="the tables as of this LSN: end before the first commit above it, or go back to there",
+    )
+    parser.add_argument(
+        "--mode",
+        type=mode,
+        default=0o600,
+        metavar="OCTAL",
+        help="mode of a file that is made (default: 600)",
+    )
+
+
+def check_options(parser: argparse.ArgumentParser, options: Options) -> Options:
+    """The tables as of an LSN end there."""
+    return dataclasses.replace(options, once=options.once or options.at is not None)
+
+
+def settled(options: Options) -> Options:
+    files = {"--init": options.init, "--base": options.base}
+    check_files(options.store, {"--into": options.into}, files)
+    check_texts(each("--table", options.table))
+    use_mode(options.mode)
+    return options
 
 
 def ending_with_input(check: Check) -> Check:
@@ -101,30 +178,18 @@ def ending_with_input(check: Check) -> Check:
     return look
 
 
-def wanted_of(options: Options) -> Wanted:
-    store = options.store or store_at(os.path.abspath(options.feed))
-    reading = Reading(
-        options.feed,
-        tuple(options.table),
-        follows=not options.once,
-        until=options.at,
-        base=options.base,
-        store=StoreBeside(options.store, options.mode) if options.store else None,
-        name=options.reader,
-        mode=options.mode,
-    )
-    keys = KnownKeys(store) if store else None
-    return Wanted(options.into, reading, options.init, options.digests, keys)
-
-
-def run(options: Options, check: Check) -> int:
+def run(options: Options) -> int:
     """Follows a feed; the exit status."""
+    return follow_feed(settled(options), check_signals())
+
+
+def follow_feed(options: Options, check: Check) -> int:
     if options.while_input:
         check = ending_with_input(check)
     check_sqlite()
     check_file(options.into)
     try:
-        at, left = keep(wanted_of(options), check)
+        at, left = keep(options.wanted(), check)
     except sqlite3.Error as error:
         raise failed(error, options.into) from None
     log.info(f"{options.into}: the rows at {lsn_text(at)}")

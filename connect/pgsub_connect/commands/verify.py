@@ -1,159 +1,178 @@
-"""`pgsub-connect verify`: compares the copy of a running follower with its server, both as they
-were at one LSN.
-
-Of each table the sums of the module `verify.digests` are compared, chunk by chunk. Of chunks that
-differ, as many as rows are to be shown, the rows are read on both sides in the order of their keys,
-and those that differ are printed, a JSON object on each line. A value of more than some hundred
-characters is cut, and its length and hash are told.
-
-With `--repair` the tables that differ are then compared once more, and what differs is mended, as
-the module `verify.repair_rows` says.
-"""
+"""`pgsub-connect verify`: compares the copy of a running follower with its server, or tables that
+follow a feed with the server or another such file."""
 
 from __future__ import annotations
 
-import contextlib
-import hashlib
-import itertools
-import json
+import argparse
+import dataclasses
 import sqlite3
-import time
-from collections.abc import Callable, Collection, Iterable, Iterator, Mapping
-from typing import TYPE_CHECKING
+from collections.abc import Callable, Sequence
 
 from pgsub_feed import log
 from pgsub_feed.errors import FileError, Passing, Stopped, Unfit
 from pgsub_feed.interruption import Check
-from pgsub_feed.tables.row_texts import Field, Fields, fields_in
+from pgsub_feed.program import check_signals
 from pgsub_feed.tables.values import Malformed
-from pgsub_feed.texts import counted, lsn_text
 
-from ..drift.remembered import Remembered
-from ..errors import Delayed, Unrepaired
-from ..server.connection import parameters
-from ..server.publication_setup import names_of
-from ..server.publications import Table, sizes_of
-from ..server.session import waits_for
-from ..store.at_rest import check_there, is_followed
-from ..store.checkpoint_lines import Known
-from ..stream.gate import CURE, TABLE
-from ..verify.digests import NotText, Plan, Sums
-from ..verify.meeting_point import Request, Source
-from ..verify.repair_rows import Changes, Mender
-from ..verify.sides import Copy, Group, Sides
+from ..errors import Unrepaired
+from ..verify.comparison import DIFFERENT, EQUAL, Compared
+from ..verify.digests import NotText
+from ..verify.store import StoreComparison, compare, repair
+from ..verify.tables_comparison import TablesComparison
+from ..verify.tables_file import compare_tables, store_of
 from . import add
-from .drop import read_known
+from .arguments.files import check_files, use_mode
+from .arguments.server import (
+    ServerOptions,
+    TrustOptions,
+    add_server,
+    add_trust,
+    settled_server,
+    trust_store,
+)
+from .arguments.texts import each
+from .arguments.types import within, within_seconds
 
-if TYPE_CHECKING:
-    from .options import Options
+ABOUT = "compare the copy of a follower that runs with its server, both at one LSN"
+ENDS = """\
+exit status: 0 equal, or repaired; 1 the copy differs; 8 the server made no slot in time, so nothing was compared; 2 to 7 as those of `follow`
+"""
 
 
-EQUAL, DIFFERENT = 0, 1
-# How often tables are compared once more that others have truncated, altered or locked meanwhile.
-AGAIN = 1
-# How much of a value is shown.
-SHOWN = 300
-# How often a repair is tried for which commits have to wait, and after how many seconds each.
-TRIES, PAUSE = 3, 2.0
+@dataclasses.dataclass(frozen=True)
+class Options(ServerOptions, TrustOptions):
+    """What is compared, and what is told of it."""
+
+    store: str = ""
+    tables: str = ""
+    other: str = ""
+    feed: str = ""
+    digests: bool = False
+    table: Sequence[str] = ()
+    repair: bool = False
+    show: int = 20
+    hold: float = 10.0
+
+    def store_comparison(self) -> StoreComparison:
+        return StoreComparison(self.subscription(), self.store, self.hold, self.show)
+
+    def tables_comparison(self) -> TablesComparison:
+        return TablesComparison(
+            self.subscription(),
+            self.tables,
+            self.other,
+            self.store,
+            self.feed,
+            self.digests,
+            self.table,
+            self.hold,
+            self.show,
+        )
 
 
-def shown(field: Field) -> str | None:
-    """A value as it is printed."""
-    if field is None:
-        return None
-    text = field.decode(errors="backslashreplace")
-    if len(text) <= SHOWN:
-        return text
-    return (
-        f"{text[:SHOWN]}.. ({len(field)} bytes, SHA-256 {hashlib.sha256(field).hexdigest()[:16]})"
+def add_options(parser: argparse.ArgumentParser) -> None:
+    add_server(parser)
+    add_trust(parser)
+    add = parser.add_argument
+    add(
+        "--store",
+        metavar="FILE",
+        default="",
+        help="the store, which has to be followed meanwhile; with --tables whose publications are meant (default: that of the feed STORE.feed)",
+    )
+    add(
+        "--tables",
+        metavar="FILE",
+        default="",
+        help="compare these tables that follow a feed, and hold nothing meanwhile",
+    )
+    add(
+        "--with",
+        dest="other",
+        metavar="FILE",
+        default="",
+        help="compare --tables with those of this file, and not with the server",
+    )
+    add(
+        "--feed",
+        metavar="FOLDER",
+        default="",
+        help="the feed of --tables (default: the one that the file follows)",
+    )
+    add(
+        "--digests",
+        action="store_true",
+        help="compare the digests that --tables keep, and read rows only where they differ",
+    )
+    add_told(add)
+
+
+def add_told(add: Callable[..., object]) -> None:
+    """Options on which tables are compared, and what becomes of what differs."""
+    add(
+        "--table",
+        action="append",
+        default=[],
+        help="compare this table, may be repeated (default: all that are published)",
+    )
+    add(
+        "--repair",
+        action="store_true",
+        help="have the follower mend the rows that differ, or copy a table anew of which many do",
+    )
+    add(
+        "--show",
+        type=within(0, 1 << 20),
+        default=20,
+        metavar="N",
+        help="print at most N keys that differ (default: 20)",
+    )
+    add(
+        "--hold",
+        type=within_seconds(600.0),
+        default=10.0,
+        metavar="N",
+        help="wait for at most N seconds until the server has made a slot, and hold the stream to a store meanwhile (default: 10)",
     )
 
 
-class Verifier:
-    """Compares the tables one after the other."""
-
-    def __init__(self, options: Options, sides: Sides) -> None:
-        self.options, self.sides = options, sides
-        self.left = options.show
-        self.rows = 0
-        # the tables that differ
-        self.different: list[Table] = []
-
-    def run(self, tables: list[Table]) -> bool:
-        """Compares all of these. Returns whether they are equal."""
-        plans = [self.sides.plan(it) for it in tables if self.has_columns(it)]
-        ours = self.sides.copy.sums(plans)
-        equal = {it.table.oid for it in plans if self.is_equal(it, ours[it.table.oid])}
-        self.different = [it for it in tables if it.oid not in equal]
-        return not self.different
-
-    def has_columns(self, table: Table) -> bool:
-        """Whether a table has the same columns on both sides; tells where it hasn't."""
-        if self.sides.has_columns(table):
-            return True
-        there, here = [it.name for it in table.columns], self.sides.copy.columns(table)
-        self.tell({"table": table.text(), "columns": dict(zip(self.sides.names, (there, here)))})
-        one, two = self.sides.places
-        log.warning(
-            f"{table.text()}: it has other columns {one} than {two}, so its rows aren't compared"
+def check_options(parser: argparse.ArgumentParser, options: Options) -> Options:
+    """Rejects options that don't go together."""
+    if not (options.store or options.tables):
+        parser.error("--store or --tables is needed")
+    for given, name in (
+        (options.other, "with"),
+        (options.feed, "feed"),
+        (options.digests, "digests"),
+    ):
+        if given and not options.tables:
+            parser.error(f"--{name} needs --tables")
+    if options.tables and options.repair:
+        parser.error(
+            "--repair is for a store: rows of --tables come anew by `pgsub-connect add --store STORE --table T`"
         )
-        return False
-
-    def is_equal(self, plan: Plan, ours: Sums) -> bool:
-        """Compares a table, and tells what differs."""
-        theirs = self.sides.sums(plan)
-        self.rows += theirs.total()
-        chunks = theirs.differing(ours)
-        if not chunks:
-            return True
-        one, two = self.sides.places
-        text = f"{plan.table.text()}: {counted(theirs.total(), 'row')} {one}, {ours.total()} {two}"
-        log.warning(f"{text}; {len(chunks)} of {counted(plan.chunks, 'chunk')} differ")
-        if self.left > 0:
-            # (each of them has a row to show)
-            self.show(plan, chunks[: self.left])
-        return False
-
-    def show(self, plan: Plan, chunks: list[int]) -> None:
-        """Prints the rows of some chunks that differ, as many as may be shown."""
-        found = 0
-        for key, theirs, ours in self.sides.differing(plan, chunks):
-            found += 1
-            if self.left > 0:
-                self.left -= 1
-                self.show_key(plan, key, theirs - ours, ours - theirs)
-        log.info(
-            f"{plan.table.text()}: {counted(found, 'key' if plan.key else 'row')} in {counted(len(chunks), 'chunk')} differ"
-        )
-
-    def show_key(self, plan: Plan, key: bytes, theirs: Group, ours: Group) -> None:
-        """Prints what each side has of a key that the other hasn't."""
-        names = [it.name for it in plan.table.columns]
-
-        def row(fields: Fields) -> dict[str, str | None]:
-            return dict(zip(names, map(shown, fields), strict=True))
-
-        if not plan.key:
-            more = {it: sum(group.values()) for it, group in zip(self.sides.more, (theirs, ours))}
-            self.tell({"table": plan.table.text(), "row": row(fields_in(key)), **more})
-            return
-        about = dict(zip((names[it] for it in plan.key), map(shown, fields_in(key)), strict=True))
-        for one, two in itertools.zip_longest(theirs.elements(), ours.elements()):
-            there, here = (None if it is None else row(fields_in(it)) for it in (one, two))
-            self.tell(
-                {
-                    "table": plan.table.text(),
-                    "key": about,
-                    **dict(zip(self.sides.names, (there, here))),
-                }
-            )
-
-    def tell(self, line: dict[str, object]) -> None:
-        print(log.escaped(json.dumps(line, ensure_ascii=False)), flush=True)
+    return options
 
 
-def run(options: Options, check: Check) -> int:
+def settled(options: Options) -> Options:
+    """The options with what they leave out."""
+    check_files(options.store, {}, {"--dsn-file": options.dsn_file})
+    store = options.store or (store_of(options.tables) if options.tables else "")
+    options = settled_server(options, store, told=each("--table", options.table))
+    use_mode(options.mode)
+    return dataclasses.replace(options, store=store)
+
+
+def run(options: Options) -> int:
     """Compares; the exit status."""
+    options = settled(options)
+    trust_store(options.store, options.accept)
+    return compare_all(options, check_signals())
+
+
+def compare_all(options: Options, check: Check) -> int:
+    if options.tables:
+        return compare_tables(options.tables_comparison(), check)
     try:
         return verify(options, check)
     except Stopped:
@@ -171,176 +190,23 @@ def run(options: Options, check: Check) -> int:
 
 
 def verify(options: Options, check: Check) -> int:
-    found = Compared()
-    compare(options, lambda it: it.chosen(options.table), found, check)
-    for _ in range(AGAIN):
-        if found.left:
-            log.info(f"compared once more: {found.names()}")
-            compare(options, among(list(found.left)), found, check)
+    found, comparison = Compared(), options.store_comparison()
+    for choose in found.tries(lambda it: it.chosen(list(options.table))):
+        compare(comparison, choose, found, check)
     status = DIFFERENT if found.different else EQUAL
     if found.different and options.repair:
-        status = repaired(options, found, check)
+        status = repaired(options, comparison, found, check)
     return found.ended(status)
 
 
-class Compared:
-    """What comparisons have found. `left`: by OID the tables that weren't compared, and why."""
-
-    def __init__(self) -> None:
-        self.different: list[Table] = []
-        self.left: dict[int, str] = {}
-
-    def names(self) -> str:
-        return names_of(list(self.left.values()))
-
-    def ended(self, status: int) -> int:
-        """The exit status: where not all was compared it isn't that of equal tables."""
-        if self.left and status == EQUAL:
-            raise Passing(f"not compared: {self.names()}: compare later, or the others by --table")
-        if self.left:
-            log.warning(f"not compared: {self.names()}")
-        return status
-
-
-def left_of(chosen: Iterable[Table], why: Mapping[int, str]) -> dict[int, str]:
-    """Those of chosen tables that can't be compared now, in words."""
-    return {it.oid: f"{it.text()} was {why[it.oid]} meanwhile" for it in chosen if it.oid in why}
-
-
-def among(oids: Collection[int]) -> Callable[[Source], list[Table]]:
-    return lambda source: [it for it in source.tables if it.oid in oids]
-
-
-def repaired(options: Options, found: Compared, check: Check) -> int:
+def repaired(options: Options, comparison: StoreComparison, found: Compared, check: Check) -> int:
     try:
-        left = repair(options, found, check)
+        left = repair(comparison, found, check)
     except Unrepaired as error:
         log.error(str(error))
         return DIFFERENT
-    return add.add(options, {it.oid: it.text() for it in left}, check) if left else EQUAL
-
-
-def compare(
-    options: Options, choose: Callable[[Source], list[Table]], found: Compared, check: Check
-) -> None:
-    """Compares, and tells what differs."""
-    with met(options, choose, check) as (sides, chosen, _, point):
-        found.left = left_of(chosen, sides.source.left)
-        tables = [it for it in chosen if it.oid not in found.left]
-        tell_left(sides)
-        verifier = Verifier(options, sides)
-        is_equal = verifier.run(tables)
-    text = f"{counted(len(tables), 'table')}, {counted(verifier.rows, 'row')} on the server at {lsn_text(point)}"
-    log.info(f"{text}: {'equal' if is_equal else 'the copy differs'}")
-    found.different += verifier.different
-
-
-def repair(options: Options, found: Compared, check: Check) -> list[Table]:
-    """Repairs, at another try where commits had to wait for too long."""
-    for _ in range(TRIES - 1):
-        try:
-            return repair_once(options, found, check)
-        except Delayed as error:
-            log.warning(f"{error}: it is tried again")
-            pause(PAUSE, check)
-    return repair_once(options, found, check)
-
-
-def pause(seconds: float, check: Check) -> None:
-    until = time.monotonic() + seconds
-    while time.monotonic() < until:
-        check()
-        time.sleep(0.1)
-
-
-def repair_once(options: Options, found: Compared, check: Check) -> list[Table]:
-    """Compares tables once more, while the stream is held, and has the changes passed on. Returns
-    those that are to be copied anew."""
-    with met(options, among([it.oid for it in found.different]), check, repairs=True) as (
-        sides,
-        chosen,
-        request,
-        point,
-    ):
-        left = left_of(chosen, sides.source.left)
-        found.left.update(left)
-        with contextlib.closing(Changes(request.changes(), options.store)) as changes:
-            mender = Mender(sides, changes, bool(Remembered(options.store).feed))
-            mender.run([it for it in chosen if it.oid not in left])
-        if mender.written:
-            request.pass_on(list(mender.written))
-            log.info(f"repaired at {lsn_text(point)}: {mender.text()}")
-    return mender.left
-
-
-# A server and a copy, the tables that are looked at, the request, and the LSN.
-Met = tuple[Sides, list[Table], Request, int]
-
-
-@contextlib.contextmanager
-def met(
-    options: Options, choose: Callable[[Source], list[Table]], check: Check, repairs: bool = False
-) -> Iterator[Met]:
-    """Brings server and copy to one LSN. `repairs`: there the stream stays held."""
-    check_there(options.store)
-    known = read_known(options.store + ".connector")
-    options.slot = known.slot or options.slot
-    with contextlib.ExitStack() as stack:
-        request = stack.enter_context(
-            contextlib.closing(Request(options.store, options.hold, check, repairs))
-        )
-        if not is_followed(options.store):
-            raise request.ended()
-        source = stack.enter_context(contextlib.closing(Source(options, known, check)))
-        tables = settled(choose(source), known, Remembered(options.store).partial)
-        if repairs:
-            check_sizes(options, source, tables)
-        point = meet(request, source, options.hold)
-        copy = stack.enter_context(
-            contextlib.closing(Copy(request.copied(), options.store, point, check))
-        )
-        yield Sides(source, copy), tables, request, point
-
-
-def check_sizes(options: Options, source: Source, tables: list[Table]) -> None:
-    """Rejects a repair for which commits at the server would wait for too long, before any does."""
-    name = parameters(options.dsn).get("application_name") or options.slot
-    if not waits_for(source.standbys(), name):
-        return
-    size = sum(sizes_of(source.plain, tables).values())
-    if size > TABLE:
-        raise Unrepaired(
-            f"{names_of([it.text() for it in tables])}: {size} bytes would be compared while commits"
-            f" at the server wait for the follower, so no row is repaired: {CURE}"
-        )
-
-
-def settled(tables: list[Table], known: Known, partial: Collection[int] = ()) -> list[Table]:
-    """Tables none of which is being added, since of such a one the copy has no state of the
-    server."""
-    if going := [it.text() for it in tables if str(it.oid) in known.adding or it.oid in partial]:
-        raise Passing(
-            f"being added just now, or refused: {names_of(going)}: nothing was compared. Wait for it, or choose others by --table"
-        )
-    return tables
-
-
-def meet(request: Request, source: Source, seconds: float) -> int:
-    """Has the server seen, and the copy taken, at one LSN, which is returned. The stream is held
-    until that is known."""
-    request.hold(source.maker(), source.standbys())
-    point, snapshot = source.make_slot(seconds)
-    request.tell(point)
-    source.see(snapshot, leaves=True)
-    return point
-
-
-def tell_left(sides: Sides) -> None:
-    """Tells which rows of the copy aren't compared."""
-    if left := [
-        it for it in sides.copy.left(sides.source.tables) if it.oid not in sides.source.left
-    ]:
-        names = names_of([it.text() for it in left])
-        log.info(
-            f"the copy has rows of {counted(len(left), 'table')} that the publications don't have now: {names}"
-        )
+    return (
+        add.add(options.store, options.mode, {it.oid: it.text() for it in left}, check)
+        if left
+        else EQUAL
+    )

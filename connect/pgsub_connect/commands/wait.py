@@ -4,33 +4,43 @@ from __future__ import annotations
 
 import argparse
 import contextlib
+import dataclasses
 import os
 import sqlite3
 import time
-from typing import TYPE_CHECKING
 
-from pgsub_feed.arguments import duration
+from pgsub_feed.arguments import duration, lsn
 from pgsub_feed.errors import FileError, Passing, Stopped
 from pgsub_feed.interruption import Check
+from pgsub_feed.program import check_signals
 from pgsub_feed.reader.segments import Reader, read_confirmed
-from pgsub_feed.tables.names import POSITION
-from pgsub_feed.tables.schema import read_folder
-from pgsub_feed.tables.sqlite_files import is_tables, opened
-from pgsub_feed.texts import lsn_text, parse_lsn
+from pgsub_feed.tables.position import read_position
+from pgsub_feed.tables.sqlite_files import is_tables
+from pgsub_feed.texts import lsn_text
 
-if TYPE_CHECKING:
-    from .options import Options
-
+from .arguments.exit_status import FED
 
 ABOUT = """\
 wait until tables that follow a feed have all that was committed up to an LSN
 
 Who has written reads it by: SELECT pg_current_wal_insert_lsn(). It ends with status 0, or with 7 where that took too long.
 """
+ENDS = FED
 LOOK = 0.02
 
 
+@dataclasses.dataclass(frozen=True)
+class Options:
+    """What is waited for, in which file, and for how long."""
+
+    lsn: int = 0
+    tables: str = ""
+    feed: str | None = None
+    within: float = 60.0
+
+
 def add_options(parser: argparse.ArgumentParser) -> None:
+    parser.add_argument("lsn", type=lsn, metavar="LSN", help="what is waited for")
     add = parser.add_argument
     add("--tables", metavar="FILE", required=True, help="the file with the tables")
     add("--feed", metavar="FOLDER", help="the feed (default: the one that the file follows)")
@@ -43,12 +53,6 @@ def add_options(parser: argparse.ArgumentParser) -> None:
     )
 
 
-def read_file(path: str) -> tuple[int, str]:
-    """The LSN of a file of tables, and the folder of its feed."""
-    with contextlib.closing(opened(path)) as db:
-        return parse_lsn(db.execute(f"SELECT lsn FROM {POSITION}").fetchone()[0]), read_folder(db)
-
-
 class Awaited:
     """All that was committed up to an LSN. A feed says that it has all of it, and then where the
     last commit of it ends."""
@@ -58,7 +62,7 @@ class Awaited:
         self.end: int | None = None
 
     def is_there(self) -> bool:
-        at, folder = read_file(self.path)
+        at, folder = read_position(self.path)
         if at < self.lsn and self.end is None:
             self.look(self.feed or folder, at)
         return at >= (self.lsn if self.end is None else self.end)
@@ -74,8 +78,13 @@ class Awaited:
                 self.end = commit.end
 
 
-def run(options: Options, check: Check) -> int:
+def run(options: Options) -> int:
     """Waits; the exit status."""
+    wait(options, check_signals())
+    return 0
+
+
+def wait(options: Options, check: Check) -> None:
     path, lsn = options.tables, options.lsn
     if not os.path.isfile(path):
         raise FileError(f"there is no file {path}")
@@ -90,11 +99,10 @@ def run(options: Options, check: Check) -> int:
             except Stopped:
                 raise Passing(f"ended before {path} has reached {lsn_text(lsn)}") from None
             if time.monotonic() > until:
-                at = lsn_text(read_file(path)[0])
+                at = lsn_text(read_position(path)[0])
                 raise Passing(
                     f"{path} is at {at}, and {lsn_text(lsn)} wasn't reached in {options.within:g} seconds"
                 )
             time.sleep(LOOK)
     except sqlite3.Error as error:
         raise FileError(f"{path}: {error}") from None
-    return 0

@@ -13,7 +13,7 @@ import struct
 from collections.abc import Sequence
 
 from ..errors import WrongAnswer
-from ..server.publications import Table
+from ..server.catalog import Table
 
 NULL = b"\\N"
 ESCAPES = {b"\\b": b"\b", b"\\f": b"\f", b"\\n": b"\n", b"\\r": b"\r", b"\\t": b"\t", b"\\v": b"\v"}

@@ -19,20 +19,17 @@ import os
 import threading
 import time
 from collections.abc import Iterator
-from typing import TYPE_CHECKING
 
 from pgsub_feed import log
 from pgsub_feed.texts import literal
 
 from ..errors import ServerError
+from ..server.catalog import Table
 from ..server.connection import Connection
-from ..server.publications import Table, are_so_named, stored_in
+from ..server.publications import are_so_named, stored_in
 from ..server.session import settle
+from ..server.subscription import Subscription
 from .messages import InsertHeads, frame, inserts, relation
-
-if TYPE_CHECKING:
-    from ..commands.options import Options
-
 
 # How many bytes a part has about, how many are encoded at a time, and how many parts of a
 # connection wait at most.
@@ -50,10 +47,20 @@ class Part:
     follow."""
 
     table: Table
-    frames: list[bytes]
-    rows: int
-    longest: int
-    is_last: bool
+    frames: list[bytes] = dataclasses.field(default_factory=list)
+    rows: int = 0
+    longest: int = 0
+    size: int = 0
+    is_last: bool = False
+
+    def add(self, frames: bytes, lines: list[bytes]) -> None:
+        self.frames.append(frames)
+        self.rows += len(lines)
+        self.longest = max(self.longest, len(max(lines, key=len)))
+        self.size += len(frames)
+
+    def end(self) -> None:
+        self.is_last = True
 
 
 @dataclasses.dataclass
@@ -68,63 +75,34 @@ Item = Part | Left
 
 
 class Ended(Exception):
-    """Nobody wants the rows any more."""
+    """Nobody wants more."""
 
 
-class Readers:
-    """The connections, from `begin` to `close`. `stored`: the files of all tables before the
-    snapshot; `looker`: sees what is there now."""
+class Items:
+    """What the connections have read and nobody has taken yet, at most so many. `reads`: the end of a pipe that can be read whenever there is news."""
 
-    def __init__(
-        self,
-        options: Options,
-        snapshot: str,
-        tables: list[Table],
-        stored: dict[int, str | None],
-        looker: Connection,
-    ) -> None:
-        self.options, self.snapshot, self.stored, self.looker = options, snapshot, stored, looker
-        self.lock, self.looking = threading.Condition(), threading.Lock()
-        self.left = collections.deque(tables)
-        # by the OID of a table: when it was tried last, and since when it is known to be locked by
-        # somebody else
-        self.tried: dict[int, float] = {}
-        self.locked: dict[int, float] = {}
+    def __init__(self, most: int) -> None:
+        self.most, self.lock = most, threading.Condition()
         self.items: collections.deque[Item] = collections.deque()
         self.failure: BaseException | None = None
-        self.ended, self.working = False, 0
+        self.has_ended, self.writers = False, 0
         self.reads, self.wakes = os.pipe()
         os.set_blocking(self.reads, False)
-        self.threads = [
-            threading.Thread(target=self.work, daemon=True)
-            for _ in range(max(1, min(options.jobs, len(tables))))
-        ]
 
-    def begin(self) -> None:
-        self.working = len(self.threads)
-        for it in self.threads:
-            it.start()
+    # who takes
 
-    def close(self) -> None:
-        with self.lock:
-            self.ended = True
-            self.lock.notify_all()
-        for it in self.threads:
-            if it.ident is not None:
-                it.join()
-        for end in (self.reads, self.wakes):
-            os.close(end)
-
-    # the main thread
+    def begin(self, writers: int) -> None:
+        """So many threads are about to begin."""
+        self.writers = writers
 
     def has_news(self) -> bool:
         """Whether something can be taken, or all is over."""
         with contextlib.suppress(BlockingIOError):
             os.read(self.reads, 1 << 12)
-        return bool(self.items or self.failure or not self.working)
+        return bool(self.items or self.failure or not self.writers)
 
     def take(self) -> Item | None:
-        """What came next, None after the last. Raises what a connection ended with."""
+        """What came next, None where there is nothing now. Raises what a thread ended with."""
         with self.lock:
             if self.failure:
                 raise self.failure
@@ -134,40 +112,40 @@ class Readers:
             self.lock.notify_all()
             return item
 
-    # the others
+    def end(self) -> None:
+        """Nothing more is taken: each thread ends."""
+        with self.lock:
+            self.has_ended = True
+            self.lock.notify_all()
 
-    def work(self) -> None:
-        """One connection: one table after the other."""
+    def close(self) -> None:
+        for end in (self.reads, self.wakes):
+            os.close(end)
+
+    # the threads
+
+    @contextlib.contextmanager
+    def writer(self) -> Iterator[None]:
+        """What a thread does. What it raises is raised where items are taken."""
         try:
-            connection = Connection(
-                self.options.dsn, name=f"{self.options.slot} copy", check=self.check
-            )
-            with contextlib.closing(connection):
-                settle(connection)
-                connection.run("SET row_security = off")
-                while table := self.next_table():
-                    for item in self.read(connection, table):
-                        self.put(item)
+            yield
         except Ended:
             pass
         except BaseException as error:
             self.failure = self.failure or error
         finally:
             with self.lock:
-                self.working -= 1
+                self.writers -= 1
             self.wake()
 
     def check(self) -> None:
-        if self.ended:
+        if self.has_ended:
             raise Ended
 
-    def next_table(self) -> Table | None:
-        with self.lock:
-            return self.left.popleft() if self.left and not self.ended else None
-
     def put(self, item: Item) -> None:
+        """Adds one, once there is room."""
         with self.lock:
-            while len(self.items) >= AHEAD * len(self.threads) and not self.ended:
+            while len(self.items) >= self.most and not self.has_ended:
                 self.lock.wait()
             self.check()
             self.items.append(item)
@@ -175,6 +153,63 @@ class Readers:
 
     def wake(self) -> None:
         os.write(self.wakes, b"x")
+
+
+class Readers:
+    """The connections, from `begin` to `close`. `stored`: the files of all tables before the
+    snapshot; `looker`: sees what is there now."""
+
+    def __init__(
+        self,
+        subscription: Subscription,
+        jobs: int,
+        snapshot: str,
+        tables: list[Table],
+        stored: dict[int, str | None],
+        looker: Connection,
+    ) -> None:
+        self.subscription, self.snapshot = subscription, snapshot
+        self.stored, self.looker, self.looking = stored, looker, threading.Lock()
+        self.left = collections.deque(tables)
+        # by the OID of a table: when it was tried last, and since when it is known to be locked by
+        # somebody else
+        self.tried: dict[int, float] = {}
+        self.locked: dict[int, float] = {}
+        self.threads = [
+            threading.Thread(target=self.work, daemon=True)
+            for _ in range(max(1, min(jobs, len(tables))))
+        ]
+        self.items = Items(AHEAD * len(self.threads))
+
+    def begin(self) -> None:
+        self.items.begin(len(self.threads))
+        for it in self.threads:
+            it.start()
+
+    def close(self) -> None:
+        self.items.end()
+        for it in self.threads:
+            if it.ident is not None:
+                it.join()
+        self.items.close()
+
+    # what each thread does
+
+    def work(self) -> None:
+        """One connection: one table after the other."""
+        name = f"{self.subscription.slot} copy"
+        with self.items.writer(), contextlib.closing(
+            Connection(self.subscription.dsn, name=name, check=self.items.check)
+        ) as connection:
+            settle(connection)
+            connection.run("SET row_security = off")
+            while table := self.next_table():
+                for item in self.read(connection, table):
+                    self.items.put(item)
+
+    def next_table(self) -> Table | None:
+        with self.items.lock:
+            return self.left.popleft() if self.left and not self.items.has_ended else None
 
     def read(self, connection: Connection, table: Table) -> Iterator[Item]:
         """The parts of a table; nothing where it is locked by somebody else, and comes later."""
@@ -191,12 +226,12 @@ class Readers:
         if why:
             yield Left(table, why)
             return
-        with self.lock:
+        with self.items.lock:
             self.left.append(table)
 
     def rest(self, until: float) -> None:
         while (left := until - time.monotonic()) > 0:
-            self.check()
+            self.items.check()
             time.sleep(min(left, LOOK))
 
     def lock_table(self, connection: Connection, table: Table) -> str | None:
@@ -233,18 +268,13 @@ class Readers:
 def parts_of(connection: Connection, table: Table) -> Iterator[Part]:
     """All rows of a table, in parts. An LSN that is 0 in XLogData says nothing."""
     heads = InsertHeads(table, 0)
-    part = Part(table, [frame(0, relation(table))], 0, 0, False)
-    size = 0
+    part = Part(table, [frame(0, relation(table))])
     for lines in connection.copied_blocks(table.query(), BLOCK):
-        if size >= PART:
+        if part.size >= PART:
             yield part
-            part, size = Part(table, [], 0, part.longest, False), 0
-        block = inserts(lines, heads)
-        part.frames.append(block)
-        part.rows += len(lines)
-        part.longest = max(part.longest, len(max(lines, key=len)))
-        size += len(block)
-    part.is_last = True
+            part = Part(table, longest=part.longest)
+        part.add(inserts(lines, heads), lines)
+    part.end()
     yield part
 
 

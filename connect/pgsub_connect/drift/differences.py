@@ -15,30 +15,21 @@ from __future__ import annotations
 import itertools
 import re
 from collections.abc import Iterable, Iterator
-from typing import NamedTuple
-
-from pgsub_feed.relation import Shape
 
 from ..server.catalog import ACTIONS, Catalog, Part, Partition, Publication, Table
-from .findings import NOTHING, About
+from .findings import PUBLICATION, VALUES, About, Difference
+from .partition_differences import (
+    UNLOGGED,
+    is_made_in,
+    logging_differences,
+    partition_differences,
+    root_of,
+)
+from .shape_differences import shape_differences, type_differences
 
-NAMES, PUBLICATION, VALUES = "names", "publication", "values"
-KINDS = (NAMES, PUBLICATION, VALUES)
 TRUNCATE = ACTIONS[3]
-# What is said of a table or partition that is new, and unlogged or foreign.
-UNLOGGED = "Its changes are in no log, so its rows aren't in the copy"
 # Who has put a table into a schema, as `ways_to` has it.
 PUT = re.compile("@[0-9]+")
-# How many columns, labels and the like a text names.
-NAMED = 20
-
-
-class Difference(NamedTuple):
-    """One of them. A kind of "" says that nothing can be wrong because of it."""
-
-    kind: str
-    text: str
-    about: About = NOTHING
 
 
 def differences(before: Catalog, now: Catalog) -> Iterator[Difference]:
@@ -96,49 +87,41 @@ def table_differences(oid: int, before: Catalog, now: Catalog) -> Iterator[Diffe
     old, new = before.tables.get(oid), now.tables.get(oid)
     if old is None and new is not None:
         if oid in before.partitions:
-            text = f"partition {new.text()} is sent under its own name now: the rows that it had don't change"
+            text = f"partition {new.text_with_oid()} is sent under its own name now: the rows that it had don't change"
             yield Difference(PUBLICATION, text, About((oid,)))
         elif not new.logged:
-            yield Difference("", f"table {new.text()} is new. {UNLOGGED}")
+            yield Difference("", f"table {new.text_with_oid()} is new. {UNLOGGED}")
         elif is_complete(new, before, now):
-            yield Difference("", f"table {new.text()} is new, and followed from its first row on")
+            yield Difference(
+                "", f"table {new.text_with_oid()} is new, and followed from its first row on"
+            )
         else:
-            text = f"table {new.text()} joined: the rows that it had before are missing"
+            text = f"table {new.text_with_oid()} joined: the rows that it had before are missing"
             yield Difference(PUBLICATION, text, About((oid,), is_missing=True))
     elif new is None and old is not None:
         if oid in now.partitions and root_of(oid, now):
-            text = f"partition {old.text()} is sent under another name now: the rows that it had don't change"
+            text = f"partition {old.text_with_oid()} is sent under another name now: the rows that it had don't change"
             yield Difference(PUBLICATION, text, About((oid,), gone=f"{old.namespace}.{old.name}"))
         else:
             yield gone(oid, f"{old.namespace}.{old.name}")
     elif old is not None and new is not None:
-        yield from logging_differences(f"table {new.text()}", (oid,), old.logged, new.logged)
+        yield from logging_differences(
+            f"table {new.text_with_oid()}", (oid,), old.logged, new.logged
+        )
         parts = (
             part_differences(new, old.parts[name], new.parts[name])
             for name in sorted(old.parts.keys() & new.parts.keys())
         )
         told = [*itertools.chain.from_iterable(parts), *sent_differences(old, new, before, now)]
         if not told and has_left(old, new, before, now):
-            text = f"table {new.text()} left and joined again: changes in between weren't sent"
+            text = f"table {new.text_with_oid()} left and joined again: changes in between weren't sent"
             told.append(Difference(PUBLICATION, text, About((oid,))))
         yield from told
-        shapes = list(shape_differences(oid, new.text(), old.shape, new.shape))
+        shapes = list(shape_differences(oid, new.text_with_oid(), old.shape, new.shape))
         if not shapes and is_computed_anew(oid, before, now):
-            text = f"table {new.text()} was written anew, and columns of it were altered: values that were there may be others now"
+            text = f"table {new.text_with_oid()} was written anew, and columns of it were altered: values that were there may be others now"
             shapes.append(Difference(VALUES, text, About((oid,))))
         yield from shapes
-
-
-def logging_differences(
-    name: str, tables: tuple[int, ...], old: bool, new: bool
-) -> Iterator[Difference]:
-    """Whether changes are in the log, of what its rows were copied or not."""
-    if old and not new:
-        text = f"{name} is unlogged now: its changes aren't sent, and the rows that it had stay as they were"
-        yield Difference(PUBLICATION, text, About(tables))
-    elif new and not old:
-        text = f"{name} was unlogged, and isn't any more: the rows that it had before are missing"
-        yield Difference(PUBLICATION, text, About(tables, is_missing=True))
 
 
 def is_computed_anew(oid: int, before: Catalog, now: Catalog) -> bool:
@@ -210,43 +193,9 @@ def is_complete(table: Table, before: Catalog, now: Catalog) -> bool:
     return False
 
 
-def attached(before: Catalog, now: Catalog) -> dict[int, list[str]]:
-    """The partitions that weren't published, and are by what they were attached to, which was: each
-    with the transactions that have attached it, or what it is in. Rows that are older than these
-    weren't sent."""
-    found = {}
-    for oid, partition in now.partitions.items():
-        if (
-            oid in before.partitions
-            or oid in before.tables
-            or not (partition.leaf and partition.logged)
-            or is_made_in(oid, before, now)
-        ):
-            continue
-        ways, at = [partition.since], partition.parent
-        while at and at not in before.partitions and at in now.partitions:
-            ways.append(now.partitions[at].since)
-            at = now.partitions[at].parent
-        if at in before.partitions and all(ways):
-            found[oid] = ways
-    return found
-
-
-def is_made_in(oid: int, before: Catalog, now: Catalog) -> bool:
-    """Whether a partition was made as one below a partitioned table that was known."""
-    partition = now.partitions.get(oid)
-    while partition is not None:
-        if not partition.made:
-            return False
-        if partition.parent in before.partitions:
-            return True
-        partition = now.partitions.get(partition.parent)
-    return False
-
-
 def part_differences(table: Table, old: Part, new: Part) -> Iterator[Difference]:
     if old.listed != new.listed:
-        text = f"table {table.text()} has another column list: rows that were there have nulls in the columns that joined"
+        text = f"table {table.text_with_oid()} has another column list: rows that were there have nulls in the columns that joined"
         yield Difference(PUBLICATION, text, About((table.oid,)))
 
 
@@ -254,7 +203,7 @@ def sent_differences(old: Table, new: Table, before: Catalog, now: Catalog) -> I
     """What is sent of a table otherwise, by whichever publication. What one of them has altered for
     all its tables is told by that."""
     was, are = ways_of(old, before, now), ways_of(new, now, before)
-    table, about = f"table {new.text()}", About((new.oid,))
+    table, about = f"table {new.text_with_oid()}", About((new.oid,))
     for word in sorted(was.keys() - are.keys(), key=ACTIONS.index):
         yield Difference(
             PUBLICATION, f"{table} has no {word}s any more", about._replace(lacks=word)
@@ -332,156 +281,3 @@ def words_text(words: Iterable[str]) -> str:
     """`inserts, updates and deletes`, in the order in which the server has them."""
     *first, last = (f"{word}s" for word in sorted(words, key=ACTIONS.index))
     return f"{', '.join(first)} and {last}" if first else last
-
-
-def shape_differences(oid: int, table: str, old: Shape, new: Shape) -> Iterator[Difference]:
-    """What of another definition may have changed values in rows that were there. Columns that only
-    went have not."""
-    about = About((oid,))
-    return (Difference(VALUES, text, about) for text in shape_texts(table, old, new))
-
-
-def shape_texts(table: str, old: Shape, new: Shape) -> Iterator[str]:
-    was = {it.name: it for it in old.columns}
-    for column in new.columns:
-        same = was.get(column.name)
-        if same is not None and column.number and same.number and column.number != same.number:
-            yield f"column {column.name} of {table} was dropped and made anew: its values may be the old ones"
-        elif same is not None and (same.type_oid, same.modifier) != (
-            column.type_oid,
-            column.modifier,
-        ):
-            yield f"column {column.name} of {table} has another type: its values may be written in another way"
-        elif same is None:
-            yield f"column {column.name} of {table} was added or renamed: rows that were there have nulls in it"
-    kept = {it.name for it in new.columns}
-    if [it.name for it in old.columns if it.name in kept] != [
-        it.name for it in new.columns if it.name in was
-    ]:
-        yield f"columns of {table} have changed their names among each other, or were made anew"
-    if (old.identity, keys_of(old)) != (new.identity, keys_of(new)):
-        key = (
-            "all columns" if new.identity == "f" else ", ".join(keys_of(new)[:NAMED]) or "no column"
-        )
-        yield f"table {table} has another replica identity: {key}"
-
-
-def keys_of(shape: Shape) -> list[str]:
-    return [it.name for it in shape.columns if it.key and shape.identity in "di"]
-
-
-def partition_differences(before: Catalog, now: Catalog) -> Iterator[Difference]:
-    """Those of partitions whose rows are published under another name. Any other is a published
-    table itself."""
-    for oid in sorted(before.partitions.keys() | now.partitions.keys()):
-        was, root = root_of(oid, before), root_of(oid, now)
-        if was != root and was in now.tables:
-            partition = (
-                f"partition {before.partitions[oid].name} ({oid}) of {now.tables[was].text()}"
-            )
-            yield Difference(
-                PUBLICATION, f"{partition} was detached or dropped: its rows stay", About((was,))
-            )
-        if was != root and root in before.tables:
-            partition = f"partition {now.partitions[oid].name} ({oid}) of {now.tables[root].text()}"
-            if not now.partitions[oid].logged:
-                yield Difference("", f"{partition} is new. {UNLOGGED}")
-            elif is_made_in(oid, before, now) or oid in now.fresh:
-                yield Difference("", f"{partition} is new, and followed from its first row on")
-            else:
-                text = f"{partition} was attached: the rows that it had before are missing"
-                yield Difference(PUBLICATION, text, About((root,), is_missing=True))
-        if was == root and was in now.tables:
-            old, new = before.partitions[oid], now.partitions[oid]
-            partition = f"partition {new.name} ({oid}) of {now.tables[root].text()}"
-            yield from logging_differences(partition, (root,), old.logged, new.logged)
-    yield from truncations(before, now)
-    yield from dict.fromkeys(detachments(before, now))
-
-
-def detachments(before: Catalog, now: Catalog) -> Iterator[Difference]:
-    """Partitions under another name that were detached in between, or one above them was."""
-    for oid in sorted(before.partitions.keys() & now.partitions.keys()):
-        root, at = root_of(oid, now), oid
-        while root == root_of(oid, before) and root and at != root:
-            old, new = before.partitions.get(at), now.partitions[at]
-            if (
-                old
-                and "" not in (old.since, new.since)
-                and (old.parent, old.since) != (new.parent, new.since)
-            ):
-                partition = f"partition {new.name} ({at}) of {now.tables[root].text()}"
-                text = (
-                    f"{partition} was detached and attached again: changes in between weren't sent"
-                )
-                yield Difference(PUBLICATION, text, About((root,)))
-            at = new.parent
-
-
-def truncations(before: Catalog, now: Catalog) -> Iterator[Difference]:
-    """Partitions under another name whose rows are in another file: a TRUNCATE of such a one alone
-    isn't sent."""
-    for oid, root in written_partitions(before, now).items():
-        # (rows that are older than the earlier reading tell that it wasn't truncated)
-        if oid not in now.kept:
-            partition = f"partition {now.partitions[oid].name} ({oid}) of {now.tables[root].text()}"
-            text = f"{partition} was truncated or written anew: if it was truncated, its rows stay"
-            yield Difference(PUBLICATION, text, About((root,)))
-
-
-def written_partitions(before: Catalog, now: Catalog) -> dict[int, int]:
-    """Those partitions, each with the table under whose name it comes.
-
-    Where all partitions of a table are, that was done by way of the table, which is sent.
-    """
-    parts: dict[int, list[int]] = {}
-    for oid in sorted(before.partitions.keys() & now.partitions.keys() - now.tables.keys()):
-        root = root_of(oid, now)
-        if (
-            root
-            and root == root_of(oid, before)
-            and now.partitions[oid].logged
-            and before.partitions[oid].logged
-        ):
-            parts.setdefault(root, []).append(oid)
-    found = dict[int, int]()
-    for root, oids in parts.items():
-        anew = [it for it in oids if before.partitions[it].node not in (0, now.partitions[it].node)]
-        found |= {it: root for it in anew} if len(anew) < len(oids) or len(anew) == 1 else {}
-    return found
-
-
-def root_of(oid: int, catalog: Catalog) -> int:
-    """The topmost published table that has a partition's rows, 0 where there is none, or where it
-    is one with partitions itself."""
-    partition = catalog.partitions.get(oid)
-    if partition is None or not partition.leaf:
-        return 0
-    root = 0
-    while partition is not None:
-        root = partition.parent if partition.parent in catalog.tables else root
-        partition = catalog.partitions.get(partition.parent)
-    return root
-
-
-def type_differences(oid: int, old: dict[str, str], new: dict[str, str]) -> Iterator[Difference]:
-    """Labels that were renamed, and parts of composite types. A label that was added changes no
-    value."""
-    name, about = f"type {new.get('name', '')} ({oid})", About(type_oid=oid)
-    renamed = sorted(
-        f"{old[it]} became {new[it]}"
-        for it in old.keys() & new.keys()
-        if it.isdigit() and old[it] != new[it]
-    )
-    if renamed:
-        yield Difference(
-            VALUES,
-            f"{name}: {', '.join(renamed[:NAMED])}: values that were there have the old labels",
-            about,
-        )
-    if {it: old[it] for it in old if it[0] == "#"} != {it: new[it] for it in new if it[0] == "#"}:
-        yield Difference(
-            VALUES,
-            f"{name} consists of other parts: values that were there have the old ones",
-            about,
-        )

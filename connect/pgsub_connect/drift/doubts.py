@@ -23,7 +23,8 @@ from pgsub_feed.texts import identifier, literal
 from ..errors import ServerError, understood
 from ..server.catalog import Catalog
 from ..server.connection import QUICK, Connection
-from .differences import asks_rows, attached, written_partitions
+from .differences import asks_rows
+from .partition_differences import attached, written_partitions
 
 # For how many seconds each table is asked at most, and all together.
 EACH, ALL = 1, 2

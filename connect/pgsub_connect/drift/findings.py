@@ -7,9 +7,15 @@ of each table is.
 from __future__ import annotations
 
 import dataclasses
-from collections.abc import Iterable
+from collections.abc import Callable, Iterable
 from typing import Any, NamedTuple
 
+from pgsub_feed.texts import lsn_text, parse_lsn, shortened
+
+from ..server.catalog import Catalog
+
+NAMES, PUBLICATION, VALUES = "names", "publication", "values"
+KINDS = (NAMES, PUBLICATION, VALUES)
 # How many texts of one kind are kept, but for the first one of each table.
 MOST = 100
 
@@ -48,6 +54,14 @@ def about_of(said: dict[str, Any]) -> About:
     )
 
 
+class Difference(NamedTuple):
+    """One of them. A kind of "" says that nothing can be wrong because of it."""
+
+    kind: str
+    text: str
+    about: About = NOTHING
+
+
 @dataclasses.dataclass
 class Found:
     """What was found since an LSN. `more`: how many texts aren't kept that are of no one table."""
@@ -76,3 +90,154 @@ class Found:
 
     def is_empty(self) -> bool:
         return not self.texts and not self.more
+
+
+class Findings(dict[str, Found]):
+    """What was found, by kind. `told`: texts that a Relation message up to an LSN may give again;
+    `mended`: by a text of several tables, those whose rows came anew since; `news`: what was found
+    since the caller looked last. `touch` is called where there is something new."""
+
+    def __init__(self, touch: Callable[[], None]) -> None:
+        super().__init__()
+        self.touch = touch
+        self.told: dict[str, int] = {}
+        self.mended: dict[str, list[int]] = {}
+        self.news: list[str] = []
+
+    def find(self, kind: str, lsn: int, text: str, about: About = NOTHING) -> bool:
+        """Notes what was found, and what it is about. Returns false where it was known."""
+        if self.told.get(text, -1) >= lsn:
+            return False
+        text, found = shortened(text), self.setdefault(kind, Found(lsn, {}))
+        if text in found.texts:
+            self.mended.pop(text, None)
+            return False
+        found.add(text, about)
+        self.news.append(f"{kind} at {lsn_text(lsn)}: {text}")
+        self.touch()
+        return True
+
+    def find_told(self, kind: str, lsn: int, text: str, about: About = NOTHING) -> None:
+        """Notes what a look at the server has found, and a Relation message may give again."""
+        self.find(kind, lsn, text, about)
+        self.told[text] = lsn
+
+    def take_news(self) -> list[str]:
+        """What was found since the last call."""
+        news, self.news = self.news, []
+        return news
+
+    def forget_told(self, position: int) -> None:
+        """Forgets which texts a Relation message may give again, once those messages are in the
+        store."""
+        self.told = {text: lsn for text, lsn in self.told.items() if lsn > position}
+
+    def accept(self, kinds: list[str]) -> None:
+        """Forgets what was found of these kinds."""
+        for kind in [it for it in self if it in kinds or "all" in kinds]:
+            del self[kind]
+            self.touch()
+
+    def drop(self, texts: Iterable[str]) -> list[str]:
+        """Forgets texts. Returns the kinds that go by that."""
+        texts, gone = list(texts), []
+        for kind, found in list(self.items()):
+            found.drop(texts)
+            if found.is_empty():
+                del self[kind]
+                gone.append(kind)
+        return gone
+
+    def about(self, text: str) -> About:
+        """What a text that was found is about. Those of an earlier version of this program don't
+        say it."""
+        return next((it.texts[text] for it in self.values() if text in it.texts), NOTHING)
+
+    def of(self, oid: int, catalog: Catalog | None) -> list[str]:
+        """What was found of the rows of a table. That two tables have had one name stays so,
+        whatever rows they have."""
+        texts = [text for kind, found in self.items() if kind != NAMES for text in found.texts]
+        several = ((it, tables_of_several(self.about(it), catalog)) for it in texts)
+        return [it for it, tables in several if oid in (tables or self.about(it).tables)]
+
+    def is_mended(self, text: str, oid: int, catalog: Catalog | None) -> bool:
+        """Notes that a table's rows are right, as to what was found of it. Returns whether so are
+        those of the others that it is about."""
+        others = tables_of_several(self.about(text), catalog)
+        if others is None:
+            return True
+        self.mended[text] = sorted({*self.mended.get(text, ()), oid})
+        if not set(others) <= set(self.mended[text]) or lasts(self.about(text), catalog):
+            return False
+        del self.mended[text]
+        return True
+
+    def written(self) -> dict[str, Any]:
+        """What is kept of it in a file."""
+        kept = {
+            kind: [
+                lsn_text(it.lsn),
+                {text: about.written() for text, about in it.texts.items()},
+                it.more,
+            ]
+            for kind, it in self.items()
+        }
+        told = {text: lsn_text(lsn) for text, lsn in self.told.items()}
+        return {"found": kept, "mended": self.mended, "told": told}
+
+    def restore(self, said: dict[str, Any]) -> None:
+        """Takes what a file has kept of it."""
+        self.clear()
+        for kind, (lsn, texts, more) in said["found"].items():
+            self[kind] = Found(parse_lsn(lsn), texts_of(texts), int(more))
+        self.told = {text: parse_lsn(lsn) for text, lsn in said["told"].items()}
+        mended = said.get("mended", {})
+        self.mended = {text: [int(it) for it in oids] for text, oids in mended.items()}
+
+
+def texts_of(said: dict[str, Any] | list[str]) -> dict[str, About]:
+    """The texts of a kind; an earlier version of this program didn't keep what they are about."""
+    return (
+        {str(it): NOTHING for it in said}
+        if isinstance(said, list)
+        else {text: about_of(it) for text, it in said.items()}
+    )
+
+
+def lasts(about: About, catalog: Catalog | None) -> bool:
+    """Whether changes of a kind aren't sent, as a text says: then the rows of its tables are right
+    only for now."""
+    if catalog is None or not about.lacks:
+        return False
+    parts = (
+        name for oid in about.tables if oid in catalog.tables for name in catalog.tables[oid].parts
+    )
+    names = {about.publication} if about.publication else set(parts)
+    there = [it for name, it in catalog.publications.items() if name in names]
+    return bool(there) and not any(about.lacks in it.actions for it in there)
+
+
+def tables_of(about: About, catalog: Catalog | None) -> list[int]:
+    """The published tables that a text is about, itself or by their publication or a column's
+    type."""
+    others = tables_of_several(about, catalog)
+    if others is not None:
+        return others
+    return [it for it in about.tables if catalog and it in catalog.tables]
+
+
+def tables_of_several(about: About, catalog: Catalog | None) -> list[int] | None:
+    """The published tables that a text is about which is of a type, of a publication that is there,
+    or of what isn't sent; None of any other."""
+    tables = catalog.tables.values() if catalog else ()
+    if about.type_oid:
+        return [
+            it.oid
+            for it in tables
+            if any(column.type_oid == about.type_oid for column in it.columns)
+        ]
+    if catalog and about.publication in catalog.publications:
+        return [it.oid for it in tables if about.publication in it.parts]
+    if about.lacks and not about.publication:
+        return [it.oid for it in tables if it.oid in about.tables]
+    return None

@@ -1,5 +1,27 @@
-"""The kinds of the parts of the file `STORE.tables`; the module `drift.remembered` tells what they
-mean.
+"""What the file `STORE.tables` has, and the kinds of its parts.
+
+Its first line is an object of JSON. As long as nothing was copied it has the first three fields
+alone.
+
+| Field | Means |
+|---|---|
+| `format` | 1 |
+| `made` | the publications that were made for this store, with their OIDs |
+| `database` | the OID of the database that is followed, and its name at the last session |
+| `feed` | the folder of the feed that has all commits of the store up to its position, "" where none has |
+| `lsn`, `highest`, `running` | when the server was looked at last: nothing that was committed above that LSN was seen, nor an OID above that one; and the first transaction that may have run then |
+| `followed`, `publications` | the names that are followed, and the options of those that were there |
+| `tables`, `partitions`, `types` | what the server had then, changed by what Relation messages said since |
+| `attached` | by the OID of a partition: which transaction has attached it |
+| `unlogged`, `toast` | the OIDs of tables and partitions whose changes are in no log; by OID: what keeps long values |
+| `sent` | by OID: the last Relation message of a change, and the LSN of its commit |
+| `names` | which OID each name has, since when, and which OIDs had it before |
+| `found` | by kind: the LSN at which the first was found, the texts with what each is about, and how many more there were |
+| `copied` | while rows are copied first: the OIDs of tables that are stored whole, each with the position from which they are |
+| `wanted` | OIDs of tables whose rows are to be added, and why one was refused, "" where none was |
+| `unwanted` | OIDs of tables that aren't published any more, whose rows are to go |
+| `left` | OIDs of tables that were there once and aren't published any more |
+| `told` | texts that a Relation message up to an LSN may give again, since the look at the server gave them already |
 
 What another program has written there is rejected before anything is taken from it. Parts that
 only later versions have are left to these; those that earlier ones hadn't may be missing.

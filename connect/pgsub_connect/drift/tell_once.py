@@ -9,10 +9,11 @@ from __future__ import annotations
 from collections.abc import Iterator
 
 from ..errors import understood
-from ..server.catalog import ACTIONS, Catalog, listed_oids, number
+from ..server.catalog import ACTIONS, Catalog
+from ..server.catalog_reader import listed_oids, number
 from ..server.connection import QUICK, Connection
 from ..server.publication_setup import names_of
-from .differences import root_of
+from .partition_differences import root_of
 
 # Types whose values are OIDs, printed as the names that these have at the moment: regproc,
 # regprocedure, regoper, regoperator, regclass, regtype, regconfig, regdictionary, regnamespace,

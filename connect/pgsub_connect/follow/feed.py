@@ -18,6 +18,7 @@ loop only sets what is confirmed.
 from __future__ import annotations
 
 import contextlib
+import dataclasses
 import os
 import threading
 import time
@@ -34,8 +35,10 @@ from pgsub_feed.reader.segments import CONFIRMED, Reader, read_confirmed, segmen
 from pgsub_feed.texts import counted, lsn_text
 
 from ..drift.remembered import Remembered
+from ..drift.tolerance import Tolerance
 from ..server.connection import Connection
 from ..server.session import identify, settle
+from ..server.subscription import Subscription
 from ..store.at_rest import has_log
 from ..store.checkpoint import Checkpoint
 from ..store.snapshot import position_in
@@ -43,13 +46,11 @@ from ..stream.filter import Filter
 from ..stream.filter_end import FilterEnded
 from ..stream.statuses import Reached
 from .retention import Limits, feed_bytes, read_readers, retire
-from .tables_process import Beside
+from .tables_process import Beside, TablesSettings
 from .tables_process import check as check_tables
 
 if TYPE_CHECKING:
-    from ..commands.options import Options
     from ..status.progress import Progress
-
 
 # How often what is confirmed is written where a keepalive alone has moved it, and else; how often
 # the readers are looked at, and how often old segments are looked for, in seconds.
@@ -66,19 +67,37 @@ def has_segments(folder: str) -> bool:
     return os.path.isdir(folder) and bool(segments(folder))
 
 
+@dataclasses.dataclass(frozen=True)
+class FeedSettings:
+    """Where the feed of a store is and how it is kept, and the tables that follow it. `is_left`:
+    the store goes on without the feed that it has had."""
+
+    store: str
+    folder: str = ""
+    is_left: bool = False
+    mode: int = 0o600
+    segment_bytes: int = 0
+    segment_seconds: int = 0
+    max_bytes: int = 0
+    max_age: float | None = None
+    tables: TablesSettings | None = None
+
+
 class Feeding:
     """The folder. Nothing is written there before a filter has opened the feed."""
 
     def __init__(
-        self, options: Options, checkpoint: Checkpoint, progress: Progress, remembered: Remembered
+        self,
+        settings: FeedSettings,
+        subscription: Subscription,
+        tolerance: Tolerance,
+        checkpoint: Checkpoint,
+        progress: Progress,
+        remembered: Remembered,
     ) -> None:
-        self.options, self.checkpoint, self.progress, self.remembered = (
-            options,
-            checkpoint,
-            progress,
-            remembered,
-        )
-        self.folder = os.path.abspath(options.feed) if options.feed else ""
+        self.settings, self.subscription, self.tolerance = settings, subscription, tolerance
+        self.checkpoint, self.progress, self.remembered = checkpoint, progress, remembered
+        self.folder = os.path.abspath(settings.folder) if settings.folder else ""
         self.keeper: Keeper | None = None
         self.beside: Beside | None = None
         # what the tables are to have before the follower ends by itself
@@ -87,12 +106,12 @@ class Feeding:
     def check(self) -> None:
         """Rejects a folder that can't have the store's feed, before anything is made; and makes the
         folder."""
-        if os.path.exists(self.options.store):
+        if os.path.exists(self.settings.store):
             self.check_followed()
         elif self.folder:
             self.check_empty()
-        if self.options.tables:
-            check_tables(self.options)
+        if self.settings.tables:
+            check_tables(self.settings.tables)
         if self.folder:
             self.make_folder()
 
@@ -101,7 +120,7 @@ class Feeding:
         was, now = self.remembered.feed, self.folder
         if (
             not was
-            or self.options.without_feed
+            or self.settings.is_left
             or now
             and (os.path.realpath(was) == os.path.realpath(now) or has_segments(now))
         ):
@@ -112,7 +131,7 @@ class Feeding:
             else f": say --feed {was}, or"
         )
         raise Unfit(
-            f"the feed {was} has all commits of {self.options.store}, and following without it would leave a gap in it{other}"
+            f"the feed {was} has all commits of {self.settings.store}, and following without it would leave a gap in it{other}"
             " --without-feed, which ends that feed for good"
         )
 
@@ -127,9 +146,9 @@ class Feeding:
 
     def make_folder(self) -> None:
         try:
-            make_folder(self.folder, self.options.mode)
+            make_folder(self.folder, self.settings.mode)
         except OSError as error:
-            raise FileError(f"--feed {self.options.feed}: {error.strerror}") from None
+            raise FileError(f"--feed {self.settings.folder}: {error.strerror}") from None
 
     def begin(self, child: Filter, reached: Callable[[], Reached], check: Check) -> None:
         """Notes the folder with the copy, and tells the filter of it."""
@@ -147,9 +166,9 @@ class Feeding:
         self.check_position(child, check)
         self.remembered.note_feed(self.folder)
         child.add_words(self.words(check))
-        self.keeper = Keeper(self.options, self.folder, self.progress, reached)
-        if self.options.tables:
-            self.beside = Beside(self.options, self.progress)
+        self.keeper = Keeper(self.settings, self.folder, self.progress, reached)
+        if self.settings.tables:
+            self.beside = Beside(self.settings.tables, self.progress)
 
     def check_position(self, child: Filter, check: Check) -> None:
         """Rejects an older store, before a filter cuts off what the feed has above the store's
@@ -157,10 +176,10 @@ class Feeding:
 
         Its checkpoint may be older too, or gone. But all that was confirmed is in the right store.
         """
-        known, options = self.checkpoint.known, self.options
-        if not has_segments(self.folder) or options.accepts("gap") or options.without_feed:
+        known, store = self.checkpoint.known, self.settings.store
+        if not has_segments(self.folder) or self.tolerance.accepts("gap") or self.settings.is_left:
             return
-        position = opened_at(child, check) if has_log(options.store) else position_in(options.store)
+        position = opened_at(child, check) if has_log(store) else position_in(store)
         if position is None:
             return
         told = ""
@@ -181,7 +200,7 @@ class Feeding:
 
     def words(self, check: Check) -> list[str]:
         """What the filter is told."""
-        options = self.options
+        settings = self.settings
         system, database, slot = self.source(check)
         words = [
             "--feed",
@@ -193,26 +212,26 @@ class Feeding:
             "--feed-slot",
             slot,
         ]
-        if options.feed_segment_bytes:
-            words += ["--feed-segment-bytes", str(options.feed_segment_bytes)]
-        if options.feed_segment_seconds:
-            words += ["--feed-segment-seconds", str(options.feed_segment_seconds)]
+        if settings.segment_bytes:
+            words += ["--feed-segment-bytes", str(settings.segment_bytes)]
+        if settings.segment_seconds:
+            words += ["--feed-segment-seconds", str(settings.segment_seconds)]
         return words
 
     def source(self, check: Check) -> tuple[str, str, str]:
         """Of what it is a feed. Of a store that was never followed the server says it."""
-        known, options = self.checkpoint.known, self.options
+        known, subscription = self.checkpoint.known, self.subscription
         if known.system:
             return known.system, known.database, known.slot
         connection = Connection(
-            options.dsn, replication=True, name=f"{options.slot} feed", check=check
+            subscription.dsn, replication=True, name=f"{subscription.slot} feed", check=check
         )
         try:
             settle(connection)
             server = identify(connection)
         finally:
             connection.close()
-        return server.system, server.database, options.slot
+        return server.system, server.database, subscription.slot
 
     def note_opened(self) -> None:
         """A filter has opened the feed, so what looks after it and follows it may begin."""
@@ -232,7 +251,7 @@ class Feeding:
         if not self.folder or said != NOT_A_FEED:
             return ""
         return (
-            f"{self.folder} isn't the feed of {self.options.store}: it was followed without it, is that of another copy, or begins after"
+            f"{self.folder} isn't the feed of {self.settings.store}: it was followed without it, is that of another copy, or begins after"
             " this copy's last commit. Name an empty folder by --feed, with --without-feed: whoever reads the feed begins anew there, from"
             " an export"
         )
@@ -294,16 +313,20 @@ class Keeper(threading.Thread):
     """Writes what is confirmed, looks after the readers, and removes old segments."""
 
     def __init__(
-        self, options: Options, folder: str, progress: Progress, reached: Callable[[], Reached]
+        self,
+        settings: FeedSettings,
+        folder: str,
+        progress: Progress,
+        reached: Callable[[], Reached],
     ) -> None:
         super().__init__(daemon=True)
         self.folder, self.progress, self.reached, self.mode = (
             folder,
             progress,
             reached,
-            options.mode,
+            settings.mode,
         )
-        self.limits = Limits(options.feed_max_bytes or None, options.feed_max_age)
+        self.limits = Limits(settings.max_bytes or None, settings.max_age)
         self.ended = threading.Event()
         # why what can't be done now can't be
         self.causes = dict[str, str]()

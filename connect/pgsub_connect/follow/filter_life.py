@@ -7,27 +7,23 @@ import contextlib
 import itertools
 import time
 from collections.abc import Sequence
-from typing import TYPE_CHECKING
 
 from pgsub_feed import log
 from pgsub_feed.errors import FileError, Passing, Stopped
 from pgsub_feed.texts import counted
 
-from ..drift.watch import Watch
 from ..errors import FilterFault
 from ..status.progress import Progress
 from ..stream import too_large
 from ..stream.awake import Awake
 from ..stream.filter import Filter
 from ..stream.filter_end import MISSED, FilterEnded
+from ..stream.memory_limit import BufferLimits
 from ..stream.statuses import Confirming
+from .drift_watch import Watch
 from .ending import Ending
 from .feed import Feeding
 from .stream_form import StreamForm
-
-if TYPE_CHECKING:
-    from ..commands.options import Options
-
 
 # How long the filter is waited for, and how long it is slept, before it is looked whether the end
 # was asked for.
@@ -42,7 +38,7 @@ class FilterLife:
 
     def __init__(
         self,
-        options: Options,
+        limits: BufferLimits,
         child: Filter,
         progress: Progress,
         confirming: Confirming,
@@ -51,7 +47,7 @@ class FilterLife:
         ending: Ending,
         feeding: Feeding | None,
     ) -> None:
-        self.options, self.filter, self.progress = options, child, progress
+        self.limits, self.filter, self.progress = limits, child, progress
         self.confirming, self.noting, self.misses = confirming, confirming.noting, confirming.misses
         self.watch, self.form, self.ending, self.feeding = watch, form, ending, feeding
         self.kills = too_large.Kills()
@@ -152,7 +148,7 @@ class FilterLife:
             and self.form.stop_streaming("open transactions were too much at a time")
         ):
             largest = self.noting.largest()
-            if text := too_large.text_of(ended, self.options, largest, self.noting.longest):
+            if text := too_large.text_of(ended, self.limits, largest, self.noting.longest):
                 log.error(text)
             if self.feeding and (text := self.feeding.text_of(ended.said)):
                 log.error(text)

@@ -8,45 +8,49 @@ the store: the end of its last commit.
 
 from __future__ import annotations
 
-from typing import TYPE_CHECKING
-
 from pgsub_feed import log
 from pgsub_feed.errors import Unfit
 from pgsub_feed.interruption import Check
 from pgsub_feed.texts import lsn_text
 
-from ..drift.watch import Watch
+from ..drift.tolerance import Tolerance
 from ..errors import ServerError
 from ..server import transport
 from ..server.connection import Connection
 from ..server.session import Server, is_same_database, left_at, settle, slot_position
+from ..server.subscription import Subscription
 from ..store.checkpoint import Checkpoint, check_gap
 from ..store.checkpoint_lines import FOLLOWING, NEW
-
-if TYPE_CHECKING:
-    from ..commands.options import Options
+from .drift_watch import Watch
 
 
 class Fitting:
     """Compares what a store's checkpoint says with a server, and notes there whose changes the
     store has."""
 
-    def __init__(self, options: Options, checkpoint: Checkpoint, watch: Watch) -> None:
-        self.options, self.checkpoint, self.watch = options, checkpoint, watch
+    def __init__(
+        self,
+        subscription: Subscription,
+        tolerance: Tolerance,
+        no_copy: bool,
+        checkpoint: Checkpoint,
+        watch: Watch,
+    ) -> None:
+        self.subscription, self.tolerance, self.no_copy = subscription, tolerance, no_copy
+        self.checkpoint, self.watch = checkpoint, watch
 
     def check_server(self, server: Server, confirmed: int, position: int) -> None:
         """Checks that this is the server whose changes the store has, and that it has all of them.
         On another timeline it needn't be beyond what a keepalive alone has confirmed: a standby
         that was promoted never had what isn't published behind its last commit.
         """
-        known, options, remembered = self.checkpoint.known, self.options, self.watch.remembered
+        known, remembered = self.checkpoint.known, self.watch.remembered
+        slot = self.subscription.slot
         is_same = is_same_database(known.database, remembered.database, server)
-        if known.system and (
-            (server.system, options.slot) != (known.system, known.slot) or not is_same
-        ):
+        if known.system and ((server.system, slot) != (known.system, known.slot) or not is_same):
             raise Unfit(
                 f"the store follows slot {known.slot} of database {known.database} of the server {known.system}, "
-                f"and not slot {options.slot} of {server.database} of {server.system}"
+                f"and not slot {slot} of {server.database} of {server.system}"
             )
         least = confirmed if known.timeline in (0, server.timeline) else position
         if server.log_end >= least:
@@ -62,12 +66,12 @@ class Fitting:
 
     def find_slot(self, connection: Connection, server: Server) -> int:
         """The LSN from which the slot sends."""
-        slot_at = slot_position(connection, self.options.slot)
+        slot_at = slot_position(connection, self.subscription.slot)
         if slot_at is not None:
             return slot_at
         if server.is_standby:
-            raise ServerError(f"the server is a standby without the slot {self.options.slot}")
-        raise Unfit(f"the server has no slot {self.options.slot}")
+            raise ServerError(f"the server is a standby without the slot {self.subscription.slot}")
+        raise Unfit(f"the server has no slot {self.subscription.slot}")
 
     def check_timeline(self, connection: Connection, server: Server, position: int) -> int | None:
         """Checks that what the store has is in the server's history too, where its timeline isn't
@@ -111,7 +115,7 @@ class Fitting:
         sends nothing that ends up to the store's position, so its own commits up to there are
         passed over, and that is what is found then."""
         known, at = self.checkpoint.known, lsn_text(position)
-        if not self.options.accepts("history"):
+        if not self.tolerance.accepts("history"):
             when = "never" if left is None else f"at {lsn_text(left)}"
             text = (
                 f"the store is at {at} of the timeline {known.timeline}, which the server's timeline"
@@ -126,12 +130,12 @@ class Fitting:
 
     def check_start(self, slot_at: int, position: int) -> None:
         """Rejects a gap between store and slot, unless it was said to be wanted."""
-        known, options = self.checkpoint.known, self.options
-        if options.accepts("gap") or (known.phase == NEW and options.no_copy and position == 0):
+        known = self.checkpoint.known
+        if self.tolerance.accepts("gap") or (known.phase == NEW and self.no_copy and position == 0):
             log.warning(
                 f"whatever changed before {lsn_text(slot_at)} and isn't in the store stays missing"
             )
-            options.accept = [it for it in options.accept if it not in ("gap", "slot", "all")]
+            self.tolerance.use_gap()
             self.checkpoint.forget_server()
             self.checkpoint.write(False, confirmed=max(slot_at, position), position=position)
         else:
@@ -152,7 +156,7 @@ class Fitting:
             timeline=server.timeline,
             started=server.started,
             database=database,
-            slot=self.options.slot,
+            slot=self.subscription.slot,
             position=max(position, known.position),
             encrypted=transport.OWN.was_encrypted,
         )
@@ -160,10 +164,12 @@ class Fitting:
     def check_slot(self, position: int, check: Check) -> None:
         """Checks the slot again once it is ours: what somebody confirmed since it was looked at
         would be passed over."""
-        connection = Connection(self.options.dsn, name=f"{self.options.slot} check", check=check)
+        connection = Connection(
+            self.subscription.dsn, name=f"{self.subscription.slot} check", check=check
+        )
         try:
             settle(connection)
-            slot_at = slot_position(connection, self.options.slot)
+            slot_at = slot_position(connection, self.subscription.slot)
         finally:
             connection.close()
         if slot_at is None:

@@ -3,26 +3,27 @@
 from __future__ import annotations
 
 import time
-from typing import TYPE_CHECKING
 
 from pgsub_feed import log
 from pgsub_feed.errors import FileError, Passing, Stopped, Unfit
 
 from ..add.adder import Adder
-from ..drift.missed_rows import Misses
 from ..drift.remembered import Remembered
-from ..drift.watch import Watch
+from ..drift.tolerance import Tolerance
 from ..errors import LOGIN, Renewed, ServerError, Unconnected
 from ..server.lost_slot import Repeats
 from ..server.publications import with_cure
+from ..server.subscription import Subscription
 from ..status.progress import Progress
 from ..store.checkpoint import Checkpoint
 from ..store.snapshot import Snapshots
 from ..stream.filter import Filter
 from ..stream.filter_end import FilterEnded
+from ..stream.missed_rows import Misses
 from ..stream.skip import Skipping
 from ..stream.statuses import Confirming
 from ..stream.stream_log import Noting
+from .drift_watch import Watch
 from .ending import Ending
 from .feed import Feeding
 from .filter_life import SLEEP, STEP, FilterLife
@@ -32,13 +33,10 @@ from .requests import Requests
 from .schedule import Delay, Schedule
 from .session import Session
 from .session_start import Recording, SessionStart
+from .settings import FollowSettings
 from .stall import Standing
 from .stream_form import StreamForm
 from .upkeep import Upkeep
-
-if TYPE_CHECKING:
-    from ..commands.options import Options
-
 
 # An error that the server doesn't expect of itself. PostgreSQL 15 has one (`could not map filenode
 # .. to relation OID`) where it streams a transaction beside a TRUNCATE, at each try. The same
@@ -51,7 +49,9 @@ class Follower:
 
     def __init__(
         self,
-        options: Options,
+        settings: FollowSettings,
+        subscription: Subscription,
+        tolerance: Tolerance,
         checkpoint: Checkpoint,
         child: Filter,
         progress: Progress,
@@ -60,34 +60,39 @@ class Follower:
         remembered: Remembered,
         feeding: Feeding | None = None,
     ) -> None:
-        self.options, self.progress, self.snapshots = options, progress, snapshots
-        self.ending = ending = Ending(progress, options.until)
+        self.subscription, self.progress, self.snapshots = subscription, progress, snapshots
+        self.ending = ending = Ending(progress, settings.until)
         self.noting = noting = Noting(progress.stream, remembered)
-        known = options, checkpoint, progress, remembered
-        self.watch, self.misses = watch, misses = Watch(*known), Misses(*known)
+        known = checkpoint, progress, remembered
+        self.watch = watch = Watch(subscription, tolerance, *known)
+        self.misses = misses = Misses(tolerance, *known)
         self.confirming = confirming = Confirming(checkpoint, child, progress, noting, misses)
-        form = StreamForm(options.proto, Skipping(options.skip, checkpoint, progress, remembered))
+        form = StreamForm(settings.proto, Skipping(settings.skip, *known))
         self.life = life = FilterLife(
-            options, child, progress, confirming, watch, form, ending, feeding
+            settings.limits, child, progress, confirming, watch, form, ending, feeding
         )
-        schedule = Schedule(options, progress, confirming, snapshots.hold)
+        schedule = Schedule(settings, progress, confirming, snapshots.hold)
         self.standing = standing = Standing(child, progress)
-        upkeep = Upkeep(options, life, schedule, standing, ending)
-        self.adder = Adder(*known, watch, noting, confirming, snapshots.hold, upkeep)
-        repairing = Repairing(*known, watch, noting, confirming, snapshots, upkeep, form)
-        snapshots.adds, snapshots.is_streaming, snapshots.reached = (
-            self.adder.take,
-            form.is_streaming,
-            confirming.reached,
-        )
-        snapshots.delays_commits = progress.server.note_standbys
-        self.requests = Requests(options, snapshots, self.adder, repairing, upkeep, ending)
-        fitting, requests = Fitting(options, checkpoint, watch), self.requests
-        self.start = SessionStart(options, life, fitting, requests, schedule, ending, recording)
-        self.delay, self.repeats = Delay(), Repeats(options)
+        upkeep = Upkeep(settings.silence, subscription, life, schedule, standing, ending)
+        store, limits, passing = settings.store, settings.limits, (watch, noting, confirming)
+        self.adder = Adder(subscription, store, limits, *known, *passing, snapshots.hold, upkeep)
+        repairing = Repairing(limits, *known, *passing, snapshots, upkeep, form)
+        self.serve_copies(form)
+        others = snapshots, self.adder, repairing
+        self.requests = requests = Requests(subscription, *others, upkeep, ending)
+        fitting = Fitting(subscription, tolerance, settings.no_copy, checkpoint, watch)
+        told = settings, subscription, tolerance
+        self.start = SessionStart(*told, life, fitting, requests, schedule, ending, recording)
+        self.delay, self.repeats = Delay(), Repeats(settings.store)
         self.session = Session(
-            options, self.start, life, requests, schedule, standing, self.delay, ending
+            subscription, self.start, life, requests, schedule, standing, self.delay, ending
         )
+
+    def serve_copies(self, form: StreamForm) -> None:
+        """Tells who copies the store for others what that depends on."""
+        self.snapshots.adds, self.snapshots.is_streaming = self.adder.take, form.is_streaming
+        self.snapshots.reached = self.confirming.reached
+        self.snapshots.delays_commits = self.progress.server.note_standbys
 
     @property
     def stop_asked(self) -> bool:
@@ -97,8 +102,9 @@ class Follower:
     def stop_asked(self, is_asked: bool) -> None:
         self.ending.ask(is_asked)
 
-    def note_connected(self, was_connected: bool) -> None:
-        """Whether a server has let this run in before."""
+    def begin_after(self, was_connected: bool) -> None:
+        """Begins after what may have reached the server already: one that is lost from now on is
+        waited for."""
         self.start.note_connected(was_connected)
 
     def check_stop(self) -> None:
@@ -144,7 +150,7 @@ class Follower:
         is_of_connecting = isinstance(error, Unconnected) or error.sqlstate.startswith(LOGIN)
         was_connected = self.start.was_connected
         if error.is_lasting() and not (was_connected and is_of_connecting):
-            raise with_cure(error, self.options.publication)
+            raise with_cure(error, self.subscription.publications)
         if not (was_connected or error.sqlstate):
             raise Passing(str(error))
         log.warning(f"{error}")

@@ -43,18 +43,17 @@ from ..copy.messages import begin, commit, frame
 from ..errors import ServerError
 from ..status.progress import Progress
 from ..stream.hold import CHANGES
+from ..stream.memory_limit import BufferLimits
 from ..stream.messages import EPOCH, relation_of
 
 if TYPE_CHECKING:
-    from ..commands.options import Options
     from ..drift.remembered import Remembered
-    from ..drift.watch import Watch
     from ..store.checkpoint import Checkpoint
     from ..store.snapshot import Snapshots
     from ..stream.statuses import Confirming
     from ..stream.stream_log import Noting
+    from .drift_watch import Watch
     from .stream_form import StreamForm
-
 
 # How many bytes of the file are passed on at a time.
 BLOCK = 1 << 17
@@ -112,7 +111,7 @@ class Repairing:
 
     def __init__(
         self,
-        options: Options,
+        limits: BufferLimits,
         checkpoint: Checkpoint,
         progress: Progress,
         remembered: Remembered,
@@ -123,8 +122,8 @@ class Repairing:
         stream: Stream,
         form: StreamForm,
     ) -> None:
-        self.options, self.checkpoint, self.progress, self.remembered, self.watch = (
-            options,
+        self.limits, self.checkpoint, self.progress, self.remembered, self.watch = (
+            limits,
             checkpoint,
             progress,
             remembered,
@@ -194,7 +193,7 @@ class Repairing:
     def send(self) -> None:
         """Passes on the changes. Where that fails behind the first of them the session ends."""
         assert self.hold.into and self.hold.point
-        lots = messages_in(self.hold.into + CHANGES, self.options.max_buffered)
+        lots = messages_in(self.hold.into + CHANGES, self.limits.max_buffered)
         try:
             first = self.checked(next(lots))
         except Unusable as error:
@@ -214,7 +213,7 @@ class Repairing:
     def checked(self, lot: list[bytes]) -> list[bytes]:
         """Messages that the filter takes. Their definitions are known then."""
         for message in lot:
-            if len(message) > self.options.max_frame - 25:
+            if len(message) > self.limits.max_frame - 25:
                 raise Unusable(
                     f"a row has {len(message)} bytes: give the follower a --max-frame above that"
                 )

@@ -4,19 +4,16 @@ to be repaired."""
 from __future__ import annotations
 
 import contextlib
-from typing import TYPE_CHECKING
 
 from pgsub_feed.errors import Stopped
 
 from ..add.adder import Adder
+from ..server.subscription import Subscription
 from ..store.snapshot import Snapshots
 from ..stream.gate import WAITED, Gating
 from .ending import Ending
 from .repair import Repairing
 from .upkeep import Upkeep
-
-if TYPE_CHECKING:
-    from ..commands.options import Options
 
 
 class Requests:
@@ -24,7 +21,7 @@ class Requests:
 
     def __init__(
         self,
-        options: Options,
+        subscription: Subscription,
         snapshots: Snapshots,
         adder: Adder,
         repairing: Repairing,
@@ -35,7 +32,9 @@ class Requests:
         self.adder, self.repairing, self.upkeep, self.ending = adder, repairing, upkeep, ending
         self.filter, self.confirming = upkeep.filter, upkeep.confirming
         self.progress = upkeep.life.progress
-        self.gating = Gating(options, self.progress, self.hold, upkeep.serve_server, self.let_go)
+        self.gating = Gating(
+            subscription, self.progress, self.hold, upkeep.serve_server, self.let_go
+        )
 
     def begin_session(self, streams: bool) -> bool:
         """A session begins. Returns whether it has to be one of whole transactions."""

@@ -4,7 +4,6 @@ and when the next one begins."""
 from __future__ import annotations
 
 import time
-from typing import TYPE_CHECKING
 
 from ..errors import ServerError
 from ..status.progress import Progress
@@ -14,10 +13,7 @@ from ..stream.gate import LOOK as GATE
 from ..stream.hold import Hold
 from ..stream.statuses import Confirming
 from .filter_life import STEP
-
-if TYPE_CHECKING:
-    from ..commands.options import Options
-
+from .settings import FollowSettings
 
 # After how many seconds a lost session is begun anew, at first and at most.
 FIRST_DELAY, LONGEST_DELAY = 1.0, 60.0
@@ -30,11 +26,11 @@ class Schedule:
     """The times of a session."""
 
     def __init__(
-        self, options: Options, progress: Progress, confirming: Confirming, hold: Hold
+        self, settings: FollowSettings, progress: Progress, confirming: Confirming, hold: Hold
     ) -> None:
-        self.silence, self.longest_heartbeat = options.silence, options.heartbeat
+        self.silence, self.longest_heartbeat = settings.silence, settings.heartbeat
         self.progress, self.confirming, self.hold = progress, confirming, hold
-        self.heartbeat = options.heartbeat
+        self.heartbeat = settings.heartbeat
         # when the server was heard last, as far as anything of it was waited for
         self.heard = time.monotonic()
         # how statuses and commits are waited for where commits at the server wait for this

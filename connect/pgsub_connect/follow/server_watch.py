@@ -5,7 +5,6 @@ from __future__ import annotations
 
 import threading
 import time
-from typing import TYPE_CHECKING
 
 from pgsub_feed import log
 from pgsub_feed.errors import Stopped, Unfit
@@ -14,11 +13,8 @@ from pgsub_feed.texts import counted, literal, parse_lsn
 from ..errors import ServerError, understood
 from ..server.connection import QUICK, Connection
 from ..server.session import END, exact_end, postmaster_start
+from ..server.subscription import Subscription
 from ..status.progress import Progress
-
-if TYPE_CHECKING:
-    from ..commands.options import Options
-
 
 # After how many seconds the server is asked again: where a file shows it or nothing of the session
 # is read, and else, where only warnings come of it.
@@ -72,13 +68,12 @@ class Asker(threading.Thread):
 
     connection: Connection | None
 
-    def __init__(self, options: Options, progress: Progress) -> None:
+    def __init__(self, subscription: Subscription, is_shown: bool, progress: Progress) -> None:
         super().__init__(daemon=True)
-        self.options, self.progress = options, progress
-        self.is_shown = bool(options.status_file or options.metrics_file)
+        self.subscription, self.is_shown, self.progress = subscription, is_shown, progress
         self.interval = SHOWN if self.is_shown else UNSHOWN
         self.ended = threading.Event()
-        self.warning = SlotWarning(options.slot)
+        self.warning = SlotWarning(subscription.slot)
         self.connection = None
         self.most = self.started = 0
 
@@ -112,7 +107,10 @@ class Asker(threading.Thread):
     @understood("its settings")
     def connect(self) -> Connection:
         self.connection = Connection(
-            self.options.dsn, name=f"{self.options.slot} status", quiet=True, check=self.check
+            self.subscription.dsn,
+            name=f"{self.subscription.slot} status",
+            quiet=True,
+            check=self.check,
         )
         self.started = postmaster_start(self.connection)
         text = self.connection.value(
@@ -137,7 +135,7 @@ class Asker(threading.Thread):
         standby, end, flushed, segment, clock, standbys, there, status, safe = connection.rows(
             f"SELECT pg_catalog.pg_is_in_recovery(), {END}, pg_catalog.date_part('epoch', pg_catalog.clock_timestamp()),"
             f" pg_catalog.current_setting('synchronous_standby_names'), s.slot_name, {columns} FROM (SELECT 1) one"
-            f" LEFT JOIN pg_catalog.pg_replication_slots s ON s.slot_name = {literal(self.options.slot)}",
+            f" LEFT JOIN pg_catalog.pg_replication_slots s ON s.slot_name = {literal(self.subscription.slot)}",
             QUICK,
         )[0]
         at = exact_end(parse_lsn(end or "0/0"), parse_lsn(flushed or "0/0"), int(segment or 0))

@@ -4,14 +4,13 @@ its end on either side."""
 from __future__ import annotations
 
 import time
-from typing import TYPE_CHECKING
 
 from pgsub_feed import log
 
-from ..drift.differences import PUBLICATION
-from ..drift.findings import NOTHING, About
+from ..drift.findings import NOTHING, PUBLICATION, About
 from ..errors import ServerError
 from ..server.connection import Connection
+from ..server.subscription import Subscription
 from ..stream.filter_end import FilterEnded
 from ..stream.filter_input import PIECE
 from .ending import Ending
@@ -21,9 +20,6 @@ from .schedule import Delay, Schedule
 from .session_start import SessionStart
 from .stall import Standing
 
-if TYPE_CHECKING:
-    from ..commands.options import Options
-
 
 class Session:
     """The session that is open, if any."""
@@ -32,7 +28,7 @@ class Session:
 
     def __init__(
         self,
-        options: Options,
+        subscription: Subscription,
         start: SessionStart,
         life: FilterLife,
         requests: Requests,
@@ -41,7 +37,12 @@ class Session:
         delay: Delay,
         ending: Ending,
     ) -> None:
-        self.options, self.start, self.life, self.requests = options, start, life, requests
+        self.subscription, self.start, self.life, self.requests = (
+            subscription,
+            start,
+            life,
+            requests,
+        )
         self.schedule, self.standing, self.delay, self.ending = schedule, standing, delay, ending
         self.filter, self.confirming, self.noting = life.filter, life.confirming, life.noting
         self.progress, self.hold, self.recording = life.progress, requests.hold, start.recording
@@ -150,7 +151,7 @@ class Session:
         now = time.monotonic()
         self.schedule.note_heard(now - self.silent)
         self.schedule.keep_alive(self.silent)
-        self.standing.check(self.options.silence, self.hold.stops())
+        self.standing.check(self.schedule.silence, self.hold.stops())
         self.delay.note_lasting(now - began, self.schedule.heartbeat)
 
     def ends_for_another(self, connection: Connection) -> bool:
@@ -190,7 +191,9 @@ class Session:
         """
         while said:
             text = said.pop(0)
-            names = sorted((name for name in self.options.publication if name in text), key=len)
+            names = sorted(
+                (name for name in self.subscription.publications if name in text), key=len
+            )
             about = About(publication=names[-1], is_missing=True) if names else NOTHING
             text = f"the server leaves out changes from before a publication was made: {text}"
             remembered = self.life.watch.remembered
@@ -207,7 +210,7 @@ class Session:
                     self.confirming.pass_on(status)
                 if self.schedule.is_status_due():
                     self.confirming.repeat()
-                self.standing.check(self.options.silence, ends=True)
+                self.standing.check(self.schedule.silence, ends=True)
         except FilterEnded as ended:
             self.confirming.release()
             check_end(ended)

@@ -2,25 +2,24 @@
 
 from __future__ import annotations
 
-import dataclasses
-from typing import TYPE_CHECKING, Protocol
+from typing import Protocol
 
 from pgsub_feed import log
 from pgsub_feed.texts import lsn_text
 
+from ..drift.tolerance import Tolerance
 from ..errors import ServerError
+from ..record.recording import Session as Recorded
 from ..server.connection import COPY_BOTH, Connection
 from ..server.lost_slot import lost_error
 from ..server.session import Server, identify, is_lost, log_end, sender_timeout, settle
+from ..server.subscription import Subscription
 from .ending import Ending
 from .filter_life import FilterLife
 from .fitness import Fitting
 from .requests import Requests
 from .schedule import Schedule
-
-if TYPE_CHECKING:
-    from ..commands.options import Options
-
+from .settings import FollowSettings
 
 # What a standby says that can't be followed: it has no such feature, or the slot is one that it
 # only keeps for its promotion.
@@ -30,8 +29,8 @@ NOT_AT_STANDBYS = ("0A", "55000")
 class Recording(Protocol):
     """What keeps the stream in a file beside the store."""
 
-    def begin_session(self, connection: Connection, options: Options, start: int) -> None:
-        """A session begins that asks for the changes from this LSN on."""
+    def begin_session(self, session: Recorded) -> None:
+        """A session begins."""
 
     def write_payload(self, payload: bytes) -> None:
         """This has come."""
@@ -42,7 +41,9 @@ class SessionStart:
 
     def __init__(
         self,
-        options: Options,
+        settings: FollowSettings,
+        subscription: Subscription,
+        tolerance: Tolerance,
         life: FilterLife,
         fitting: Fitting,
         requests: Requests,
@@ -50,7 +51,8 @@ class SessionStart:
         ending: Ending,
         recording: Recording | None,
     ) -> None:
-        self.options, self.life, self.fitting, self.requests = options, life, fitting, requests
+        self.settings, self.subscription, self.tolerance = settings, subscription, tolerance
+        self.life, self.fitting, self.requests = life, fitting, requests
         self.schedule, self.ending, self.recording = schedule, ending, recording
         self.filter, self.confirming, self.form = life.filter, life.confirming, life.form
         self.progress = life.progress
@@ -62,12 +64,13 @@ class SessionStart:
 
     def log_in(self) -> Connection:
         self.progress.enter("connecting")
-        options = self.options
-        return Connection(options.dsn, replication=True, name=options.slot, check=self.ending.check)
+        subscription = self.subscription
+        return Connection(
+            subscription.dsn, replication=True, name=subscription.slot, check=self.ending.check
+        )
 
     def begin(self, connection: Connection) -> None:
         """Checks that the store and the slot fit together, and starts the session."""
-        options = self.options
         settle(connection)
         server = identify(connection)
         self.progress.note_login(connection.version(), server.timeline)
@@ -78,17 +81,23 @@ class SessionStart:
         self.start_replication(connection, server)
         self.fitting.check_slot(self.confirming.position, self.ending.check)
         # (what comes later isn't what was accepted)
-        options.accept = []
+        self.tolerance.end()
         self.was_connected = True
         self.progress.server.begin_session()
-        log.info(f"following slot {options.slot} from {lsn_text(max(at, slot_at))}")
+        log.info(f"following slot {self.subscription.slot} from {lsn_text(max(at, slot_at))}")
         if self.recording:
-            form = self.form
-            self.recording.begin_session(
-                connection,
-                dataclasses.replace(options, proto=form.proto, streaming=form.is_streaming()),
-                at,
-            )
+            self.recording.begin_session(self.recorded(connection, at))
+
+    def recorded(self, connection: Connection, at: int) -> Recorded:
+        """What a recording says of this session, which asks for the changes from an LSN on."""
+        return Recorded(
+            connection.parameter("server_version"),
+            self.subscription.slot,
+            self.subscription.publications,
+            self.form.proto,
+            ["streaming"] if self.form.is_streaming() else [],
+            at,
+        )
 
     def fit(self, connection: Connection, server: Server) -> int:
         """Checks that store, server and slot fit together, and notes whose changes the store has.
@@ -129,15 +138,18 @@ class SessionStart:
     def start_replication(self, connection: Connection, server: Server) -> None:
         """Asks for the changes. A standby rejects that where it has no slots of its own, until it
         is promoted."""
-        options = self.options
-        command = self.form.command(options.slot, options.publication, self.filter.confirmed())
+        slot, store = self.subscription.slot, self.settings.store
+        at, publications = self.filter.confirmed(), self.subscription.publications
+        command = self.form.command(slot, publications, at)
         try:
-            connection.run(command, wanted=COPY_BOTH, limit=options.silence)
+            connection.run(command, wanted=COPY_BOTH, limit=self.settings.silence)
         except ServerError as error:
             if (
                 server.is_standby
                 and error.sqlstate.startswith(NOT_AT_STANDBYS)
-                and not is_lost(connection, options.slot)
+                and not is_lost(connection, slot)
             ):
                 raise ServerError(f"the server is a standby: {error}") from None
-            raise lost_error(connection, options, error) if error.sqlstate else error from None
+            if not error.sqlstate:
+                raise
+            raise lost_error(connection, slot, store, error) from None

@@ -9,6 +9,7 @@ signal ends it, and where the follower is killed, the end of its input.
 from __future__ import annotations
 
 import contextlib
+import dataclasses
 import os
 import signal
 import sqlite3
@@ -16,7 +17,6 @@ import subprocess
 import sys
 import threading
 import time
-from typing import TYPE_CHECKING
 
 from pgsub_feed import log
 from pgsub_feed.errors import FileError, Unfit
@@ -27,10 +27,6 @@ from pgsub_feed.tables.sqlite_files import is_tables, opened
 from ..status.progress import Progress
 from ..stream.filter import KEPT
 from .retention import read_lsn
-
-if TYPE_CHECKING:
-    from ..commands.options import Options
-
 
 READER = "tables"
 # The statuses that another try doesn't mend; one that was killed by a signal has none above 0. And
@@ -46,10 +42,24 @@ TOP = os.path.dirname(os.path.dirname(os.path.dirname(os.path.realpath(__file__)
 CODE = f"import sys; sys.path[:] = [{TOP!r}, *filter(None, sys.path)]; from pgsub_connect.cli import run; run()"
 
 
-def check(options: Options) -> None:
+@dataclasses.dataclass(frozen=True)
+class TablesSettings:
+    """The file of tables, the feed that it follows and the store that the feed is of. `init`: the
+    SQL that is run once a table was made or altered; `digests`: whether one is kept of each
+    table."""
+
+    path: str
+    feed: str
+    store: str
+    mode: int = 0o600
+    init: str | None = None
+    digests: bool = False
+
+
+def check(settings: TablesSettings) -> None:
     """Rejects a file that can't be one of tables that follow this store's feed, before anything is
     made."""
-    path = options.tables
+    path = settings.path
     if not os.path.lexists(path):
         if not os.path.isdir(os.path.dirname(os.path.abspath(path))):
             raise FileError(
@@ -59,13 +69,13 @@ def check(options: Options) -> None:
         raise FileError(
             f"{path} is there and has no tables that follow a feed: remove it, or name another file by --tables"
         )
-    elif not os.path.exists(options.store):
+    elif not os.path.exists(settings.store):
         raise Unfit(
             f"{path} has the tables of an older copy, and a new one begins: remove it, or name another file by --tables"
         )
 
 
-def words_of(options: Options) -> list[str]:
+def words_of(settings: TablesSettings) -> list[str]:
     """How it is started."""
     words = [
         sys.executable,
@@ -73,15 +83,15 @@ def words_of(options: Options) -> list[str]:
         CODE,
         "tables",
         "--feed",
-        options.feed,
+        settings.feed,
         "--into",
-        options.tables,
+        settings.path,
         "--store",
-        options.store,
+        settings.store,
     ]
-    words += ["--reader", READER, "--mode", f"{options.mode:o}", "--while-input"]
-    words += ["--digests"] if options.digests else []
-    return words + (["--init", options.init] if options.init else [])
+    words += ["--reader", READER, "--mode", f"{settings.mode:o}", "--while-input"]
+    words += ["--digests"] if settings.digests else []
+    return words + (["--init", settings.init] if settings.init else [])
 
 
 class Beside(threading.Thread):
@@ -89,10 +99,10 @@ class Beside(threading.Thread):
 
     child: subprocess.Popen[bytes] | None
 
-    def __init__(self, options: Options, progress: Progress) -> None:
+    def __init__(self, settings: TablesSettings, progress: Progress) -> None:
         super().__init__(daemon=True)
-        self.path, self.progress, self.words = options.tables, progress, words_of(options)
-        self.reader = os.path.join(options.feed, READERS, READER)
+        self.path, self.progress, self.words = settings.path, progress, words_of(settings)
+        self.reader = os.path.join(settings.feed, READERS, READER)
         self.child = None
         self.lock, self.ended = threading.Lock(), threading.Event()
         self.said = ""

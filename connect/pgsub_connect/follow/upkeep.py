@@ -4,18 +4,15 @@ from __future__ import annotations
 
 import contextlib
 import time
-from typing import TYPE_CHECKING
 
 from ..errors import ServerError
 from ..server.connection import Connection
 from ..server.session import postmaster_start
+from ..server.subscription import Subscription
 from .ending import Ending
 from .filter_life import STEP, FilterLife
 from .schedule import Schedule
 from .stall import Standing
-
-if TYPE_CHECKING:
-    from ..commands.options import Options
 
 
 class Upkeep:
@@ -23,13 +20,19 @@ class Upkeep:
 
     def __init__(
         self,
-        options: Options,
+        silence: float,
+        subscription: Subscription,
         life: FilterLife,
         schedule: Schedule,
         standing: Standing,
         ending: Ending,
     ) -> None:
-        self.options, self.life, self.schedule = options, life, schedule
+        self.silence, self.subscription, self.life, self.schedule = (
+            silence,
+            subscription,
+            life,
+            schedule,
+        )
         self.filter, self.confirming = life.filter, life.confirming
         self.standing, self.ending = standing, ending
 
@@ -52,7 +55,7 @@ class Upkeep:
             self.life.misses.tell()
         self.require_server()
         self.schedule.keep_alive(0.0)
-        self.standing.check(self.options.silence)
+        self.standing.check(self.silence)
 
     def require_server(self) -> None:
         """Asks the server on another connection whether it is there, where nothing has come for too
@@ -62,8 +65,8 @@ class Upkeep:
             return
         try:
             connection = Connection(
-                self.options.dsn,
-                name=f"{self.options.slot} check",
+                self.subscription.dsn,
+                name=f"{self.subscription.slot} check",
                 quiet=True,
                 check=self.serve_server,
             )

@@ -4,14 +4,10 @@ one moment."""
 from __future__ import annotations
 
 import dataclasses
-from collections.abc import Iterator
 from typing import NamedTuple
 
 from pgsub_feed.relation import Column, Shape
-from pgsub_feed.texts import literal, parse_lsn
-
-from ..errors import WrongAnswer, understood
-from .connection import QUICK, Connection
+from pgsub_feed.texts import identifier
 
 ACTIONS = ("insert", "update", "delete", "truncate")
 
@@ -42,20 +38,31 @@ class Part(NamedTuple):
 
 
 @dataclasses.dataclass(frozen=True)
+class Leaves:
+    """The partitions of a table without any below them: the names for SQL of those whose changes
+    are in the log, and the OIDs of others."""
+
+    logged: list[str]
+    unlogged: list[int]
+    foreign: list[int]
+
+
+@dataclasses.dataclass(frozen=True)
 class Table:
-    """A published table. `untouched`: nobody has renamed it or moved it since it was made;
-    `unwritten`: nor written it anew; `node`: the number of the file with its rows, 0 where that
-    isn't known; `altered`: which transactions have made or altered its columns; `logged`: its
-    changes are in the log; `toast`: the OID of what keeps its long values, 0 where it has none, or
-    that isn't known; `primary`: the columns of its primary key, none where that is deferrable, or
-    isn't known."""
+    """A published table. `parts`: by publication; `untouched`: nobody has renamed it or moved it
+    since it was made; `unwritten`: nor written it anew; `node`: the number of the file with its
+    rows, 0 where that isn't known; `altered`: which transactions have made or altered its columns;
+    `logged`: its changes are in the log; `toast`: the OID of what keeps its long values, 0 where it
+    has none, or that isn't known; `primary`: the columns of its primary key, none where that is
+    deferrable, or isn't known; `leaves`: what some of its partitions are whose changes are in no
+    log, where it is to be read."""
 
     oid: int
     namespace: str
     name: str
     kind: str
     shape: Shape
-    parts: dict[str, Part]
+    parts: dict[str, Part] = dataclasses.field(default_factory=dict)
     untouched: bool = dataclasses.field(default=False, compare=False)
     unwritten: bool = dataclasses.field(default=False, compare=False)
     node: int = 0
@@ -63,9 +70,61 @@ class Table:
     logged: bool = True
     toast: int = 0
     primary: tuple[str, ...] = ()
+    leaves: Leaves | None = None
+
+    @property
+    def identity(self) -> str:
+        return self.shape.identity
+
+    @property
+    def columns(self) -> tuple[Column, ...]:
+        return self.shape.columns
+
+    @property
+    def row_filter(self) -> str | None:
+        """Which rows are sent, by any of the publications; None for all."""
+        filters = dict.fromkeys(part.row_filter for part in self.parts.values())
+        texts = [it for it in filters if it is not None]
+        if not texts or None in filters:
+            return None
+        return texts[0] if len(texts) == 1 else " OR ".join(f"({it})" for it in texts)
 
     def text(self) -> str:
-        return f"{self.namespace}.{self.name} ({self.oid})"
+        return f"{self.namespace}.{self.name}"
+
+    def text_with_oid(self) -> str:
+        return f"{self.text()} ({self.oid})"
+
+    def sql_name(self) -> str:
+        return f"{identifier(self.namespace)}.{identifier(self.name)}"
+
+    def query(self) -> str:
+        """The COPY of its published rows; a partitioned table is read with its partitions, any
+        other without its children."""
+        names = ", ".join(identifier(column.name) for column in self.columns)
+        return f"COPY (SELECT {names} {self.source()}) TO STDOUT"
+
+    def source(self) -> str:
+        """The part of a query that says which rows are published: none of a partition whose changes
+        are in no log."""
+        if self.leaves and self.leaves.foreign:
+            return f"FROM ({self.logged_rows(self.leaves.logged)}) AS logged"
+        conditions = [self.row_filter] if self.row_filter else []
+        if self.leaves:
+            unlogged = ", ".join(map(str, self.leaves.unlogged))
+            conditions = [*(f"({it})" for it in conditions), f"tableoid NOT IN ({unlogged})"]
+        only = "" if self.kind == "p" else "ONLY "
+        where = f" WHERE {' AND '.join(conditions)}" if conditions else ""
+        return f"FROM {only}{self.sql_name()}{where}"
+
+    def logged_rows(self, leaves: list[str]) -> str:
+        """The rows of some leaves, each read by itself: by way of the root the foreign ones would
+        be read all the same."""
+        names = ", ".join(identifier(column.name) for column in self.columns)
+        where = f" WHERE {self.row_filter}" if self.row_filter else ""
+        return " UNION ALL ".join(
+            f"SELECT {names} FROM ONLY {it}{where}" for it in leaves or [self.sql_name()]
+        )
 
 
 @dataclasses.dataclass(frozen=True)
@@ -107,342 +166,3 @@ class Catalog:
     # had no rows when they were attached
     kept: frozenset[int] = dataclasses.field(default=frozenset(), compare=False)
     fresh: frozenset[int] = dataclasses.field(default=frozenset(), compare=False)
-
-
-@understood("what is published")
-def read_catalog(connection: Connection, names: list[str]) -> Catalog:
-    """Reads it, with a number of queries that doesn't depend on that of the tables."""
-    connection.run("SET jit = off", limit=QUICK)
-    running = connection.text(
-        "SELECT pg_catalog.txid_snapshot_xmin(pg_catalog.txid_current_snapshot())"
-    )
-    publications = read_publications(connection, names)
-    tables = read_tables(connection, list(publications))
-    partitions = read_partitions(connection, list(publications))
-    note_since(tables, read_members(connection, list(publications)), partitions)
-    types = read_types(connection, list(tables))
-    highest = int(connection.text("SELECT max(oid) FROM pg_catalog.pg_class"))
-    end = connection.text(
-        "SELECT CASE WHEN pg_catalog.pg_is_in_recovery() THEN pg_catalog.pg_last_wal_replay_lsn()"
-        " ELSE pg_catalog.pg_current_wal_insert_lsn() END"
-    )
-    return Catalog(
-        tuple(names), parse_lsn(end), highest, publications, tables, partitions, types, int(running)
-    )
-
-
-def listed_names(names: list[str]) -> str:
-    return ", ".join(literal(name) for name in names) or "NULL"
-
-
-def listed_oids(oids: list[int]) -> str:
-    return ", ".join(str(oid) for oid in oids) or "NULL"
-
-
-def number(text: str | None) -> int:
-    return int(text or 0)
-
-
-def read_publications(connection: Connection, names: list[str]) -> dict[str, Publication]:
-    version = connection.version()
-    via_root = "p.pubviaroot" if version >= 130000 else "false"
-    generated = "p.pubgencols = 's'" if version >= 180000 else "false"
-    rows = connection.rows(
-        f"SELECT p.pubname, p.oid, p.puballtables, p.pubinsert, p.pubupdate, p.pubdelete, p.pubtruncate, {via_root}, {generated},"
-        " p.pubowner, p.xmin::pg_catalog.text"
-        f" FROM pg_catalog.pg_publication p WHERE p.pubname IN ({listed_names(names)}) ORDER BY 1",
-        QUICK,
-    )
-    return {
-        name
-        or "": Publication(
-            number(oid),
-            whole == "t",
-            tuple(word for word, it in zip(ACTIONS, more) if it == "t"),
-            more[4] == "t",
-            more[5] == "t",
-            number(more[6]),
-            more[7] or "",
-        )
-        for name, oid, whole, *more in rows
-    }
-
-
-def is_whole(connection: Connection, relation: str) -> str:
-    """Whether a publication `p` has a relation because it has all, or all of a schema."""
-    if connection.version() < 150000:
-        return "p.puballtables"
-    schemas = f"pg_catalog.pg_publication_namespace s WHERE s.pnpubid = p.oid AND s.pnnspid = {relation}.relnamespace"
-    return f"(p.puballtables OR EXISTS (SELECT FROM {schemas}))"
-
-
-# Whether nothing has changed the row type `y` of a relation since it was made: a column of the same
-# transaction and command is still there. A renamed or moved table, and one that was attached as a
-# partition, has no such column.
-UNTOUCHED = (
-    "EXISTS (SELECT FROM pg_catalog.pg_attribute b WHERE b.attrelid = y.typrelid AND b.attnum > 0"
-    " AND b.xmin = y.xmin AND b.cmin = y.cmin)"
-)
-# Whether nothing has written a relation `c` anew, as TRUNCATE, SET LOGGED and others do.
-UNWRITTEN = "COALESCE(pg_catalog.pg_relation_filenode(c.oid) = c.oid, true)"
-# The transactions that have made or altered the columns of a relation `c`. VACUUM FULL, CLUSTER and
-# TRUNCATE alter none.
-ALTERED = (
-    "(SELECT pg_catalog.string_agg(DISTINCT b.xmin::pg_catalog.text, ' ') FROM pg_catalog.pg_attribute b"
-    " WHERE b.attrelid = c.oid AND b.attnum > 0 AND NOT b.attisdropped)"
-)
-
-
-# Whether changes of a relation `c` are in the log: not of a foreign table, nor of one that is
-# unlogged.
-LOGGED = "c.relpersistence = 'p' AND c.relkind <> 'f'"
-
-
-def read_tables(connection: Connection, names: list[str]) -> dict[int, Table]:
-    """The published tables. Row filters and column lists came with PostgreSQL 15."""
-    fine = connection.version() >= 150000
-    row_filter = "pg_catalog.pg_get_expr(g.qual, g.relid)" if fine else "NULL"
-    listed = "pg_catalog.array_to_string(r.prattrs::pg_catalog.int2[], ',')" if fine else "NULL"
-    sent = "pg_catalog.array_to_string(g.attrs::pg_catalog.int2[], ',')" if fine else "NULL"
-    rows = connection.rows(
-        f"SELECT p.pubname, c.oid, n.nspname, c.relname, c.relkind, c.relreplident, {row_filter}, {listed}, {sent},"
-        f" {is_whole(connection, 'c')}, {UNTOUCHED}, {UNWRITTEN}, pg_catalog.pg_relation_filenode(c.oid), {ALTERED},"
-        f" {LOGGED}, c.reltoastrelid FROM pg_catalog.pg_publication p"
-        " CROSS JOIN LATERAL pg_catalog.pg_get_publication_tables(p.pubname::pg_catalog.text) g"
-        " JOIN pg_catalog.pg_class c ON c.oid = g.relid JOIN pg_catalog.pg_namespace n ON n.oid = c.relnamespace"
-        " LEFT JOIN pg_catalog.pg_type y ON y.oid = c.reltype"
-        " LEFT JOIN pg_catalog.pg_publication_rel r ON r.prpubid = p.oid AND r.prrelid = c.oid"
-        f" WHERE p.pubname IN ({listed_names(names)}) ORDER BY c.oid, p.pubname",
-        QUICK,
-    )
-    oids = sorted({number(row[1]) for row in rows})
-    columns, keys = read_columns(connection, oids), read_keys(connection, oids)
-    tables: dict[int, Table] = {}
-    for (
-        publication,
-        relid,
-        namespace,
-        name,
-        kind,
-        identity,
-        where,
-        own,
-        attributes,
-        whole,
-        *more,
-    ) in rows:
-        oid, (untouched, unwritten, node, altered, logged, toast) = number(relid), more
-        part = Part(where, numbers(own), whole == "t")
-        if oid in tables:
-            tables[oid].parts[publication or ""] = part
-            continue
-        shape = Shape(
-            identity or "", sent_columns(connection, columns.get(oid, []), numbers(attributes))
-        )
-        tables[oid] = Table(
-            oid,
-            namespace or "",
-            name or "",
-            kind or "",
-            shape,
-            {publication or "": part},
-            untouched == "t",
-            unwritten == "t",
-            number(node),
-            altered or "",
-            logged == "t",
-            number(toast),
-            tuple(keys.get(oid, ())),
-        )
-    return tables
-
-
-def numbers(text: str | None) -> tuple[int, ...] | None:
-    return tuple(sorted(int(it) for it in text.split(","))) if text else None
-
-
-def sent_columns(
-    connection: Connection, columns: list[tuple[Column, bool]], listed: tuple[int, ...] | None
-) -> tuple[Column, ...]:
-    """The columns that are sent. Generated ones are from PostgreSQL 18 on, where the server lists
-    them."""
-    generated = connection.version() >= 180000 and listed is not None
-    return tuple(
-        it
-        for it, computed in columns
-        if (listed is None or it.number in listed) and (generated or not computed)
-    )
-
-
-def read_columns(connection: Connection, oids: list[int]) -> dict[int, list[tuple[Column, bool]]]:
-    """All columns of tables, and whether each is generated. A key column is one of the replica
-    identity's index, or any one under REPLICA IDENTITY FULL."""
-    rows = connection.rows(
-        "SELECT a.attrelid, a.attname, a.atttypid, a.atttypmod, a.attnum, a.attgenerated <> '',"
-        " c.relreplident = 'f' OR EXISTS (SELECT FROM pg_catalog.pg_index i"
-        "  WHERE i.indrelid = a.attrelid AND i.indisunique AND i.indisvalid AND i.indimmediate AND i.indpred IS NULL"
-        "  AND CASE c.relreplident WHEN 'd' THEN i.indisprimary WHEN 'i' THEN i.indisreplident ELSE false END"
-        "   AND a.attnum = ANY ((i.indkey::pg_catalog.int2[])[0:i.indnkeyatts - 1]))"
-        " FROM pg_catalog.pg_attribute a JOIN pg_catalog.pg_class c ON c.oid = a.attrelid"
-        f" WHERE a.attrelid IN ({listed_oids(oids)}) AND a.attnum > 0 AND NOT a.attisdropped ORDER BY a.attrelid, a.attnum",
-        QUICK,
-    )
-    columns: dict[int, list[tuple[Column, bool]]] = {}
-    for oid, name, type_oid, modifier, place, computed, key in rows:
-        column = Column(name or "", number(type_oid), number(modifier), key == "t", number(place))
-        columns.setdefault(number(oid), []).append((column, computed == "t"))
-    return columns
-
-
-def read_keys(connection: Connection, oids: list[int]) -> dict[int, list[str]]:
-    """The columns of tables' primary keys, in the key's order; none of a deferrable one, which may
-    have equal values within a transaction."""
-    rows = connection.rows(
-        "SELECT i.indrelid, a.attname FROM pg_catalog.pg_index i"
-        " CROSS JOIN LATERAL pg_catalog.unnest((i.indkey::pg_catalog.int2[])[0:i.indnkeyatts - 1])"
-        " WITH ORDINALITY k (attnum, place)"
-        " JOIN pg_catalog.pg_attribute a ON a.attrelid = i.indrelid AND a.attnum = k.attnum"
-        f" WHERE i.indrelid IN ({listed_oids(oids)})"
-        " AND i.indisprimary AND i.indisvalid AND i.indimmediate ORDER BY i.indrelid, k.place",
-        QUICK,
-    )
-    keys: dict[int, list[str]] = {}
-    for oid, name in rows:
-        keys.setdefault(number(oid), []).append(name or "")
-    return keys
-
-
-def read_partitions(connection: Connection, names: list[str]) -> dict[int, Partition]:
-    """The partitioned tables of the publications and all that is below them, whichever name it is
-    published under.
-
-    (pg_partition_tree would wait for locks.)
-    """
-    rows = connection.rows(
-        "WITH RECURSIVE t (oid, parent) AS ("
-        " SELECT root.oid, i.inhparent FROM pg_catalog.pg_publication p JOIN pg_catalog.pg_class root ON root.relkind = 'p'"
-        f"  AND ({is_whole(connection, 'root')} OR EXISTS (SELECT FROM pg_catalog.pg_publication_rel r"
-        "   WHERE r.prpubid = p.oid AND r.prrelid = root.oid))"
-        f" LEFT JOIN pg_catalog.pg_inherits i ON i.inhrelid = root.oid WHERE p.pubname IN ({listed_names(names)})"
-        " UNION SELECT i.inhrelid, i.inhparent FROM t JOIN pg_catalog.pg_inherits i ON i.inhparent = t.oid)"
-        f" SELECT c.oid, t.parent, n.nspname || '.' || c.relname, c.relkind <> 'p', i.xmin = y.xmin AND {UNTOUCHED} AND {UNWRITTEN},"
-        f" pg_catalog.pg_relation_filenode(c.oid), i.xmin::pg_catalog.text, {LOGGED}, c.reltoastrelid"
-        " FROM t JOIN pg_catalog.pg_class c ON c.oid = t.oid JOIN pg_catalog.pg_namespace n ON n.oid = c.relnamespace"
-        " LEFT JOIN pg_catalog.pg_inherits i ON i.inhrelid = t.oid JOIN pg_catalog.pg_type y ON y.oid = c.reltype ORDER BY 1",
-        QUICK,
-    )
-    partitions = {
-        number(oid): Partition(
-            number(oid),
-            number(parent),
-            name or "",
-            leaf == "t",
-            made == "t",
-            number(node),
-            since or "",
-            logged == "t",
-            number(toast),
-        )
-        for oid, parent, name, leaf, made, node, since, logged, toast in rows
-    }
-    check_tree(partitions)
-    return partitions
-
-
-def check_tree(partitions: dict[int, Partition]) -> None:
-    """Rejects partitions in a circle, in which whoever looks for what is above one would go round
-    for ever."""
-    checked: set[int] = set()
-    for first in partitions:
-        oid, way = first, list[int]()
-        while oid in partitions and oid not in checked:
-            checked.add(oid)
-            way.append(oid)
-            oid = partitions[oid].parent
-        if oid in way:
-            raise WrongAnswer(f"the server's partitions are in a circle: {oid} is below itself")
-
-
-# By publication and the OID of a relation: the OIDs of what says that the publication has it,
-# itself or by its schema, that with who put it there.
-Members = dict[str, dict[int, list[str]]]
-# Which transaction has put a relation `c` into its schema: that it depends on that is written when
-# it is made, or moved. (It depends on no other one; if this were said, the server might look for
-# each by way of all that the schema has.)
-PUT = (
-    "pg_catalog.pg_depend d ON d.classid = 'pg_catalog.pg_class'::pg_catalog.regclass AND d.objid = c.oid AND d.objsubid = 0"
-    " AND d.refclassid = 'pg_catalog.pg_namespace'::pg_catalog.regclass"
-)
-
-
-def read_members(connection: Connection, names: list[str]) -> Members:
-    """The relations that the publications list, or whose schemas they do. What left a list and
-    joined it again has another OID there, and what left a schema was put there by another
-    transaction."""
-    listed = f"p.pubname IN ({listed_names(names)})"
-    query = (
-        "SELECT p.pubname, r.prrelid, r.oid::pg_catalog.text FROM pg_catalog.pg_publication p JOIN pg_catalog.pg_publication_rel r ON r.prpubid = p.oid"
-        f" WHERE {listed}"
-    )
-    if connection.version() >= 150000:
-        query += (
-            " UNION ALL SELECT p.pubname, c.oid, s.oid::pg_catalog.text || COALESCE('@' || d.xmin::pg_catalog.text, '')"
-            " FROM pg_catalog.pg_publication p JOIN pg_catalog.pg_publication_namespace s ON s.pnpubid = p.oid"
-            f" JOIN pg_catalog.pg_class c ON c.relnamespace = s.pnnspid AND c.relkind IN ('r', 'p') LEFT JOIN {PUT} WHERE {listed}"
-        )
-    members: Members = {}
-    for name, relation, entry in connection.rows(query, QUICK):
-        members.setdefault(name or "", {}).setdefault(number(relation), []).append(entry or "")
-    return members
-
-
-def note_since(
-    tables: dict[int, Table], members: Members, partitions: dict[int, Partition]
-) -> None:
-    """Notes of each table by what publications have it: itself, or what it is a partition of, with
-    who attached it there."""
-    for oid, table in tables.items():
-        for name, part in table.parts.items():
-            table.parts[name] = part._replace(
-                since=tuple(sorted(ways_to(oid, members.get(name, {}), partitions)))
-            )
-
-
-def ways_to(
-    oid: int, members: dict[int, list[str]], partitions: dict[int, Partition]
-) -> Iterator[str]:
-    """What says that a publication has a relation, or one above it: `16401`, `16388/741` of one
-    that transaction 741 has attached, `16390@742` of one that transaction 742 has put into a
-    schema."""
-    way = ""
-    while oid:
-        yield from (entry + way for entry in members.get(oid, ()))
-        partition = partitions.get(oid)
-        oid, way = (partition.parent, f"{way}/{partition.since}") if partition else (0, way)
-
-
-def read_types(connection: Connection, oids: list[int]) -> dict[int, dict[str, str]]:
-    """What the text of a value depends on beside the value: the labels of enumerations by their
-    OID, and the types of the parts of composite types by their number. Both of all types that
-    columns have in them: in arrays, domains, ranges, composites.
-    """
-    rows = connection.rows(
-        "WITH RECURSIVE t (oid) AS ("
-        f" SELECT a.atttypid FROM pg_catalog.pg_attribute a WHERE a.attrelid IN ({listed_oids(oids)}) AND a.attnum > 0"
-        " UNION SELECT u.oid FROM t JOIN pg_catalog.pg_type y ON y.oid = t.oid, LATERAL ("
-        "  SELECT y.typelem AS oid UNION ALL SELECT y.typbasetype"
-        "  UNION ALL SELECT r.rngsubtype FROM pg_catalog.pg_range r WHERE r.rngtypid = y.oid"
-        "  UNION ALL SELECT a.atttypid FROM pg_catalog.pg_attribute a"
-        "   WHERE a.attrelid = y.typrelid AND a.attnum > 0 AND NOT a.attisdropped) u WHERE u.oid <> 0)"
-        " SELECT y.oid, 'name', y.oid::pg_catalog.regtype::pg_catalog.text FROM t JOIN pg_catalog.pg_type y ON y.oid = t.oid"
-        "  WHERE y.typtype IN ('c', 'e')"
-        " UNION ALL SELECT e.enumtypid, e.oid::pg_catalog.text, e.enumlabel FROM t JOIN pg_catalog.pg_enum e ON e.enumtypid = t.oid"
-        " UNION ALL SELECT y.oid, '#' || a.attnum, a.atttypid::pg_catalog.text || ' ' || a.atttypmod FROM t"
-        "  JOIN pg_catalog.pg_type y ON y.oid = t.oid"
-        "  JOIN pg_catalog.pg_attribute a ON a.attrelid = y.typrelid AND a.attnum > 0 AND NOT a.attisdropped ORDER BY 1, 2",
-        QUICK,
-    )
-    types: dict[int, dict[str, str]] = {}
-    for oid, part, text in rows:
-        types.setdefault(number(oid), {})[part or ""] = text or ""
-    return types

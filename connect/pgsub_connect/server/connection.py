@@ -4,178 +4,37 @@ environment."""
 from __future__ import annotations
 
 import contextlib
-import ctypes
-import ipaddress
-import mmap
-import os
-import re
 import select
-import socket
 import threading
 import time
 from collections.abc import Iterator
-from typing import Any, Protocol
 
 import psycopg
 from psycopg import pq
-from psycopg.conninfo import conninfo_to_dict, make_conninfo
 
 from pgsub_feed.interruption import Check, never
 from pgsub_feed.texts import said_text, shortened
 
-from ..errors import ServerError, Unconnected, WrongAnswer, understood
-from . import transport
-from .libpq import BYTES_AT, LIBPQ, typed
+from ..errors import ServerError, WrongAnswer, understood
+from . import login
+from .addresses import DEFAULTS, parameters
+from .libpq import is_by_gssapi
 from .notices import Notices
 from .rows import Rows
+from .ticks import TICK, ready
+from .wire import ENDED, Slow, wire_of
 
-# After how many seconds each, at most, a host is given up, and a command that takes no time at the
-# server.
-CONNECT_LIMIT = 10.0
+# After how many seconds a command is given up that takes no time at the server.
 QUICK = 60.0
-# The first libpq that can be told to connect to a primary alone. One whose transactions are
-# read-only by default is one, too.
-PRIMARY = 140000
-# The limits that a DSN can give for a host: libpq knows none below two seconds, and takes 0 for
-# none at all.
-LEAST_LIMIT, MOST_LIMIT = 2.0, 3600.0
 # After how many rows that have come already it is looked for the end, which costs more than a row.
 ROWS_UNSEEN = 256
-# How long a wait may go on before it looks whether the end was asked for, in seconds.
-TICK = 0.5
 DONE = (pq.ExecStatus.EMPTY_QUERY, pq.ExecStatus.COMMAND_OK, pq.ExecStatus.TUPLES_OK)
 ROWS = (pq.ExecStatus.TUPLES_OK,)
 COPY_OUT = (pq.ExecStatus.COPY_OUT,)
 COPY_BOTH = (pq.ExecStatus.COPY_BOTH,)
 COPIES = (pq.ExecStatus.COPY_OUT, pq.ExecStatus.COPY_BOTH, pq.ExecStatus.COPY_IN)
-# libpq's PQERRORS_DEFAULT and PQERRORS_VERBOSE, and what a verbose error adds: a code, and a last
-# line with a place in its source.
-DEFAULT, VERBOSE = 1, 2
-CODE, PLACE_IN_SOURCE = re.compile(r":  ([0-9A-Z]{5}): "), re.compile(r"\n[^\n]*\.c:\d+$", re.M)
-# What a DSN goes before. A lost peer is noticed within about a minute.
-DEFAULTS = {
-    "keepalives_idle": "30",
-    "keepalives_interval": "10",
-    "keepalives_count": "3",
-    "tcp_user_timeout": "60000",
-}
-
 # How many bytes are dropped at a time.
 DRAINED = 1 << 20
-# What PQgetCopyData returns after the last message, and for an error.
-ENDED, FAILED = -1, -2
-
-
-# libpq's own calls, where psycopg makes them by ctypes too.
-GET_COPY_DATA = typed(
-    LIBPQ and LIBPQ.PQgetCopyData, ctypes.c_int, ctypes.c_void_p, ctypes.c_void_p, ctypes.c_int
-)
-FREE = typed(LIBPQ and LIBPQ.PQfreemem, None, ctypes.c_void_p)
-CONSUME_INPUT = typed(LIBPQ and LIBPQ.PQconsumeInput, ctypes.c_int, ctypes.c_void_p)
-PUT_COPY_DATA = typed(
-    LIBPQ and LIBPQ.PQputCopyData, ctypes.c_int, ctypes.c_void_p, ctypes.c_char_p, ctypes.c_int
-)
-FLUSH = typed(LIBPQ and LIBPQ.PQflush, ctypes.c_int, ctypes.c_void_p)
-PLACE_OF = typed(ctypes.pythonapi["PyBytes_AsString"], ctypes.c_void_p, ctypes.py_object)
-MADVISE = typed(
-    ctypes.CDLL(None).madvise, ctypes.c_int, ctypes.c_void_p, ctypes.c_size_t, ctypes.c_int
-)
-# In pieces of how many bytes a longer message is moved, and how long the system's pages are.
-MOVED, PAGE = 1 << 20, mmap.PAGESIZE
-# A call of libpq that psycopg lacks.
-GSS_IN_USE: Any = getattr(LIBPQ, "PQgssEncInUse", None)
-
-
-def parameters(dsn: str) -> dict[str, str]:
-    """What a connection string or URI says. A database's name alone is one too, as libpq has it."""
-    if dsn and "=" not in dsn and not dsn.startswith(("postgresql://", "postgres://")):
-        return {"dbname": dsn}
-    try:
-        return {name: str(value) for name, value in conninfo_to_dict(dsn).items()}
-    except psycopg.ProgrammingError:
-        # (libpq's own text may have a part of a password in it)
-        raise ServerError("the connection string is not one of libpq's", "22023") from None
-
-
-def hosts_of(settings: dict[str, str]) -> list[dict[str, str]]:
-    """The settings of one attempt for each host, in libpq's order."""
-    hosts, addresses, ports = (
-        (settings.get(name) or os.environ.get(variable) or "").split(",")
-        for name, variable in (("host", "PGHOST"), ("hostaddr", "PGHOSTADDR"), ("port", "PGPORT"))
-    )
-    count = max(len(hosts), len(addresses))
-    if count == 1 or settings.get("target_session_attrs") == "prefer-standby":
-        return [settings]
-    if len(ports) not in (1, count) or {len(hosts), len(addresses)} - {1, count}:
-        raise ServerError("the connection string has other numbers of hosts and ports", "22023")
-    attempts = []
-    for it in range(count):
-        own = {
-            "host": hosts[it % len(hosts)],
-            "hostaddr": addresses[it % len(addresses)],
-            "port": ports[it % len(ports)],
-        }
-        attempt = {**settings, **own}
-        # A restarted primary is waited for, rather than one of its standbys followed.
-        primary = "primary" if pq.version() >= PRIMARY else "read-write"
-        attempt.setdefault("target_session_attrs", os.environ.get("PGTARGETSESSIONATTRS", primary))
-        attempts.append(attempt)
-    return attempts
-
-
-def connect_limit(said: str) -> float:
-    """After how many seconds a host is given up, where a DSN or libpq's environment has this as its
-    `connect_timeout`."""
-    text = said or os.environ.get("PGCONNECT_TIMEOUT", "")
-    try:
-        number = float(text) if text else CONNECT_LIMIT
-    except ValueError:
-        raise ServerError("connect_timeout is no number", "22023") from None
-    return min(max(number, LEAST_LIMIT), MOST_LIMIT) if number > 0 else MOST_LIMIT
-
-
-def is_resolved(settings: dict[str, str]) -> bool:
-    """Whether no name has to be looked up for these settings, or libpq has to do it since it
-    chooses among several hosts itself."""
-    host = settings.get("host") or os.environ.get("PGHOST", "")
-    if (
-        settings.get("hostaddr")
-        or os.environ.get("PGHOSTADDR")
-        or not host
-        or host.startswith(("/", "@"))
-        or "," in host
-    ):
-        return True
-    with contextlib.suppress(ValueError):
-        ipaddress.ip_address(host)
-        return True
-    return bool(settings.get("service") or os.environ.get("PGSERVICE"))
-
-
-def addresses_of(settings: dict[str, str], check: Check) -> list[dict[str, str]]:
-    """The settings with each address of their host. The look-up is left to a thread, since nothing
-    can interrupt it."""
-    if is_resolved(settings):
-        return [settings]
-    host, found, failed = settings.get("host") or os.environ["PGHOST"], list[str](), list[OSError]()
-
-    def look_up() -> None:
-        try:
-            answers = socket.getaddrinfo(host, None, type=socket.SOCK_STREAM)
-            found.extend(dict.fromkeys(str(answer[4][0]) for answer in answers))
-        except OSError as error:
-            failed.append(error)
-
-    thread = threading.Thread(target=look_up, daemon=True)
-    thread.start()
-    until = time.monotonic() + CONNECT_LIMIT
-    while thread.is_alive() and time.monotonic() < until:
-        thread.join(TICK / 2)
-        check()
-    if not found:
-        why = failed[0].strerror if failed else f"no answer within {CONNECT_LIMIT:.0f} seconds"
-        raise Unconnected(f"the host {host} can't be looked up: {why}")
-    return [{**settings, "hostaddr": address} for address in found]
 
 
 class Connection:
@@ -207,8 +66,8 @@ class Connection:
         }
         if replication:
             settings["replication"] = "database"
-        self.limit = connect_limit(settings.pop("connect_timeout", ""))
-        self.raw = self.connected(settings)
+        # (how it is protected)
+        self.raw, self.protection = login.connect(settings, check)
         # what the server has said of publications whose changes it leaves out, since the caller
         # looked last
         self.left_out: list[str] = []
@@ -217,62 +76,18 @@ class Connection:
         self.number = self.raw.socket
         self.wire = wire_of(self.raw)
 
-    def connected(self, settings: dict[str, str]) -> pq.abc.PGconn:
-        """Connects to the first host that can be reached. The error is that of all of them."""
-        errors = []
-        for attempt in hosts_of(settings):
-            try:
-                return self.connect_to_host(attempt)
-            except ServerError as error:
-                errors.append(error)
-        raise together(errors)
+    def set_check(self, check: Check) -> None:
+        """Has this called from now on while something is waited for."""
+        self.check = check
 
-    def connect_to_host(self, settings: dict[str, str]) -> pq.abc.PGconn:
-        """Connects to the first address of a host that can be reached. What another try doesn't
-        mend is the host's own answer."""
-        errors = []
-        for resolved in addresses_of(settings, self.check):
-            try:
-                return self.connect_to(resolved)
-            except ServerError as error:
-                if error.is_lasting():
-                    raise
-                errors.append(error)
-        raise together(errors)
-
-    def connect_to(self, settings: dict[str, str]) -> pq.abc.PGconn:
-        """Connects to one address without blocking. How it is protected is settled before, and
-        judged after."""
-        settings = transport.OWN.guarded(settings)
-        raw = pq.PGconn.connect_start(
-            make_conninfo(**{name: it for name, it in settings.items() if it}).encode()
-        )
-        set_verbosity(raw, VERBOSE)
-        until = time.monotonic() + self.limit
+    @contextlib.contextmanager
+    def checked_by(self, check: Check) -> Iterator[None]:
+        """Calls this in place of its own check meanwhile."""
+        own, self.check = self.check, check
         try:
-            while raw.status != pq.ConnStatus.BAD and (polled := raw.connect_poll()) not in (
-                pq.PollingStatus.OK,
-                pq.PollingStatus.FAILED,
-            ):
-                self.check()
-                if time.monotonic() > until:
-                    raise Unconnected(
-                        f"{where(settings)}: no answer within {self.limit:.0f} seconds"
-                    )
-                reads = polled == pq.PollingStatus.READING
-                select.select(
-                    [raw.socket] if reads else [], [] if reads else [raw.socket], [], TICK
-                )
-            if raw.status != pq.ConnStatus.OK:
-                raise transport.OWN.explained(connection_error(raw, where(settings)))
-            self.protection = transport.protection_of(raw, is_by_gssapi(raw) or False)
-            transport.OWN.judge(self.protection)
-            set_verbosity(raw, DEFAULT)
-            raw.nonblocking = 1
-        except BaseException:
-            raw.finish()
-            raise
-        return raw
+            yield
+        finally:
+            self.check = own
 
     def error(self) -> str:
         return said_text(self.raw.error_message)
@@ -286,8 +101,7 @@ class Connection:
                 self.check()
                 if time.monotonic() > until:
                     raise ServerError("the server didn't answer in time")
-                writes = [self.number] if self.unsent else []
-                has_come = bool(select.select([self.number], writes, [], TICK)[0])
+                has_come = ready(self.number, reads=True, writes=self.unsent)
                 if self.unsent:
                     self.flush()
             except BaseException:
@@ -554,170 +368,6 @@ class Connection:
         self.notices.end()
         self.wire = Slow(self.raw)
         self.raw.finish()
-
-
-class Wire(Protocol):
-    """What a session asks of libpq for each of its messages, or each time that some have come.
-    Nothing of it waits."""
-
-    def consume(self) -> bool:
-        """Reads what has come on the socket. Returns false where that failed."""
-
-    def take(self, room: int, long: int) -> tuple[list[bytes], int]:
-        """Takes payloads of CopyData, as far as there is room for so many bytes, or to the first
-        one that is at least so long. Returns beside them what PQgetCopyData returned last."""
-
-    def send(self, payload: bytes) -> int:
-        """Sends a CopyData, as `flush` does what is there."""
-
-    def flush(self) -> int:
-        """Sends as much as the socket takes. Returns 1 where some of it waits, 0 where nothing
-        does, and less where that failed."""
-
-
-class Quick:
-    """Does so by libpq's own calls. psycopg's way to them by ctypes, which costs as much again, is
-    passed by, and what is the same for all messages is made once."""
-
-    def __init__(self, pointer: int) -> None:
-        self.pointer, self.buffer = pointer, ctypes.c_void_p()
-        self.place = ctypes.addressof(self.buffer)
-
-    def consume(self) -> bool:
-        return bool(CONSUME_INPUT(self.pointer))
-
-    def take(self, room: int, long: int) -> tuple[list[bytes], int]:
-        get, pointer, buffer, place = GET_COPY_DATA, self.pointer, self.buffer, self.place
-        found: list[bytes] = []
-        length = 1
-        while room > 0:
-            length = get(pointer, place, 1)
-            if length <= 0:
-                break
-            payload = buffer.value
-            is_long = length >= MOVED
-            found.append(moved(payload or 0, length) if is_long else BYTES_AT(payload, length))
-            FREE(payload)
-            room -= length if length < long else room
-        return found, length
-
-    def send(self, payload: bytes) -> int:
-        put = PUT_COPY_DATA(self.pointer, payload, len(payload))
-        return FAILED if put < 0 else int(FLUSH(self.pointer))
-
-    def flush(self) -> int:
-        return int(FLUSH(self.pointer))
-
-
-def moved(place: int, length: int) -> bytes:
-    """The bytes at a place in memory whose owner only frees it afterwards. The system gets it back
-    piece by piece meanwhile: else a long row would be there once more."""
-    whole: bytes = BYTES_AT(None, length)
-    to = PLACE_OF(whole)
-    for at in range(0, length, MOVED):
-        size = min(MOVED, length - at)
-        ctypes.memmove(to + at, place + at, size)
-        first, last = -(-(place + at) // PAGE) * PAGE, (place + at + size) // PAGE * PAGE
-        if last > first:
-            MADVISE(first, last - first, mmap.MADV_DONTNEED)
-    return whole
-
-
-class Slow:
-    """Does so by psycopg, where it isn't the one over Debian's libpq, or where this is closed."""
-
-    def __init__(self, raw: pq.abc.PGconn) -> None:
-        self.raw = raw
-
-    def consume(self) -> bool:
-        try:
-            self.raw.consume_input()
-            return True
-        except psycopg.OperationalError:
-            return False
-
-    def take(self, room: int, long: int) -> tuple[list[bytes], int]:
-        found, length = list[bytes](), 1
-        while room > 0:
-            try:
-                length, view = self.raw.get_copy_data(1)
-            except psycopg.OperationalError:
-                return found, FAILED
-            if length <= 0:
-                break
-            found.append(bytes(view))
-            room -= length if length < long else room
-        return found, length
-
-    def send(self, payload: bytes) -> int:
-        try:
-            self.raw.put_copy_data(payload)
-            return self.raw.flush()
-        except psycopg.OperationalError:
-            return FAILED
-
-    def flush(self) -> int:
-        try:
-            return self.raw.flush()
-        except psycopg.OperationalError:
-            return FAILED
-
-
-def wire_of(raw: pq.abc.PGconn) -> Wire:
-    """That of an open connection."""
-    pointer = getattr(raw, "pgconn_ptr", None) if GET_COPY_DATA else None
-    if pointer is None:
-        return Slow(raw)
-    return Quick(pointer)
-
-
-def is_by_gssapi(raw: pq.abc.PGconn) -> bool | None:
-    """Whether a connection is encrypted by GSSAPI, None where that can't be told."""
-    pointer = getattr(raw, "pgconn_ptr", None)
-    if GSS_IN_USE is None or pointer is None:
-        return None
-    return bool(GSS_IN_USE(ctypes.c_void_p(pointer)))
-
-
-def set_verbosity(raw: pq.abc.PGconn, verbosity: int) -> None:
-    """Sets how much libpq's errors say, by the one call of libpq that psycopg lacks.
-
-    psycopg[binary] has a libpq of its own. The system's may be of another version, and would write
-    into that one's connection at a place where something else is.
-    """
-    if pq.__impl__ == "binary":
-        return
-    pointer = getattr(raw, "pgconn_ptr", None)
-    with contextlib.suppress(OSError, AttributeError):
-        ctypes.CDLL("libpq.so.5").PQsetErrorVerbosity(
-            ctypes.c_void_p(pointer), ctypes.c_int(verbosity)
-        )
-
-
-def together(errors: list[ServerError]) -> ServerError:
-    """The error of several attempts to connect. It lasts where each of them does."""
-    if len(errors) == 1:
-        return errors[0]
-    return Unconnected(
-        "\n".join(dict.fromkeys(map(str, errors))),
-        "28" if all(it.is_lasting() for it in errors) else "",
-    )
-
-
-def connection_error(raw: pq.abc.PGconn, host: str) -> Unconnected:
-    """The error of a connection that wasn't made. A verbose one has the SQLSTATE, which libpq gives
-    in no other way."""
-    said = said_text(raw.error_message)
-    found = CODE.search(said)
-    text = CODE.sub(":  ", PLACE_IN_SOURCE.sub("", said)) or f"{host}: can't connect"
-    return Unconnected(text, found[1] if found else "28P01" if raw.needs_password else "")
-
-
-def where(settings: dict[str, str]) -> str:
-    host = (
-        settings.get("host") or settings.get("hostaddr") or os.environ.get("PGHOST") or "the server"
-    )
-    return f"{host}:{settings['port']}" if settings.get("port") else host
 
 
 def cancel_by(handle: pq.abc.PGcancel) -> None:

@@ -2,8 +2,6 @@
 
 from __future__ import annotations
 
-from typing import TYPE_CHECKING
-
 from pgsub_feed import log
 from pgsub_feed.interruption import Check
 from pgsub_feed.texts import literal
@@ -11,14 +9,13 @@ from pgsub_feed.texts import literal
 from ..errors import ServerError, understood
 from .connection import Connection
 from .preflight import source_wanted
-from .publication_setup import REFUSED, Wanted, keyless_of, names_of
+from .publication_setup import REFUSED, Wanted, names_of
+from .replica_identity import keyless_of
 from .session import settle
-
-if TYPE_CHECKING:
-    from ..commands.options import Options
+from .subscription import Subscription
 
 
-def require_published(options: Options, check: Check) -> None:
+def require_published(subscription: Subscription, wanted: Wanted, check: Check) -> None:
     """Ends a start with a store that follows no publication with what --table or --all-tables asks
     for.
 
@@ -29,20 +26,20 @@ def require_published(options: Options, check: Check) -> None:
     Which columns and rows they have of a table isn't compared here: what changes of these is found
     at each connection.
     """
-    connection = Connection(options.dsn, name=f"{options.slot} check", check=check)
+    connection = Connection(subscription.dsn, name=f"{subscription.slot} check", check=check)
     try:
-        names = ", ".join(map(literal, options.publication))
+        names = ", ".join(map(literal, wanted.publications))
         # (names of tables are looked up as the role does it)
         wrong, others = (
-            different_tables(connection, options, names)
-            if options.table
+            different_tables(connection, wanted, names)
+            if wanted.tables
             else (not_whole(connection, names), "")
         )
     finally:
         connection.close()
     if wrong:
         wrong = "; ".join(filter(None, (wrong, others)))
-        text = "--table" if options.table else "--all-tables"
+        text = "--table" if wanted.tables else "--all-tables"
         raise ServerError(
             f"{text} isn't what the store follows: {wrong}. Alter the publication, or leave {text} out",
             REFUSED,
@@ -59,10 +56,9 @@ def not_whole(connection: Connection, names: str) -> str:
     return "" if rows else f"no publication for all tables ({names})"
 
 
-def different_tables(connection: Connection, options: Options, names: str) -> tuple[str, str]:
+def different_tables(connection: Connection, wanted: Wanted, names: str) -> tuple[str, str]:
     """What --table has and the publications don't list; and what these list besides, or what isn't
     there at all."""
-    wanted = Wanted(options.publication, options.table, keyless=options.keyless)
     source, unknown = source_wanted(connection, wanted)
     settle(connection)
     asked = tables_of(connection, source) if source else {}
@@ -72,7 +68,7 @@ def different_tables(connection: Connection, options: Options, names: str) -> tu
         f" WHERE p.pubname IN ({names})",
     )
     missing = {oid: name for oid, name in asked.items() if oid not in there}
-    if missing and options.keyless == "leave-out":
+    if missing and wanted.keyless == "leave-out":
         left_out = keyless_of(connection, source)
         missing = {oid: name for oid, name in missing.items() if oid not in left_out}
     more = {oid: name for oid, name in there.items() if oid not in asked}

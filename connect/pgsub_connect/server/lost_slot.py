@@ -2,17 +2,11 @@
 
 from __future__ import annotations
 
-from typing import TYPE_CHECKING
-
 from pgsub_feed.texts import literal, lsn_text
 
 from ..errors import ServerError, understood
 from .connection import QUICK, Connection
 from .session import is_lost
-
-if TYPE_CHECKING:
-    from ..commands.options import Options
-
 
 # The first versions that say why a slot is lost, and that end one which is idle.
 REASONS, IDLE = 170000, 180000
@@ -31,25 +25,25 @@ WHY = {
 }
 
 
-def anew(options: Options) -> str:
+def anew(store: str) -> str:
     """How to begin with another slot."""
     return (
-        f"`pgsub-connect drop --dsn .. --store {options.store}` drops it with the copy, and the"
+        f"`pgsub-connect drop --dsn .. --store {store}` drops it with the copy, and the"
         " next start with --create copies anew"
     )
 
 
-def lost_error(connection: Connection, options: Options, error: ServerError) -> ServerError:
+def lost_error(connection: Connection, slot: str, store: str, error: ServerError) -> ServerError:
     """What a start of replication has ended with, with its cure where the slot is lost."""
-    if not is_lost(connection, options.slot):
+    if not is_lost(connection, slot):
         return error
     query = (
         "SELECT s.invalidation_reason FROM pg_catalog.pg_replication_slots s"
-        f" WHERE s.slot_name = {literal(options.slot)}"
+        f" WHERE s.slot_name = {literal(slot)}"
     )
     reason = connection.value(query, QUICK) if connection.version() >= REASONS else None
     why = WHY.get(reason or "", reason) or WHY[""]
-    text = f"the slot {options.slot} is lost: {why}. Nothing can follow from it: {anew(options)}"
+    text = f"the slot {slot} is lost: {why}. Nothing can follow from it: {anew(store)}"
     return ServerError(f"{error}\n{text}", error.sqlstate)
 
 
@@ -66,8 +60,8 @@ def idle_limit(connection: Connection) -> float | None:
 class Repeats:
     """Counts errors of values that come again and again at one LSN: what is there can't be sent."""
 
-    def __init__(self, options: Options) -> None:
-        self.options = options
+    def __init__(self, store: str) -> None:
+        self.store = store
         self.seen = ("", 0)
         self.count = 0
 
@@ -83,6 +77,6 @@ class Repeats:
                 f"{error}\nthe server can't send a change behind {lsn_text(position)}, in"
                 f" {self.count} attempts, and keeps its log meanwhile. Mend the value there (a text"
                 " that isn't UTF-8, in a database of SQL_ASCII). Of the slot:"
-                f" {anew(self.options)}",
+                f" {anew(self.store)}",
                 REFUSED,
             )

@@ -3,26 +3,22 @@ was asked for is never there."""
 
 from __future__ import annotations
 
-from typing import TYPE_CHECKING
+from collections.abc import Sequence
 
 from pgsub_feed.errors import UsageError
 
 from .publication_setup import inserts_of
 
-if TYPE_CHECKING:
-    from ..commands.options import Options
-
-
 # In bytes: NAMEDATALEN, with which servers are built, less the zero byte.
 LONGEST_NAME = 63
 
 
-def check_lengths(options: Options) -> None:
+def check_lengths(slot: str, publications: Sequence[str], keyless: str) -> None:
     """Rejects names of slot and publications that the server would cut or reject, before anything
     is asked of it."""
-    names = [("--slot", options.slot), *(("--publication", it) for it in options.publication)]
-    if options.keyless == "inserts":
-        made = options.publication or ["pgsub"]
+    names = [("--slot", slot), *(("--publication", it) for it in publications)]
+    if keyless == "inserts":
+        made = publications or ["pgsub"]
         names += [
             ("the name that --keyless inserts makes of --publication", inserts_of(it))
             for it in made

@@ -10,16 +10,10 @@ from pgsub_feed.texts import literal
 
 from ..errors import ServerError, understood
 from .connection import Connection
-from .publication_setup import (
-    Wanted,
-    has_publication,
-    keyless_of,
-    keyless_tables,
-    kinds_left_out,
-    members,
-    publishable,
-    tree_of,
-)
+from .publication_content import has_publication, kinds_left_out
+from .publication_setup import Wanted
+from .replica_identity import keyless_of, keyless_tables, members, publishable, tree_of
+from .slot import Slot, read_slot
 from .transport import Protection
 from .waits import prepared_texts
 
@@ -53,20 +47,6 @@ class Role:
 
 
 @dataclasses.dataclass
-class Slot:
-    """A slot of the wanted name. What the server's version doesn't have is empty."""
-
-    plugin: str = "pgoutput"
-    is_here: bool = True
-    is_active: bool = False
-    is_two_phase: bool = False
-    wal_status: str = ""
-    safe_wal_size: str = ""
-    is_failover: bool = False
-    why_invalid: str = ""
-
-
-@dataclasses.dataclass
 class TableFacts:
     """A table that is published, or would be."""
 
@@ -79,7 +59,7 @@ class TableFacts:
 
 
 @dataclasses.dataclass
-class Publication:
+class PublicationFacts:
     """A publication, which is there or would be made."""
 
     name: str
@@ -102,7 +82,7 @@ class Facts:
     senders: int = 0
     role: Role = dataclasses.field(default_factory=Role)
     slot: Slot | None = None
-    publications: list[Publication] = dataclasses.field(default_factory=list)
+    publications: list[PublicationFacts] = dataclasses.field(default_factory=list)
     tables: list[TableFacts] = dataclasses.field(default_factory=list)
     unknown: list[str] = dataclasses.field(default_factory=list)
     relations: int = 0
@@ -139,7 +119,7 @@ def server_facts(connection: Connection, slot: str) -> Facts:
         slots=int(slots or 0),
         senders=int(senders or 0),
         role=role_facts(connection),
-        slot=slot_facts(connection, slot),
+        slot=read_slot(connection, slot),
     )
 
 
@@ -164,71 +144,44 @@ def replicators(connection: Connection) -> str:
     )
 
 
-@understood("a slot")
-def slot_facts(connection: Connection, slot: str) -> Slot | None:
-    version = connection.version()
-    columns = [
-        name if version >= since else "NULL"
-        for name, since in (
-            ("s.two_phase", 140000),
-            ("s.wal_status", 130000),
-            ("s.safe_wal_size", 130000),
-            ("s.failover", 170000),
-            ("s.invalidation_reason", 170000),
-        )
-    ]
-    rows = connection.rows(
-        f"SELECT s.plugin, s.database = pg_catalog.current_database(), s.active, {', '.join(columns)}"
-        f" FROM pg_catalog.pg_replication_slots s WHERE s.slot_name = {literal(slot)}"
-    )
-    if not rows:
-        return None
-    plugin, here, active, two_phase, status, size, failover, why = rows[0]
-    return Slot(
-        plugin or "none",
-        true(here),
-        true(active),
-        true(two_phase),
-        status or "",
-        size or "",
-        true(failover),
-        why or "",
-    )
-
-
 @understood("the publications")
-def publication_facts(connection: Connection, facts: Facts, wanted: Wanted) -> None:
-    """What concerns the publications, and the tables that they have or would have."""
-    sources = []
+def with_publications(connection: Connection, facts: Facts, wanted: Wanted) -> Facts:
+    """Facts with what concerns the publications, and the tables that they have or would have."""
+    found, nameless, sources = list[PublicationFacts](), list[str](), list[str]()
     for name in wanted.publications:
         if has_publication(connection, name):
-            facts.publications.append(publication_there(connection, name))
+            found.append(publication_there(connection, name))
             sources.append(members(name))
         else:
             source, unknown = source_wanted(connection, wanted)
-            facts.unknown += unknown
+            nameless += unknown
             keyless = keyless_of(connection, source) if source else {}
-            facts.publications.append(
-                Publication(name, is_there=False, keyless=list(keyless.values()))
-            )
+            found.append(PublicationFacts(name, is_there=False, keyless=list(keyless.values())))
             sources += [source] if source else []
     source = " UNION ".join(sources) or "SELECT 0::pg_catalog.oid AS relid WHERE false"
-    facts.tables = tables_facts(connection, source)
     trees = f"SELECT DISTINCT t.part FROM {tree_of(connection, source)} t"
     # (a table, its indexes and what it keeps out of line are locked while it is read)
     count = connection.value(
         f"SELECT pg_catalog.count(*) + (SELECT pg_catalog.count(*) FROM pg_catalog.pg_index i WHERE i.indrelid IN ({trees}))"
         f" FROM ({trees}) p"
     )
-    facts.relations = int(count or 0)
+    return dataclasses.replace(
+        facts,
+        publications=found,
+        unknown=nameless,
+        tables=tables_facts(connection, source),
+        relations=int(count or 0),
+    )
 
 
-def publication_there(connection: Connection, name: str) -> Publication:
+def publication_there(connection: Connection, name: str) -> PublicationFacts:
     """A publication that is there: the kinds of changes that it leaves out, and tables without an
     identity for those that it has."""
     left_out = kinds_left_out(connection, name)
     keyless = {} if {"update", "delete"} <= set(left_out) else keyless_tables(connection, name)
-    return Publication(name, True, left_out, mixed_roots(connection, name), list(keyless.values()))
+    return PublicationFacts(
+        name, True, left_out, mixed_roots(connection, name), list(keyless.values())
+    )
 
 
 def mixed_roots(connection: Connection, name: str) -> list[str]:
@@ -294,15 +247,20 @@ def all_facts(dsn: str, slot: str, wanted: Wanted, check: Check) -> Facts:
     """Everything, by a plain connection, and whether one for replication can be made."""
     connection = Connection(dsn, name=f"{slot} check", check=check)
     try:
-        facts = server_facts(connection, slot)
-        publication_facts(connection, facts, wanted)
-        facts.prepared = prepared_texts(connection)
-        facts.replicators = "" if facts.role.replicates else replicators(connection)
+        facts = with_publications(connection, server_facts(connection, slot), wanted)
+        prepared = prepared_texts(connection)
+        provided = "" if facts.role.replicates else replicators(connection)
     finally:
         connection.close()
+    why = ""
     try:
         Connection(dsn, replication=True, name=f"{slot} check", check=check).close()
-        facts.has_replicated = True
     except ServerError as error:
-        facts.replication_error = str(error)
-    return facts
+        why = str(error)
+    return dataclasses.replace(
+        facts,
+        prepared=prepared,
+        replicators=provided,
+        replication_error=why,
+        has_replicated=not why,
+    )

@@ -13,16 +13,24 @@ import secrets
 import time
 from collections.abc import Callable, Mapping
 from types import MappingProxyType
-from typing import NamedTuple
 
 from pgsub_feed import log
 from pgsub_feed.errors import Unfit
 from pgsub_feed.interruption import Check
 from pgsub_feed.texts import counted, identifier, literal
 
-from ..errors import ServerError, understood
+from ..errors import ServerError
 from .connection import Connection
-from .publications import EXACT, FINE, UNIQUE
+from .publication_content import (
+    content_of,
+    drop_publications,
+    has_publication,
+    kinds_left_out,
+    listed_above,
+    oid_of,
+    other_slots,
+)
+from .replica_identity import keyless_tables, publishable_tables, rejected_tables
 from .waits import Waiting, lock_text
 
 REFUSED = "55000"
@@ -31,12 +39,6 @@ INSERTS = "insert, truncate"
 NAMED = 20
 # After how many seconds it is given up to drop a publication.
 LIMIT = 10.0
-# What the server says of a change without a usable identity: it has none, or the publication leaves
-# out a part of it.
-REJECTED = ("55000", "42P10")
-# What says nothing of a table: a lost connection, a deadlock, no resources, a lock that wasn't to
-# be had, the end of the session.
-IN_THE_WAY = ("08", "40", "53", "55P03", "57")
 
 
 @dataclasses.dataclass
@@ -55,244 +57,8 @@ def names_of(names: list[str]) -> str:
     return ", ".join(names[:NAMED]) + (f" and {left} more" if left > 0 else "")
 
 
-def identity(version: int, stored: bool = False) -> str:
-    """Whether Updates and Deletes of a table `c` can say which row they are of.
-
-    A partitioned table hands on its primary key alone to partitions that are made later. From 18 on
-    an identity has no generated columns, but for `stored` ones where they are published.
-    """
-    sent = "('', 's')" if stored else "('')"
-    full = key = ""
-    if version >= EXACT:
-        other = f"SELECT FROM pg_catalog.pg_attribute a WHERE a.attrelid = c.oid AND NOT a.attisdropped AND a.attgenerated NOT IN {sent}"
-        full = f" AND NOT EXISTS ({other})"
-        key = f" AND NOT EXISTS ({other} AND a.attnum = ANY ((i.indkey::pg_catalog.int2[])[0:i.indnkeyatts - 1]))"
-    return (
-        f"(c.relkind = 'r' AND c.relreplident = 'f'{full} OR EXISTS (SELECT FROM pg_catalog.pg_index i"
-        f" WHERE i.indrelid = c.oid AND {UNIQUE} AND CASE WHEN c.relkind = 'p' OR c.relreplident = 'd' THEN i.indisprimary"
-        f" WHEN c.relreplident = 'i' THEN i.indisreplident ELSE false END{key}))"
-    )
-
-
 def refusal(text: str) -> ServerError:
     return ServerError(text, REFUSED)
-
-
-def has_publication(connection: Connection, name: str) -> bool:
-    return bool(
-        connection.rows(f"SELECT FROM pg_catalog.pg_publication WHERE pubname = {literal(name)}")
-    )
-
-
-def publishable(version: int) -> str:
-    """A query for all tables that there are now: not temporary, unlogged, the system's own or an
-    extension's.
-
-    Partitions come with the table above them. Before PostgreSQL 13 such a table can't be published,
-    and they come by themselves.
-    """
-    kinds = (
-        "c.relkind IN ('r', 'p') AND NOT c.relispartition"
-        if version >= 130000
-        else "c.relkind = 'r'"
-    )
-    return (
-        "SELECT c.oid AS relid FROM pg_catalog.pg_class c JOIN pg_catalog.pg_namespace n ON n.oid = c.relnamespace"
-        f" WHERE {kinds} AND c.relpersistence = 'p' AND c.oid >= 16384"
-        " AND n.nspname NOT IN ('pg_catalog', 'pg_toast', 'information_schema')"
-        " AND NOT EXISTS (SELECT FROM pg_catalog.pg_depend d WHERE d.classid = 'pg_catalog.pg_class'::pg_catalog.regclass"
-        "  AND d.objid = c.oid AND d.deptype = 'e')"
-    )
-
-
-@understood("tables")
-def publishable_tables(connection: Connection) -> list[str]:
-    """Their names for SQL."""
-    rows = connection.rows(
-        f"SELECT n.nspname, c.relname FROM ({publishable(connection.version())}) s JOIN pg_catalog.pg_class c ON c.oid = s.relid"
-        " JOIN pg_catalog.pg_namespace n ON n.oid = c.relnamespace ORDER BY 1, 2"
-    )
-    return [f"{identifier(namespace or '')}.{identifier(name or '')}" for namespace, name in rows]
-
-
-def tree_of(connection: Connection, source: str) -> str:
-    """The relations of a query with a column `relid`, with the partitions below them."""
-    if connection.version() < 130000:
-        return f"(SELECT s.relid, s.relid AS part FROM ({source}) s)"
-    below = (
-        "(SELECT s.relid AS part UNION SELECT p.relid FROM pg_catalog.pg_partition_tree(s.relid) p)"
-    )
-    return f"(SELECT s.relid, b.part FROM ({source}) s, LATERAL {below} b)"
-
-
-@understood("replica identities")
-def keyless_of(connection: Connection, source: str, stored: bool = False) -> dict[int, str]:
-    """The tables among those of a query, and the partitions below them, that have no usable replica
-    identity: OID and name.
-
-    Each partition's own identity counts, but of those that are unlogged. A partitioned table counts
-    where it has no partitions yet.
-    """
-    rows = connection.rows(
-        f"SELECT DISTINCT c.oid, n.nspname, c.relname FROM {tree_of(connection, source)} t"
-        " JOIN pg_catalog.pg_class c ON c.oid = t.part JOIN pg_catalog.pg_namespace n ON n.oid = c.relnamespace"
-        " WHERE (c.relkind = 'r' AND c.relpersistence = 'p'"
-        " OR c.relkind = 'p' AND NOT EXISTS (SELECT FROM pg_catalog.pg_inherits h WHERE h.inhparent = c.oid))"
-        f" AND NOT {identity(connection.version(), stored)} ORDER BY 2, 3"
-    )
-    return {int(oid or 0): f"{namespace}.{name}" for oid, namespace, name in rows}
-
-
-def members(name: str) -> str:
-    """A query for all tables of a publication, those that are listed and have no partitions among
-    them."""
-    return (
-        f"SELECT p.relid FROM pg_catalog.pg_get_publication_tables({literal(name)}) p UNION SELECT r.prrelid"
-        f" FROM pg_catalog.pg_publication_rel r JOIN pg_catalog.pg_publication b ON b.oid = r.prpubid WHERE b.pubname = {literal(name)}"
-    )
-
-
-def keyless_tables(connection: Connection, name: str) -> dict[int, str]:
-    """The tables of a publication that have no usable replica identity."""
-    stored = ""
-    if connection.version() >= EXACT:
-        stored = (
-            connection.value(
-                f"SELECT p.pubgencols FROM pg_catalog.pg_publication p WHERE p.pubname = {literal(name)}"
-            )
-            or ""
-        )
-    return keyless_of(connection, members(name), stored == "s")
-
-
-@understood("replica identities")
-def rejected_tables(connection: Connection, name: str) -> dict[int, str]:
-    """The tables of which the server rejects Deletes, since a publication that was just made has
-    them. Nothing is deleted.
-
-    So it is too where a column list or a row filter leaves out or needs what the identity has or
-    hasn't.
-    """
-    rows = connection.rows(
-        f"SELECT DISTINCT c.oid, n.nspname, c.relname FROM {tree_of(connection, members(name))} t"
-        " JOIN pg_catalog.pg_class c ON c.oid = t.part JOIN pg_catalog.pg_namespace n ON n.oid = c.relnamespace"
-        " WHERE c.relkind = 'r' ORDER BY 2, 3"
-    )
-    found = {}
-    connection.run("SAVEPOINT one")
-    for oid, namespace, table in rows:
-        sql = f"{identifier(namespace or '')}.{identifier(table or '')}"
-        try:
-            # (with the savepoint goes the lock on the table)
-            connection.run(f"EXPLAIN DELETE FROM ONLY {sql}; ROLLBACK TO SAVEPOINT one")
-        except ServerError as error:
-            if not error.sqlstate or error.sqlstate.startswith(IN_THE_WAY):
-                raise
-            connection.run("ROLLBACK TO SAVEPOINT one")
-            if error.sqlstate in REJECTED:
-                _, _, why = str(error).partition("DETAIL:")
-                found[int(oid or 0)] = f"{namespace}.{table}" + (
-                    f" ({why.strip().rstrip('.')})" if why else ""
-                )
-    connection.run("RELEASE SAVEPOINT one")
-    return found
-
-
-class Listed(NamedTuple):
-    """A table that a publication lists: its name for readers and for SQL, and the latter with
-    columns and row filter."""
-
-    text: str
-    name: str
-    whole: str
-
-
-@understood("a publication")
-def listed_above(connection: Connection, name: str, oids: list[int]) -> list[Listed]:
-    """What a publication lists of these tables, or above them."""
-    fine = connection.version() >= FINE
-    columns = (
-        "(SELECT pg_catalog.string_agg(pg_catalog.quote_ident(a.attname), ', ' ORDER BY a.attnum) FROM pg_catalog.pg_attribute a"
-        "  WHERE a.attrelid = r.prrelid AND a.attnum = ANY (r.prattrs::pg_catalog.int2[]))"
-    )
-    more = f"{columns}, pg_catalog.pg_get_expr(r.prqual, r.prrelid)" if fine else "NULL, NULL"
-    listed = f"SELECT r.prrelid AS relid FROM pg_catalog.pg_publication_rel r WHERE r.prpubid = {oid_of(connection, name)}"
-    rows = connection.rows(
-        f"SELECT DISTINCT r.prrelid, n.nspname, c.relname, {more} FROM pg_catalog.pg_publication_rel r"
-        f" JOIN {tree_of(connection, listed)} t ON t.relid = r.prrelid"
-        " JOIN pg_catalog.pg_class c ON c.oid = r.prrelid JOIN pg_catalog.pg_namespace n ON n.oid = c.relnamespace"
-        f" WHERE r.prpubid = {oid_of(connection, name)} AND t.part IN ({', '.join(map(str, oids))}) ORDER BY 2, 3"
-    )
-    found = []
-    for _, namespace, table, listing, row_filter in rows:
-        sql = f"{identifier(namespace or '')}.{identifier(table or '')}"
-        whole = (
-            sql
-            + (f" ({listing})" if listing else "")
-            + (f" WHERE ({row_filter})" if row_filter else "")
-        )
-        found.append(Listed(f"{namespace}.{table}", sql, whole))
-    return found
-
-
-@understood("a publication")
-def kinds_left_out(connection: Connection, name: str) -> list[str]:
-    """The kinds of changes that a publication doesn't have."""
-    kinds = [
-        "insert",
-        "update",
-        "delete",
-        *(["truncate"] if connection.version() >= 110000 else []),
-    ]
-    columns = ", ".join(f"p.pub{kind}" for kind in kinds)
-    rows = connection.rows(
-        f"SELECT {columns} FROM pg_catalog.pg_publication p WHERE p.pubname = {literal(name)}"
-    )
-    return [kind for kind, has in zip(kinds, rows[0], strict=True) if has != "t"] if rows else []
-
-
-@understood("a publication")
-def oid_of(connection: Connection, name: str) -> int:
-    return int(
-        connection.value(
-            f"SELECT p.oid FROM pg_catalog.pg_publication p WHERE p.pubname = {literal(name)}"
-        )
-        or 0
-    )
-
-
-@understood("a publication")
-def content_of(connection: Connection, name: str) -> set[str]:
-    """What a publication lists, each as a text that says it to a reader."""
-    fine = connection.version() >= FINE
-    more = (
-        "coalesce(' (' || pg_catalog.array_to_string(r.prattrs::pg_catalog.int2[], ' ') || ')', '')"
-        " || coalesce(' WHERE ' || pg_catalog.pg_get_expr(r.prqual, r.prrelid), '')"
-        if fine
-        else "''"
-    )
-    oid = oid_of(connection, name)
-    query = (
-        f"SELECT n.nspname || '.' || c.relname || {more} FROM pg_catalog.pg_publication_rel r"
-        " JOIN pg_catalog.pg_class c ON c.oid = r.prrelid JOIN pg_catalog.pg_namespace n ON n.oid = c.relnamespace"
-        f" WHERE r.prpubid = {oid} UNION SELECT 'all tables' FROM pg_catalog.pg_publication p WHERE p.oid = {oid} AND p.puballtables"
-    )
-    if fine:
-        query += (
-            " UNION SELECT 'tables in schema ' || n.nspname FROM pg_catalog.pg_publication_namespace s"
-            f" JOIN pg_catalog.pg_namespace n ON n.oid = s.pnnspid WHERE s.pnpubid = {oid}"
-        )
-    return {row[0] or "" for row in connection.rows(query)}
-
-
-@understood("slots")
-def other_slots(connection: Connection, slot: str) -> list[str]:
-    """Other slots of this database by which a publication may be followed."""
-    rows = connection.rows(
-        "SELECT s.slot_name FROM pg_catalog.pg_replication_slots s WHERE s.plugin = 'pgoutput'"
-        f" AND s.database = pg_catalog.current_database() AND s.slot_name <> {literal(slot)} ORDER BY 1"
-    )
-    return [row[0] or "" for row in rows]
 
 
 # What looks at publications before they are there for others, and may raise; and what notes their
@@ -342,9 +108,8 @@ class Maker:
         self.connection = Connection(self.dsn, name=f"{self.name} publication", check=self.check)
         try:
             connection = self.connection
-            connection.check = Waiting(
-                self.dsn, self.name, self.check, lock_text("the publication", connection.pid())
-            ).check
+            locks = lock_text("the publication", connection.pid())
+            connection.set_check(Waiting(self.dsn, self.name, self.check, locks).check)
             self.path = connection.value("SELECT pg_catalog.current_setting('search_path')") or ""
             self.is_standby = connection.value("SELECT pg_catalog.pg_is_in_recovery()") == "t"
             # (whatever default_transaction_read_only says. The follower may be the standby for
@@ -456,17 +221,8 @@ class Maker:
 
     def compare(self, name: str) -> None:
         """Rejects a publication that is there and isn't what is wanted."""
+        self.note_left_out(name)
         connection, wanted = self.connection, self.wanted
-        left_out = kinds_left_out(connection, name)
-        if left_out and not name.endswith(inserts_of("")):
-            self.said.append(f"the publication {name} leaves out: {', '.join(left_out)}")
-        if not {"update", "delete"} <= set(left_out) and (
-            harmed := keyless_tables(connection, name)
-        ):
-            names = names_of(list(harmed.values()))
-            self.said.append(
-                f"published without a replica identity, so the server rejects Updates and Deletes: {names}"
-            )
         there = content_of(connection, name)
         second = inserts_of(name)
         if (
@@ -495,6 +251,20 @@ class Maker:
             raise refusal(
                 f"the publication {name} is there, and isn't that of --table: it {' and '.join(more)}."
                 " Alter it, name another one, or leave --table out"
+            )
+
+    def note_left_out(self, name: str) -> None:
+        """Says what a publication that is there leaves out, and which tables it harms."""
+        connection = self.connection
+        left_out = kinds_left_out(connection, name)
+        if left_out and not name.endswith(inserts_of("")):
+            self.said.append(f"the publication {name} leaves out: {', '.join(left_out)}")
+        if not {"update", "delete"} <= set(left_out) and (
+            harmed := keyless_tables(connection, name)
+        ):
+            names = names_of(list(harmed.values()))
+            self.said.append(
+                f"published without a replica identity, so the server rejects Updates and Deletes: {names}"
             )
 
     def content_asked(self, name: str) -> tuple[set[str], set[str]]:
@@ -560,19 +330,6 @@ def cut(name: str) -> str:
 def inserts_of(name: str) -> str:
     """The publication for the tables of another one that have no identity."""
     return f"{name}_inserts"
-
-
-def drop_publications(connection: Connection, made: dict[str, int]) -> None:
-    """Drops publications that still are those that were made."""
-    for name, oid in made.items():
-        rows = connection.rows(
-            f"SELECT p.pubname FROM pg_catalog.pg_publication p WHERE p.oid = {oid} AND p.pubname = {literal(name)}"
-        )
-        if rows:
-            connection.run(
-                f"BEGIN READ WRITE; SET LOCAL synchronous_commit = local; DROP PUBLICATION {identifier(name)}; COMMIT"
-            )
-            log.info(f"dropped the publication {name}")
 
 
 def keyless_text(names: list[str], all_tables: bool) -> str:

@@ -97,6 +97,10 @@ class Waiting:
         self.dsn, self.slot, self.check_stop, self.text = dsn, slot, check_stop, text
         self.next = time.monotonic() + FIRST
 
+    def tell_by(self, at: float) -> None:
+        """Tells it for the first time then, or before."""
+        self.next = min(self.next, at)
+
     def check(self) -> None:
         self.check_stop()
         if time.monotonic() < self.next:

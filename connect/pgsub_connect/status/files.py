@@ -3,22 +3,18 @@
 from __future__ import annotations
 
 import contextlib
+import dataclasses
 import json
 import os
 import subprocess
 import threading
 import time
-from typing import TYPE_CHECKING
 
 from pgsub_feed import log
 
 from .metrics import metrics_text
 from .progress import Progress
 from .status_file import status_fields
-
-if TYPE_CHECKING:
-    from ..commands.options import Options
-
 
 INTERVAL = 1.0
 # What the name of a new file has behind it until it is whole.
@@ -29,22 +25,35 @@ RATE = 5
 FORGET = 60.0
 
 
+@dataclasses.dataclass(frozen=True)
+class ReportSettings:
+    """Which files, and what they say of the follower that doesn't change: its store, its slot, and
+    the program whose version is asked for."""
+
+    store: str
+    slot: str = "pgsub"
+    program: str = ""
+    status_file: str | None = None
+    metrics_file: str | None = None
+    mode: int = 0o600
+
+
 class Reporter(threading.Thread):
     """Writes the files. It only shows what others say: of the main loop it shows when that was
     alive last."""
 
-    def __init__(self, options: Options, progress: Progress) -> None:
+    def __init__(self, settings: ReportSettings, progress: Progress) -> None:
         super().__init__(daemon=True)
-        self.options, self.progress = options, progress
-        self.status = Replaced(options.status_file, options.mode) if options.status_file else None
-        self.metrics = (
-            Replaced(options.metrics_file, options.mode) if options.metrics_file else None
+        self.settings, self.progress = settings, progress
+        self.status, self.metrics = (
+            Replaced(path, settings.mode) if path else None
+            for path in (settings.status_file, settings.metrics_file)
         )
         self.ended = threading.Event()
         self.rates = [(time.monotonic(), 0)]
 
     def run(self) -> None:
-        self.progress.note_program(program_version(self.options.pgsub))
+        self.progress.note_program(program_version(self.settings.program))
         while not self.ended.is_set():
             self.write()
             self.ended.wait(INTERVAL)
@@ -71,7 +80,7 @@ class Reporter(threading.Thread):
         if self.metrics:
             self.metrics.write(
                 metrics_text(
-                    self.progress, now, {"slot": self.options.slot, "store": self.options.store}
+                    self.progress, now, {"slot": self.settings.slot, "store": self.settings.store}
                 )
             )
 

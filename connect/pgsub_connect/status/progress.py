@@ -9,11 +9,12 @@ import time
 
 from pgsub_feed.texts import counted, lsn_text
 
+from ..server.slot import Slot
 from .counters import CopyCounters, StreamCounters
 from .feed_state import FeedState
 from .findings import Findings
 from .notify import Notifier
-from .server_state import ServerState, Slot
+from .server_state import ServerState
 
 # What a follower may be at.
 STATES = (

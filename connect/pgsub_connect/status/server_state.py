@@ -2,8 +2,6 @@
 
 from __future__ import annotations
 
-import time
-
 from ..server.session import waits_for
 
 
@@ -44,24 +42,3 @@ class ServerState:
         self.is_waited_for = waits_for(standbys, self.name)
         if self.is_standby and not is_standby and started and started == self.started:
             self.was_promoted = True
-
-
-class Slot:
-    """What the server says of the slot; empty or None where its version doesn't say it, or hasn't
-    yet."""
-
-    def __init__(self) -> None:
-        self.wal_status = ""
-        self.safe_wal_size: int | None = None
-        # when that was told, by the clock that runs evenly
-        self.told = 0.0
-        # whether nothing of the session is read just now, so that it matters more what becomes of
-        # the slot
-        self.is_unread = False
-
-    def note(self, wal_status: str, safe_wal_size: int | None) -> None:
-        self.wal_status, self.safe_wal_size = wal_status, safe_wal_size
-        self.told = time.monotonic()
-
-    def note_unread(self, is_unread: bool) -> None:
-        self.is_unread = is_unread

@@ -50,11 +50,7 @@ from pgsub_feed.json_texts import GREATEST
 from pgsub_feed.texts import lsn_text
 
 from ..status.findings import Counted as Counted
-from .checkpoint_lines import NEW as NEW
-from .checkpoint_lines import SIZE as SIZE
-from .checkpoint_lines import TEXT
-from .checkpoint_lines import Known as Known
-from .checkpoint_lines import line_of, padded, read_file
+from .checkpoint_lines import NEW, SIZE, TEXT, Known, line_of, padded, read_file
 
 MODE = 0o600
 PATIENCE = 60
@@ -152,7 +148,7 @@ class Checkpoint:
         isn't made anew each time."""
         head, tail = self.around = self.around or around_positions(self.known)
         self.put_line(durably, f"{head}{confirmed}{BETWEEN}{position}{tail}", counted)
-        self.known.confirmed, self.known.position = confirmed, position
+        self.known.move(confirmed, position)
 
     def put_line(self, durably: bool, known: str, counted: Counted | None) -> None:
         """Writes a line over the one that the disk needn't have: so a power cut leaves one that is

@@ -27,18 +27,9 @@ import re
 import zlib
 from typing import Any, NamedTuple
 
+from pgsub_feed import json_texts
 from pgsub_feed.errors import FileError
-from pgsub_feed.json_texts import (
-    Unreadable,
-    flag_of,
-    list_of,
-    lsn_of,
-    object_of,
-    oid_of,
-    parsed,
-    text_of,
-    whole_of,
-)
+from pgsub_feed.json_texts import Unreadable, object_of, parsed, whole_of
 
 from ..status.findings import Counted
 
@@ -65,6 +56,10 @@ class Known:
     skipped: str = ""
     adding: dict[str, int] = dataclasses.field(default_factory=dict)
     encrypted: bool = False
+
+    def move(self, confirmed: int, position: int) -> None:
+        """The store is further."""
+        self.confirmed, self.position = confirmed, position
 
 
 TEXTS = [it for it in dataclasses.fields(Known) if isinstance(it.default, str)]
@@ -137,18 +132,23 @@ def known_of(said: Any) -> Known:
     """What a line says of the store. What an earlier version didn't know is as in a new one."""
     fields = object_of(said)
     check_names(fields, Known)
-    texts = {it.name: text_of(fields.get(it.name, it.default)) for it in TEXTS}
+    texts = {it.name: json_texts.text_of(fields.get(it.name, it.default)) for it in TEXTS}
     numbers = {it.name: whole_of(fields.get(it.name, 0)) for it in NUMBERS}
-    found = {kind: text_of(lsn) for kind, lsn in object_of(fields.get("found", {})).items()}
-    adding = {
-        str(oid_of(oid)): whole_of(lsn) for oid, lsn in object_of(fields.get("adding", {})).items()
+    found = {
+        kind: json_texts.text_of(lsn) for kind, lsn in object_of(fields.get("found", {})).items()
     }
-    known = Known(found=found, adding=adding, encrypted=flag_of(fields.get("encrypted", False)))
+    adding = {
+        str(json_texts.oid_of(oid)): whole_of(lsn)
+        for oid, lsn in object_of(fields.get("adding", {})).items()
+    }
+    known = Known(
+        found=found, adding=adding, encrypted=json_texts.flag_of(fields.get("encrypted", False))
+    )
     known = dataclasses.replace(known, **texts, **numbers)
     if known.phase not in PHASES:
         raise Unreadable(f"no phase {known.phase}")
     for lsn in (*known.found.values(), known.skipped or "0/0"):
-        lsn_of(lsn)
+        json_texts.lsn_of(lsn)
     return known
 
 
@@ -158,7 +158,11 @@ def counted_of(said: Any) -> Counted:
     if not {"since", "upto"} <= fields.keys():
         raise Unreadable("fields are missing")
     numbers = {name: whole_of(it) for name, it in fields.items() if name != "gap"}
-    gap = None if fields.get("gap") is None else [whole_of(it) for it in list_of(fields["gap"])]
+    gap = (
+        None
+        if fields.get("gap") is None
+        else [whole_of(it) for it in json_texts.list_of(fields["gap"])]
+    )
     if gap is not None and len(gap) != 2:
         raise Unreadable("a gap has two positions")
     return dataclasses.replace(Counted(0, 0), **numbers, gap=gap and (gap[0], gap[1]))

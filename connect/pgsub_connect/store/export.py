@@ -10,10 +10,10 @@
 from __future__ import annotations
 
 import contextlib
+import dataclasses
 import itertools
 import sqlite3
 from collections.abc import Callable, Collection, Iterable, Iterator, Mapping, Sequence
-from typing import TYPE_CHECKING
 
 from pgsub_feed import log
 from pgsub_feed.errors import FileError, Passing, Stopped, Unfit
@@ -32,10 +32,6 @@ from ..drift.remembered import Remembered
 from .at_rest import at_rest, failed
 from .file import check_store, choose, opened, read_position, read_relations
 from .placing import check_into
-
-if TYPE_CHECKING:
-    from ..commands.options import Options
-
 
 # How much of the rows waits for being written, in bytes.
 ROOM = 1 << 20
@@ -221,45 +217,56 @@ def stop(check: Check) -> Callable[[], int]:
     return ask
 
 
-def run(options: Options, check: Check) -> int:
-    """Exports a store, or a copy of one; the exit status."""
+@dataclasses.dataclass(frozen=True)
+class ExportSettings:
+    """Which store is exported into which file. `is_text`: each value as the server prints it;
+    `chosen`: the tables that are named, all where there are none."""
+
+    store: str
+    into: str
+    is_text: bool = False
+    chosen: Sequence[str] = ()
+    mode: int = 0o600
+
+
+def export_store(settings: ExportSettings, check: Check) -> None:
+    """Exports a store, or a copy of one."""
     if sqlite3.sqlite_version_info < OLDEST:
         wanted = ".".join(map(str, OLDEST[:2]))
         raise FileError(
             f"SQLite {wanted} or later is needed for STRICT tables, and this is {sqlite3.sqlite_version}"
         )
-    check_into(options.store, options.into, is_export, "an export")
+    check_into(settings.store, settings.into, is_export, "an export")
     try:
-        with at_rest(options.store, options.into, check) as (path, _), placed(
-            options.into, options.mode
+        with at_rest(settings.store, settings.into, check) as (path, _), placed(
+            settings.into, settings.mode
         ) as new:
-            check_store(path, options.store)
-            done = export(path, new, options, check)
+            check_store(path, settings.store)
+            done = export(path, new, settings, check)
     except Stopped:
-        raise Passing(f"ended before {options.into} was complete") from None
+        raise Passing(f"ended before {settings.into} was complete") from None
     position, tables, rows = done
     log.info(
-        f"{options.into}: {counted(tables, 'table')}, {counted(rows, 'row')} at {lsn_text(position)}"
+        f"{settings.into}: {counted(tables, 'table')}, {counted(rows, 'row')} at {lsn_text(position)}"
     )
-    return 0
 
 
-def export(path: str, new: str, options: Options, check: Check) -> tuple[int, int, int]:
+def export(path: str, new: str, settings: ExportSettings, check: Check) -> tuple[int, int, int]:
     """Exports a file at rest into a new one. What is remembered of the publications lies beside the
     store."""
-    remembered = Remembered(options.store)
+    remembered = Remembered(settings.store)
     try:
         with contextlib.closing(opened(path)) as store, contextlib.closing(
             sqlite3.connect(new, isolation_level=None)
         ) as into:
             for db in (store, into):
                 db.set_progress_handler(stop(check), STEPS)
-            return Export(store, into, options.text, check, options.table).run(remembered)
+            return Export(store, into, settings.is_text, check, settings.chosen).run(remembered)
     except Malformed:
         raise FileError(
-            f"{options.store}: a malformed row or definition: the disk, or another program, has spoiled the file"
+            f"{settings.store}: a malformed row or definition: the disk, or another program, has spoiled the file"
         ) from None
     except sqlite3.Error as error:
         # (the end may have been asked for)
         check()
-        raise failed(error, f"{options.store}, {options.into}") from None
+        raise failed(error, f"{settings.store}, {settings.into}") from None

@@ -62,6 +62,10 @@ class Snapshots:
         # whether a request waits for a session of whole transactions
         self.wants_whole = False
 
+    def ask(self) -> None:
+        """Has the store copied as soon as that can be."""
+        self.asked = True
+
     def is_due(self, position: int) -> bool:
         """Whether to copy a store that is at this position: where it was asked for, or it is time
         and the last copy is older."""

@@ -30,7 +30,7 @@ import tempfile
 import threading
 import time
 from collections.abc import Callable
-from typing import TYPE_CHECKING, Protocol
+from typing import Protocol
 
 from pgsub_feed.errors import Passing, Stopped, Unfit
 from pgsub_feed.interruption import Check
@@ -38,12 +38,9 @@ from pgsub_feed.texts import parse_lsn
 
 from ..errors import NoSlot, ServerError, understood
 from ..server.connection import QUICK, Connection
+from ..server.subscription import Subscription
 from ..status.progress import Progress
 from .hold import Hold
-
-if TYPE_CHECKING:
-    from ..commands.options import Options
-
 
 # How often it is looked whether the slot still waits, and again where the server couldn't be asked,
 # in seconds.
@@ -74,13 +71,13 @@ class Gating:
 
     def __init__(
         self,
-        options: Options,
+        subscription: Subscription,
         progress: Progress,
         hold: Hold,
         check: Check,
         let_go: Callable[[str], None],
     ) -> None:
-        self.options, self.progress, self.hold = options, progress, hold
+        self.subscription, self.progress, self.hold = subscription, progress, hold
         self.check, self.let_go = check, let_go
         self.connection: Connection | None = None
         # when it is looked again, and where the log ended at the last look
@@ -125,8 +122,8 @@ class Gating:
         self.end = at
 
     def connect(self) -> Connection:
-        name = f"{self.options.slot} hold"
-        self.connection = Connection(self.options.dsn, name=name, quiet=True, check=self.check)
+        name = f"{self.subscription.slot} hold"
+        self.connection = Connection(self.subscription.dsn, name=name, quiet=True, check=self.check)
         return self.connection
 
     def end_session(self) -> None:
@@ -140,10 +137,10 @@ class Gating:
 
 
 class SlotMaker(Protocol):
-    """A connection that makes a slot."""
+    """A server that makes a slot, and may take long for it."""
 
     def make_slot(self, seconds: float, check_end: Check | None = None) -> tuple[int, str]:
-        """Returns its consistent point and its snapshot."""
+        """The slot's consistent point and its snapshot."""
 
 
 class Making(threading.Thread):

@@ -3,6 +3,7 @@
 from __future__ import annotations
 
 import contextlib
+import dataclasses
 import os
 
 # The longest frame that PostgreSQL can send, with its length.
@@ -11,6 +12,15 @@ LONGEST_FRAME = 2147483643
 MOST_PAGES = 4294967294
 MOST = 1 << 30
 LEAST = 64 << 20
+
+
+@dataclasses.dataclass(frozen=True)
+class BufferLimits:
+    """What a filter may buffer of open transactions, and the longest frame that it accepts, in
+    bytes."""
+
+    max_buffered: int = 0
+    max_frame: int = 0
 
 
 def memory() -> int | None:

@@ -14,13 +14,13 @@ import dataclasses
 import time
 from collections.abc import Sequence
 
-from ..drift.missed_rows import Misses
 from ..server.connection import Connection
 from ..status.progress import Progress
 from ..store.checkpoint import Checkpoint
 from .filter import Filter
 from .frames import asking, flushed, lowered
 from .messages import final_lsn
+from .missed_rows import Misses
 from .stream_log import Noting
 
 # How often a position that a keepalive alone has moved is passed on, in seconds. Each time costs a

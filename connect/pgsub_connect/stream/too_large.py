@@ -3,14 +3,8 @@ had reached and the option to give."""
 
 from __future__ import annotations
 
-from typing import TYPE_CHECKING
-
 from .filter_end import FRAME_TOO_LARGE, SPOOL_FULL, FilterEnded
-from .memory_limit import LONGEST_FRAME
-
-if TYPE_CHECKING:
-    from ..commands.options import Options
-
+from .memory_limit import LONGEST_FRAME, BufferLimits
 
 # Below so many bytes no transaction is why a filter is killed.
 LEAST = 1 << 20
@@ -49,7 +43,7 @@ def memory_text(size: int) -> str:
 
 
 def text_of(
-    ended: FilterEnded, options: Options, transaction: tuple[int, int], longest: int
+    ended: FilterEnded, limits: BufferLimits, transaction: tuple[int, int], longest: int
 ) -> str:
     """What is said where a limit ended the filter, "" where none did.
 
@@ -57,34 +51,34 @@ def text_of(
     passed on, and `longest` the length of the longest message.
     """
     if ended.status == SPOOL_FULL:
-        return full_text(options, *transaction)
+        return full_text(limits, *transaction)
     if ended.status == FRAME_TOO_LARGE:
-        return frame_text(options, longest)
+        return frame_text(limits, longest)
     return ""
 
 
-def full_text(options: Options, xid: int, size: int) -> str:
+def full_text(limits: BufferLimits, xid: int, size: int) -> str:
     which = (
         f"transaction {xid} had {size} bytes so far, and"
         if size
         else "the open transactions had more than"
     )
-    allowed = f"{options.max_buffered} may be buffered of all that are open"
-    wanted = 2 * max(options.max_buffered, size)
+    allowed = f"{limits.max_buffered} may be buffered of all that are open"
+    wanted = 2 * max(limits.max_buffered, size)
     more = "how much more comes until the commit isn't known, so that may be too little"
     return f"{which} {allowed}: give --max-buffered {wanted} at least, and memory for it; {more}"
 
 
-def frame_text(options: Options, longest: int) -> str:
+def frame_text(limits: BufferLimits, longest: int) -> str:
     """A frame is four bytes longer than its message."""
     which = (
         f"a message had {longest} bytes, and"
-        if longest + 4 > options.max_frame
+        if longest + 4 > limits.max_frame
         else "a message had more than the"
     )
-    text = f"{which} {options.max_frame} are accepted"
-    wanted = min(2 * max(options.max_frame, longest + 4), LONGEST_FRAME)
-    if wanted <= options.max_frame:
+    text = f"{which} {limits.max_frame} are accepted"
+    wanted = min(2 * max(limits.max_frame, longest + 4), LONGEST_FRAME)
+    if wanted <= limits.max_frame:
         return f"{text}, which is the most that can be"
-    more = f" --max-buffered {2 * wanted}" if 2 * wanted > options.max_buffered else ""
+    more = f" --max-buffered {2 * wanted}" if 2 * wanted > limits.max_buffered else ""
     return f"{text}: give --max-frame {wanted}{more}, and memory for it"

@@ -26,7 +26,7 @@ from pgsub_feed.tables.row_texts import (
 from pgsub_feed.tables.values import BINARY, NULL, TEXT, Malformed
 from pgsub_feed.texts import identifier
 
-from ..server.publications import Table
+from ..server.catalog import Table
 
 # How many rows a chunk has on average, and how many chunks a table has at most.
 ROWS, MOST_CHUNKS = 256, 1 << 16

@@ -30,7 +30,7 @@ from pgsub_feed.tables.row_texts import fields_in
 from pgsub_feed.texts import counted
 
 from ..copy.messages import delete, insert, relation, update
-from ..server.publications import Table
+from ..server.catalog import Table
 from .digests import Plan, Sums
 from .sides import Group, Sides
 

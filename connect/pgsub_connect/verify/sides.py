@@ -19,11 +19,12 @@ from pgsub_feed.tables.row_texts import fields_in, text_of
 from pgsub_feed.texts import lsn_text
 
 from ..copy.messages import unescaped
+from ..copy.source import Source
 from ..errors import understood
-from ..server.publications import Table, estimated_rows
+from ..server.catalog import Table
+from ..server.publications import estimated_rows
 from ..store.file import check_store, opened, read_position, read_relations
 from .digests import Plan, Queries, Summing, Sums, chunks_for, fields_of
-from .meeting_point import Source
 
 # How many bytes of rows are read at a time, and after how many rows it is looked whether the end
 # was asked for.
@@ -79,8 +80,6 @@ class Copy:
         )
 
     def columns(self, table: Table) -> list[str]:
-        """The names of a table's columns here; those of the server where nothing of it ever
-        came."""
         relation = self.relations.get(table.oid)
         return (
             [it.name for it in relation.shape.columns]
@@ -92,7 +91,6 @@ class Copy:
         return self.relations.get(oid)
 
     def left(self, tables: Iterable[Table]) -> list[Relation]:
-        """The tables that have rows here and aren't among these."""
         known = {it.oid for it in tables}
         return [it for oid, it in self.relations.items() if oid not in known and oid in self.counts]
 
@@ -108,7 +106,6 @@ class Copy:
         return {oid: it.sums for oid, it in found.items()}
 
     def rows(self, plan: Plan, chunks: list[int]) -> Iterator[Row]:
-        """The rows of some chunks, in the order of their keys."""
         wanted, width = set(chunks), plan.width
 
         def text(body: bytes) -> bytes:

@@ -31,7 +31,7 @@ from pgsub_feed.tables.sqlite_files import is_tables, opened
 from pgsub_feed.tables.table import Valued
 from pgsub_feed.texts import identifier, parse_lsn
 
-from ..server.publications import Table
+from ..server.catalog import Table
 from .digests import Plan, Summing, Sums
 from .sides import ROWS, Row
 
@@ -92,6 +92,15 @@ class View:
             else:
                 self.tables[oid] = Valued(name, read_relation(json.loads(definition)))
         self.counts = {oid: self.count(it) for oid, it in self.tables.items()}
+
+    def go_back(self, trail: Trail) -> None:
+        """Has the tables as of the trail's point from here on."""
+        self.trail = trail
+
+    def without_asides(self, tables: list[Table]) -> list[Table]:
+        """The tables without those that are set aside, which the file lacks."""
+        self.lacks += [self.asides[it.oid] for it in tables if it.oid in self.asides]
+        return [it for it in tables if it.oid not in self.asides]
 
     def count(self, table: Valued) -> int:
         return int(self.db.execute(f"SELECT count(*) FROM {identifier(table.name)}").fetchone()[0])

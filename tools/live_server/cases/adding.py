@@ -129,8 +129,8 @@ KILLED_AT = """
 import os, sys
 sys.path.insert(0, {house!r})
 from pgsub_connect import cli
-from pgsub_connect.add import adder
-where, name = adder.{where}, {name!r}
+from pgsub_connect.add import adder, left_out, turn
+where, name = {where}, {name!r}
 real, left = getattr(where, name), [{times}]
 def last(*words, **more):
     if left[0]:
@@ -145,18 +145,18 @@ cli.run()
 
 
 def killed_at(place: Place, where: str, name: str, after: bool, times: int = 0) -> Child:
-    """Starts the connector, which ends at once where it makes a call of its module `adding` for so many times and once more."""
+    """Starts the connector, which ends at once where it makes a call of those that add tables for so many times and once more."""
     before = "real(*words, **more)" if after else "pass"
     code = KILLED_AT.format(house=str(place.options.connect.parent), where=where, name=name, before=before, times=times)
     return place.started([sys.executable, "-c", code, *place.words()[1:]])
 
 
-# What is cut: a call of the module `adding`, whether before or after it was made, and how often it is made before.
+# What is cut: a call of those that add tables, whether before or after it was made, and how often it is made before.
 CUTS = (
-    ("Adder", "fill", False, 0), ("Adder", "fill", True, 0), ("Adder", "prepare", True, 0), ("Adder", "meet", False, 0),
-    ("Source", "make_slot", True, 0), ("Source", "see", True, 0), ("Adder", "meet", True, 0), ("Adder", "send", False, 0),
-    ("Adder", "push", True, 3), ("Adder", "push", True, 5), ("Rows", "closing", True, 0), ("Adder", "send", True, 0),
-    ("Adder", "finish", False, 0), ("Remembered", "added", True, 0), ("Adder", "forget", True, 0),
+    ("left_out.LeftOut", "fill", False, 0), ("left_out.LeftOut", "fill", True, 0), ("adder.Adder", "prepare", True, 0), ("adder.Adder", "meet", False, 0),
+    ("turn.Source", "make_slot", True, 0), ("turn.Source", "see", True, 0), ("adder.Adder", "meet", True, 0), ("adder.Adder", "send", False, 0),
+    ("turn.RowsSender", "push", True, 3), ("turn.RowsSender", "push", True, 5), ("turn.Rows", "closing", True, 0), ("adder.Adder", "send", True, 0),
+    ("adder.Adder", "finish", False, 0), ("adder.Remembered", "added", True, 0), ("adder.Adder", "forget", True, 0),
 )
 
 

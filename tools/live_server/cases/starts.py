@@ -287,18 +287,18 @@ def cut_copy(name: str, after: bool, place: Place) -> None:
 
 
 CUTS = (
-    ("before-anything-was-made", "slot_position", True),
-    ("before-the-temporary-slot", "published_tables", True),
-    ("before-the-snapshot-was-taken", "take_snapshot", False),
-    ("before-the-lasting-slot", "Copier.make_lasting", False),
-    ("behind-the-lasting-slot", "Copier.make_lasting", True),
-    ("before-the-first-row", "Copier.send_part", False),
-    ("with-a-part-of-the-rows", "Copier.send_part", True),
-    ("before-the-last-commit", "Copier.end_copy", False),
-    ("with-all-rows", "Copier.finish_filter", True),
-    ("with-all-rows-and-the-slot", "Copier.keep", False),
+    ("before-anything-was-made", "copier.slot_position", True),
+    ("before-the-temporary-slot", "copier.CopiedTables.published", True),
+    ("before-the-snapshot-was-taken", "copier.CopySlot.hold_snapshot", False),
+    ("before-the-lasting-slot", "copier.Copier.make_lasting", False),
+    ("behind-the-lasting-slot", "copier.Copier.make_lasting", True),
+    ("before-the-first-row", "copier.Copier.send_part", False),
+    ("with-a-part-of-the-rows", "copier.Copier.send_part", True),
+    ("before-the-last-commit", "copier.Copier.end_copy", False),
+    ("with-all-rows", "copier.Sender.finish", True),
+    ("with-all-rows-and-the-slot", "copier.Copier.keep", False),
     ("between-its-two-renames", "os.rename", True),
-    ("after-it-was-complete", "Copier.keep", True),
+    ("after-it-was-complete", "copier.Copier.keep", True),
 )
 
 

@@ -4,27 +4,25 @@ accepts it, and tells it."""
 from __future__ import annotations
 
 import time
-from typing import TYPE_CHECKING
 
 from pgsub_feed import log
 from pgsub_feed.errors import Passing, Unfit
 from pgsub_feed.interruption import Check
 
+from ..drift.doubts import resolved
+from ..drift.findings import NAMES
+from ..drift.remembered import Remembered
+from ..drift.tell_once import warnings
+from ..drift.tolerance import Tolerance
 from ..errors import ServerError
-from ..server.catalog import Catalog, read_catalog
+from ..server.catalog import Catalog
+from ..server.catalog_reader import read_catalog
 from ..server.connection import QUICK, Connection
 from ..server.session import settle
+from ..server.subscription import Subscription
 from ..status.progress import Progress
 from ..store.checkpoint import MISSING, Checkpoint
-from .differences import NAMES
-from .doubts import resolved
-from .missed_rows import texts_of
-from .remembered import Remembered
-from .tell_once import warnings
-
-if TYPE_CHECKING:
-    from ..commands.options import Options
-
+from ..stream.missed_rows import texts_of
 
 # After how many seconds the file is written where nothing in it is urgent, the publications are
 # looked at again, and that is tried again where it failed; and after how many they are looked at
@@ -42,14 +40,15 @@ class Watch:
     """What was found, and the looks at the server's publications."""
 
     def __init__(
-        self, options: Options, checkpoint: Checkpoint, progress: Progress, remembered: Remembered
+        self,
+        subscription: Subscription,
+        tolerance: Tolerance,
+        checkpoint: Checkpoint,
+        progress: Progress,
+        remembered: Remembered,
     ) -> None:
-        self.options, self.checkpoint, self.progress, self.remembered = (
-            options,
-            checkpoint,
-            progress,
-            remembered,
-        )
+        self.subscription, self.tolerance = subscription, tolerance
+        self.checkpoint, self.progress, self.remembered = checkpoint, progress, remembered
         self.next_look = self.next_save = 0.0
         # when the publications were looked at last
         self.looked = time.monotonic()
@@ -63,7 +62,7 @@ class Watch:
         kinds = [
             it
             for it in {*self.checkpoint.findings(), *self.remembered.found}
-            if self.options.accepts(it)
+            if self.tolerance.accepts(it)
         ]
         self.checkpoint.accept(kinds)
         self.remembered.accept(kinds)
@@ -109,7 +108,7 @@ class Watch:
             for kind in self.checkpoint.findings()
             if (text := "; ".join(self.lasting_of(kind)))
         }
-        if lasting and self.options.strict:
+        if lasting and self.tolerance.is_strict:
             texts = "\n".join(f"{kind}: {text}" for kind, text in lasting.items())
             raise Unfit(
                 f"the copy may be wrong (copy anew, or take it as it is by --accept KIND)\n{texts}"
@@ -123,7 +122,7 @@ class Watch:
         remembered = self.remembered
         try:
             connection.run(f"SET lock_timeout = {PATIENCE}", limit=QUICK)
-            now = read_catalog(connection, self.options.publication)
+            now = read_catalog(connection, self.subscription.publications)
             now = resolved(connection, remembered.catalog, now) if remembered.catalog else now
             connection.run("SET lock_timeout = 0", limit=QUICK)
         except ServerError as error:
@@ -158,7 +157,7 @@ class Watch:
         """Compares on a connection of its own. Returns whether that was possible."""
         try:
             connection = Connection(
-                self.options.dsn, name=f"{self.options.slot} tables", check=check
+                self.subscription.dsn, name=f"{self.subscription.slot} tables", check=check
             )
             try:
                 settle(connection)
@@ -186,7 +185,7 @@ class Watch:
         for line in news:
             log.warning(f"found: {line}")
         self.is_shown = self.is_shown and not news
-        if news and self.options.strict:
+        if news and self.tolerance.is_strict:
             self.show()
         self.show_later()
 

@@ -13,10 +13,10 @@ from collections.abc import Callable
 
 from pgsub_feed.texts import literal
 
-from ..copy.table_reader import GONE, LOCK_TIMEOUT, lock_tables
 from ..errors import ServerError, understood
+from ..server.catalog import Table
 from ..server.connection import Connection
-from ..server.publications import Table
+from .table_reader import GONE, LOCK_TIMEOUT, lock_tables
 
 MOVED, ALTERED, LOCKED = "truncated or written anew", "altered or dropped", "locked by others"
 

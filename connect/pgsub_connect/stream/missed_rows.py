@@ -19,15 +19,14 @@ from typing import TYPE_CHECKING
 from pgsub_feed import log
 from pgsub_feed.texts import counted, lsn_text
 
+from ..drift.remembered import Remembered
+from ..drift.tolerance import Tolerance
 from ..status.findings import Counted
 from ..status.progress import Progress
 from ..store.checkpoint import MISSING, Checkpoint
-from .remembered import Remembered
 
 if TYPE_CHECKING:
-    from ..commands.options import Options
-    from ..stream.filter_end import Missing
-
+    from .filter_end import Missing
 
 # After how many seconds more of them are told at the earliest.
 AGAIN = 10.0
@@ -54,14 +53,14 @@ class Misses:
     caller looked last."""
 
     def __init__(
-        self, options: Options, checkpoint: Checkpoint, progress: Progress, remembered: Remembered
+        self,
+        tolerance: Tolerance,
+        checkpoint: Checkpoint,
+        progress: Progress,
+        remembered: Remembered,
     ) -> None:
-        self.options, self.checkpoint, self.progress, self.remembered = (
-            options,
-            checkpoint,
-            progress,
-            remembered,
-        )
+        self.tolerance, self.checkpoint = tolerance, checkpoint
+        self.progress, self.remembered = progress, remembered
         self.count = 0
         # how many of the filter that runs are noted
         self.noted = 0
@@ -77,7 +76,7 @@ class Misses:
         """
         self.noted = 0
         is_found = self.checkpoint.begin_counting(
-            position, has_told_all or self.options.accepts(MISSING)
+            position, has_told_all or self.tolerance.accepts(MISSING)
         )
         self.show()
         if is_found and self.checkpoint.counted:

@@ -1,0 +1,93 @@
+"""What is asked of a follower: which tables to add, and of which ones the rows are to go."""
+
+from __future__ import annotations
+
+import contextlib
+from typing import Any
+
+from pgsub_feed.errors import Passing, Stopped, Unfit
+from pgsub_feed.interruption import Check
+
+from ..copy.source import Source
+from ..drift.remembered import Remembered
+from ..errors import ServerError
+from ..server.publications import sizes_of
+from ..server.subscription import Subscription
+from ..status.progress import Progress
+from ..store.checkpoint import Checkpoint
+from ..stream.memory_limit import BufferLimits
+from .addable import Stream, too_large, too_long
+
+# A table whose files are so many times what may be buffered is refused before anything is done.
+FAR = 2
+
+
+class Sources:
+    """Connects to the server of a store."""
+
+    def __init__(self, subscription: Subscription, store: str, checkpoint: Checkpoint) -> None:
+        self.subscription, self.store, self.checkpoint = subscription, store, checkpoint
+
+    def open(self, check: Check) -> Source:
+        """`check` is called as long as the server is waited for."""
+        return Source(self.subscription, self.store, self.checkpoint.known, check, "add")
+
+
+class Requests:
+    """Notes what is asked for, unless something is known to be in the way."""
+
+    def __init__(
+        self,
+        sources: Sources,
+        limits: BufferLimits,
+        progress: Progress,
+        remembered: Remembered,
+        stream: Stream,
+    ) -> None:
+        self.sources, self.limits = sources, limits
+        self.progress, self.remembered, self.stream = progress, remembered, stream
+
+    def take(self, asked: dict[str, Any]) -> str | None:
+        """Takes a request for tables, by their OIDs. Returns why it is rejected."""
+        adds, removes = asked.get("add"), asked.get("remove", [])
+        if not all(
+            isinstance(oids, list) and all(isinstance(it, int) for it in oids)
+            for oids in (adds, removes)
+        ):
+            return "malformed"
+        errors = self.rejections(adds or [], removes)
+        if not errors:
+            self.remembered.want(adds or [], removes)
+        return "; ".join(errors) or None
+
+    def rejections(self, adds: list[int], removes: list[int]) -> list[str]:
+        """Why tables can't be added, or their rows removed. Where the server can't be asked just
+        now, that shows later."""
+        try:
+            with contextlib.closing(self.sources.open(self.stream.serve_server)) as source:
+                errors = [text for oid in adds if (text := self.rejection(source, oid))]
+                published = {it.oid for it in source.tables}
+        except ServerError as error:
+            return [str(error)] if error.is_lasting() else []
+        except (Passing, Unfit) as error:
+            return [str(error)]
+        except Stopped:
+            return ["it is about to end"]
+        return errors + [
+            f"table {oid} is published, or isn't known"
+            for oid in removes
+            if oid in published or not self.remembered.described(oid)
+        ]
+
+    def rejection(self, source: Source, oid: int) -> str:
+        """Why a table can't be added, "" where nothing is known to be in the way."""
+        table = next((it for it in source.tables if it.oid == oid), None)
+        if table is None:
+            return f"table {oid} isn't published"
+        if not self.sources.checkpoint.has_room_for(oid):
+            return f"{table.text()}: the checkpoint has no room for it"
+        size = sizes_of(source.plain, [table]).get(oid, 0)
+        most = self.limits.max_buffered
+        if size > FAR * most:
+            return too_large(table, size, most)
+        return too_long(table, size) if self.progress.server.is_waited_for else ""

@@ -1,0 +1,161 @@
+"""The table whose turn it is to be added: its definition, its rows at the LSN of a slot, and what
+passes these on within the stream."""
+
+from __future__ import annotations
+
+import time
+from collections.abc import Callable, Iterable
+
+from pgsub_feed.errors import Passing
+from pgsub_feed.relation import Relation
+from pgsub_feed.texts import counted
+
+from ..copy.source import Source
+from ..copy.table_reader import BLOCK
+from ..server.catalog import Table
+from ..server.publications import sizes_of
+from ..status.progress import Progress
+from ..stream.gate import MOST as LONGEST_WAIT
+from ..stream.gate import WAITED, Making
+from ..stream.memory_limit import BufferLimits
+from ..stream.stream_log import Noting
+from .addable import Stream, TooLarge, relation_of, table_of, too_large, too_long
+from .replacement import Rows, payload_of
+
+# How long the stream is held at most until the slot is made, and for a lock of somebody else on the
+# table, in seconds; and the latter where commits wait.
+SLOT, LOCK, SHORT_LOCK = 10.0, 5.0, 0.5
+EPOCH = 946684800
+# What is told how far it is.
+Tell = Callable[[str], None]
+
+
+class Turn:
+    """One table. `point`: the slot's consistent point, 0 where there is none yet."""
+
+    def __init__(self, oid: int = 0) -> None:
+        self.oid, self.point = oid, 0
+        self.source: Source | None = None
+        self.table: Table | None = None
+        # whether it isn't published any more, and its rows are to go
+        self.is_gone = False
+        # what makes the slot while the stream goes on
+        self.making: Making | None = None
+        # what was found of the table before its rows were read
+        self.texts: list[str] = []
+
+    def open(self, source: Source) -> str:
+        """Begins with a server. Returns for which standbys commits wait there."""
+        self.source = source
+        return source.standbys()
+
+    def read(self, is_waited_for: bool) -> None:
+        """Reads the table's definition. Rejects one whose rows commits would wait for: it is tried
+        again later, when they may not wait any more."""
+        assert self.source
+        self.table = self.source.narrow(self.oid, SHORT_LOCK if is_waited_for else LOCK)
+        self.is_gone = self.table is None
+        if self.table and is_waited_for:
+            sizes = sizes_of(self.source.plain, [self.table])
+            if why := too_long(self.table, sizes.get(self.oid, 0)):
+                raise Passing(why)
+
+    def describe(self, relation: Relation | None) -> None:
+        """Takes the definition that the table had, where it isn't published any more."""
+        self.table = self.table or table_of(relation)
+
+    def maker(self) -> int:
+        """The process at the server that makes the slot."""
+        assert self.source
+        return self.source.maker()
+
+    def begin_making(self) -> None:
+        """Makes the slot while the stream goes on."""
+        assert self.source
+        self.making = Making(self.source, SLOT)
+        self.making.start()
+
+    def is_made(self) -> bool:
+        return self.making is not None and not self.making.is_alive()
+
+    def slot(self) -> tuple[int, str]:
+        """The slot's consistent point and its snapshot; makes it, unless it is made already."""
+        assert self.source
+        return self.making.result() if self.making else self.source.make_slot(SLOT)
+
+    def see(self, point: int, snapshot: str) -> None:
+        """Locks the table as it is at that LSN."""
+        assert self.source
+        self.source.see(snapshot)
+        self.point = point
+
+    def note_found(self, texts: list[str]) -> None:
+        self.texts = texts
+
+    def take_found(self) -> list[str]:
+        """What was found of the rows that were there before. It is told once."""
+        texts, self.texts = self.texts, []
+        return texts
+
+    def relation(self) -> Relation:
+        assert self.table
+        return relation_of(self.table)
+
+    def rows(self) -> Rows:
+        """The transaction that has them."""
+        assert self.table
+        return Rows(self.table, self.point, round((time.time() - EPOCH) * 1000000))
+
+    def blocks(self) -> Iterable[list[bytes]]:
+        """The rows themselves."""
+        assert self.table and self.source
+        return () if self.is_gone else self.source.plain.copied_blocks(self.table.query(), BLOCK)
+
+    def close(self) -> None:
+        if self.making:
+            self.making.give_up()
+        self.making = None
+        if self.source:
+            self.source.close()
+        self.source = None
+
+
+class RowsSender:
+    """Gives them to the stream, as one transaction."""
+
+    def __init__(
+        self, limits: BufferLimits, progress: Progress, noting: Noting, stream: Stream, tell: Tell
+    ) -> None:
+        self.limits, self.progress, self.noting = limits, progress, noting
+        self.stream, self.tell = stream, tell
+
+    def send(self, rows: Rows, blocks: Iterable[list[bytes]]) -> None:
+        """Passes on the whole transaction."""
+        began = time.monotonic()
+        for it in rows.opening():
+            self.push(it, [payload_of(it)])
+        for lines in blocks:
+            block = rows.rows(lines)
+            self.check(rows, began)
+            self.push(block, [])
+            self.noting.note_rows(rows.table.oid, len(lines), len(block))
+            self.tell(f"{counted(rows.count, 'row')} so far")
+        self.push(last := rows.closing(), [payload_of(last)])
+
+    def check(self, rows: Rows, began: float) -> None:
+        """Raises where nothing more of the rows may be passed on."""
+        if rows.cost > self.limits.max_buffered:
+            raise TooLarge(too_large(rows.table, rows.cost, self.limits.max_buffered))
+        if rows.longest > self.limits.max_frame:
+            raise TooLarge(
+                f"{rows.table.text()} has a row of {rows.longest} bytes: give the follower a --max-frame above that"
+            )
+        if self.progress.server.is_waited_for and time.monotonic() - began > LONGEST_WAIT:
+            raise TooLarge(WAITED)
+
+    def push(self, frames: bytes, payloads: list[bytes]) -> None:
+        """Passes frames on; `payloads`: those that are noted one by one."""
+        if payloads:
+            self.noting.note_all(payloads)
+        self.stream.push(frames)
+        self.noting.show()

@@ -1,0 +1,130 @@
+"""Options on the feed of commits, and on the tables that follow it."""
+
+from __future__ import annotations
+
+import argparse
+import dataclasses
+from collections.abc import Callable
+
+from pgsub_feed.arguments import duration, size
+
+from ...follow.feed import FeedSettings
+from ...follow.tables_process import TablesSettings
+from .needs import check_needs
+from .types import within
+
+
+@dataclasses.dataclass(frozen=True)
+class FeedOptions:
+    """The folder of the feed, when segments of it begin and go, and the file of tables."""
+
+    feed: str = ""
+    without_feed: bool = False
+    feed_segment_bytes: int = 0
+    feed_segment_seconds: int = 0
+    feed_max_bytes: int = 0
+    feed_max_age: float | None = None
+    tables: str = ""
+    init: str | None = None
+    digests: bool = False
+
+    def feed_settings(self, store: str, mode: int) -> FeedSettings:
+        tables = (
+            TablesSettings(self.tables, self.feed, store, mode, self.init, self.digests)
+            if self.tables
+            else None
+        )
+        return FeedSettings(
+            store,
+            self.feed,
+            self.without_feed,
+            mode,
+            self.feed_segment_bytes,
+            self.feed_segment_seconds,
+            self.feed_max_bytes,
+            self.feed_max_age,
+            tables,
+        )
+
+
+def add_feed(parser: argparse.ArgumentParser) -> None:
+    """Options on the feed of commits, and on the tables that follow it."""
+    add = parser.add_argument_group("the feed").add_argument
+    add(
+        "--feed",
+        metavar="FOLDER",
+        default="",
+        help="keep a feed of all commits in this folder, as lines of JSON with each row before and after",
+    )
+    add(
+        "--without-feed",
+        action="store_true",
+        help="leave the feed that the store has had; it ends for good",
+    )
+    add(
+        "--feed-segment-bytes",
+        type=within(1 << 12, 1 << 40),
+        default=0,
+        metavar="BYTES",
+        help="begin another segment before one gets larger (default: 67108864)",
+    )
+    add(
+        "--feed-segment-seconds",
+        type=within(1, 1 << 31),
+        default=0,
+        metavar="N",
+        help="begin another segment after N seconds (default: never)",
+    )
+    add_ends_of_segments(add)
+    add_tables(add)
+
+
+def add_ends_of_segments(add: Callable[..., object]) -> None:
+    """Options on when segments of the feed go."""
+    add(
+        "--feed-max-bytes",
+        type=size,
+        default=0,
+        metavar="SIZE",
+        help="remove the oldest segments of a feed that gets larger, as 10GB, whoever hasn't read them",
+    )
+    add(
+        "--feed-max-age",
+        type=duration,
+        metavar="TIME",
+        help="remove segments that are older, as 7d, and that all readers have read (default: as soon as all readers have, where there are any)",
+    )
+
+
+def add_tables(add: Callable[..., object]) -> None:
+    """Options on the tables that follow the feed."""
+    add(
+        "--tables",
+        metavar="FILE",
+        default="",
+        help="keep ordinary tables in this file of SQLite, by `pgsub-connect tables` beside the follower; the feed is STORE.feed by default",
+    )
+    add(
+        "--init",
+        metavar="FILE",
+        help="with --tables: run this SQL once a table was made or altered, for indexes and views",
+    )
+    add(
+        "--digests",
+        action="store_true",
+        help="with --tables: keep a digest of each table, for `verify`",
+    )
+
+
+def check_feed(parser: argparse.ArgumentParser, options: FeedOptions) -> None:
+    """Rejects options on a feed, or on tables, where there are none."""
+    check_needs(
+        parser,
+        options,
+        ("init", "tables"),
+        ("digests", "tables"),
+        ("feed_segment_bytes", "feed"),
+        ("feed_segment_seconds", "feed"),
+        ("feed_max_bytes", "feed"),
+        ("feed_max_age", "feed"),
+    )

@@ -1,0 +1,22 @@
+"""Files that options name."""
+
+from __future__ import annotations
+
+import os
+
+from ...store.placing import check_apart
+
+
+def check_files(
+    store: str, written: dict[str, str | None], read: dict[str, str | None] | None = None
+) -> None:
+    """Rejects to write what is the store's, or what another option names. Each path has its
+    option."""
+    named = ([(option, it) for option, it in some.items() if it] for some in (written, read or {}))
+    check_apart(store, *named)
+
+
+def use_mode(mode: int) -> None:
+    """Has all files get the mode that was asked for, and not what the caller's umask leaves of
+    it."""
+    os.umask(0o777 & ~mode)

@@ -1,0 +1,12 @@
+"""Options that need another one."""
+
+from __future__ import annotations
+
+import argparse
+
+
+def check_needs(parser: argparse.ArgumentParser, options: object, *pairs: tuple[str, str]) -> None:
+    """Rejects an option that is given without the one that it needs."""
+    for given, needed in pairs:
+        if getattr(options, given) and not getattr(options, needed):
+            parser.error(f"--{given.replace('_', '-')} needs --{needed}")

@@ -1,0 +1,155 @@
+"""Options on the server and the slot, and what they leave out."""
+
+from __future__ import annotations
+
+import argparse
+import dataclasses
+import os
+from collections.abc import Iterable, Sequence
+from typing import TypeVar
+
+from pgsub_feed import log
+from pgsub_feed.ownership import readable_by, readable_text
+
+from ...drift.remembered import Remembered
+from ...server import transport
+from ...server.addresses import parameters
+from ...server.name_length import check_lengths
+from ...server.publication_setup import inserts_of
+from ...server.subscription import Subscription
+from ...store.checkpoint_at_rest import read_known
+from .texts import check_texts, each
+from .types import mode, seconds
+
+PLAINTEXT = "plaintext"
+
+
+@dataclasses.dataclass(frozen=True)
+class ServerOptions:
+    """Where the server is, and what of it is followed."""
+
+    dsn: str = ""
+    dsn_file: str | None = None
+    slot: str = "pgsub"
+    publication: Sequence[str] = ()
+    proto: int = 2
+    heartbeat: float = 10.0
+    mode: int = 0o600
+
+    def subscription(self) -> Subscription:
+        return Subscription(self.dsn, self.slot, list(self.publication))
+
+
+@dataclasses.dataclass(frozen=True)
+class TrustOptions:
+    """What a command may accept that connects to the server of a store."""
+
+    accept: Sequence[str] = ()
+
+
+def add_server(parser: argparse.ArgumentParser) -> None:
+    """Options on the server and the slot."""
+    add = parser.add_argument
+    add("--dsn", default="", help="connection string or URI of libpq (default: its environment)")
+    add(
+        "--dsn-file",
+        metavar="FILE",
+        help="a file whose first line is the connection string, for one with a password",
+    )
+    add("--slot", default="pgsub", help="replication slot (default: pgsub)")
+    add(
+        "--publication",
+        action="append",
+        default=[],
+        help="publication, may be repeated (default: those that the store has followed, else pgsub)",
+    )
+    add(
+        "--proto",
+        type=int,
+        choices=(1, 2),
+        default=2,
+        help="protocol version (default: 2, and 1 where the server has no other)",
+    )
+    add(
+        "--heartbeat",
+        type=seconds,
+        default=10.0,
+        metavar="N",
+        help="seconds between statuses (default: 10, and at most a third of wal_sender_timeout)",
+    )
+    add(
+        "--mode",
+        type=mode,
+        default=0o600,
+        metavar="OCTAL",
+        help="mode of the files that are made (default: 600)",
+    )
+
+
+def add_trust(parser: argparse.ArgumentParser) -> None:
+    """What a command may accept that connects to the server of a store."""
+    add = parser.add_argument
+    add(
+        "--accept",
+        action="append",
+        default=[],
+        choices=(PLAINTEXT,),
+        help="connect without TLS although it was in use before",
+    )
+
+
+Settled = TypeVar("Settled", bound=ServerOptions)
+
+
+def settled_server(
+    options: Settled,
+    store: str = "",
+    keyless: str = "refuse",
+    told: Iterable[tuple[str, str]] = (),
+) -> Settled:
+    """The options with the connection string of a file, and with the publications that a store has
+    followed where none is named. `told`: what else the server or the program is told."""
+    dsn, readable = options.dsn, ""
+    if options.dsn_file:
+        with open(options.dsn_file, encoding="utf-8", errors="surrogateescape") as file:
+            dsn, readable = file.readline().strip(), readable_by(file.fileno())
+    check_texts([("--slot", options.slot), *each("--publication", options.publication), *told], dsn)
+    check_lengths(options.slot, options.publication, keyless)
+    warn_of_password(options, dsn, readable)
+    remembered = Remembered(store).publications() if store and os.path.exists(store) else []
+    names = followed_again(options.publication, keyless, remembered) or remembered or ["pgsub"]
+    return dataclasses.replace(options, dsn=dsn, publication=names)
+
+
+def warn_of_password(options: ServerOptions, dsn: str, readable: str) -> None:
+    if not {"password", "sslpassword"} & parameters(dsn).keys():
+        return
+    if not options.dsn_file:
+        log.warning(
+            "the password on the command line can be read by every account: use ~/.pgpass, PGPASSWORD or --dsn-file"
+        )
+    elif readable:
+        log.warning(readable_text(options.dsn_file, readable))
+
+
+def followed_again(
+    publications: Sequence[str], keyless: str, remembered: Sequence[str]
+) -> list[str]:
+    """The publications that are named, and behind each the one that was made for Inserts alone,
+    where the store follows it."""
+    names = list(publications)
+    if keyless == "inserts":
+        names = [
+            it
+            for name in publications
+            for it in (name, inserts_of(name))
+            if it == name or it in remembered
+        ]
+    return list(dict.fromkeys(names))
+
+
+def trust_store(store: str, accept: Iterable[str]) -> None:
+    """Has a command that connects to the server of a store without its checkpoint know whether TLS
+    was in use."""
+    if store:
+        transport.OWN.begin(read_known(store + ".connector").encrypted, accept)

@@ -1,0 +1,373 @@
+"""`pgsub-connect follow`: carries the change stream of a slot to `pgsub follow`, and its statuses back.
+"""
+
+from __future__ import annotations
+
+import argparse
+import dataclasses
+import os
+import signal
+from collections.abc import Callable
+
+from pgsub_feed.arguments import lsn
+from pgsub_feed.errors import Stopped, Unfit
+from pgsub_feed.interruption import Check
+from pgsub_feed.program import Start, stop_by_signals
+
+from ..copy.copier import Copier, CopySettings
+from ..copy.slots import create_slot
+from ..drift.remembered import Remembered
+from ..drift.tolerance import Tolerance
+from ..errors import MISSED
+from ..follow.feed import Feeding
+from ..follow.follower import Follower
+from ..follow.server_watch import Asker
+from ..follow.settings import FollowSettings
+from ..record.recording import LONGEST, Aside, Recording
+from ..server import transport
+from ..server.followed_publications import require_published
+from ..server.subscription import Subscription
+from ..status.files import Reporter, ReportSettings
+from ..status.notify import notifier_of
+from ..status.progress import Progress
+from ..store.checkpoint import Checkpoint
+from ..store.checkpoint_lines import FOLLOWING
+from ..store.placing import check_meant
+from ..store.snapshot import Snapshots, part_of
+from ..stream.filter import Filter
+from .arguments import exit_status
+from .arguments.feed import FeedOptions, add_feed, check_feed
+from .arguments.files import check_files, use_mode
+from .arguments.needs import check_needs
+from .arguments.publishing import CopyOptions, add_copying, check_creates, check_publishing
+from .arguments.recording import add_longest
+from .arguments.server import PLAINTEXT, ServerOptions, add_server, settled_server
+from .arguments.sizes import SizeOptions, add_sizes, settled_sizes
+from .arguments.texts import each
+from .arguments.types import lsn_or_now, seconds
+from .arguments.watching import WatchOptions, add_watching
+from .snapshot import check_copied
+
+ABOUT = "follow into a store"
+ENDS = exit_status.ENDS
+ACCEPTED = ("history", "slot", "names", "publication", "values", "missing", "gap", "all", PLAINTEXT)
+
+
+@dataclasses.dataclass(frozen=True)
+class Options(ServerOptions, CopyOptions, SizeOptions, FeedOptions, WatchOptions):
+    """What is followed, into which store, and for how long."""
+
+    store: str = ""
+    until: int | str | None = None
+    silence: float = 60.0
+    strict: bool = False
+    accept: tuple[str, ...] = ()
+    skip: int = 0
+    record: str | None = None
+    bytes: int = LONGEST
+
+    def follow_settings(self) -> FollowSettings:
+        return FollowSettings(
+            self.store,
+            self.proto,
+            self.heartbeat,
+            self.silence,
+            self.skip,
+            self.until,
+            self.no_copy,
+            self.limits(),
+        )
+
+    def copy_settings(self) -> CopySettings:
+        wanted = self.wanted(self.publication)
+        return CopySettings(self.store, wanted, self.limits(), self.failover, self.jobs, self.mode)
+
+    def report_settings(self) -> ReportSettings:
+        return ReportSettings(
+            self.store, self.slot, self.pgsub, self.status_file, self.metrics_file, self.mode
+        )
+
+
+def add_options(parser: argparse.ArgumentParser) -> None:
+    add_server(parser)
+    add = parser.add_argument_group("the store").add_argument
+    add("--store", metavar="FILE", default="", help="keep the copies in this store")
+    add_sizes(add)
+    add_session(add)
+    add_copying(parser)
+    add_watching(parser)
+    add_feed(parser)
+    add = parser.add_argument_group("recording").add_argument
+    add("--record", metavar="FILE", help="add the sessions to this recording, a .pgx file")
+    add_longest(add)
+
+
+def add_session(add: Callable[..., object]) -> None:
+    """Options on how long it is followed, and on what is taken as it is."""
+    add(
+        "--until",
+        type=lsn_or_now,
+        metavar="LSN|now",
+        help="stop once all that was committed up to this LSN, or up to now, is stored",
+    )
+    add(
+        "--silence",
+        type=seconds,
+        default=60.0,
+        metavar="N",
+        help="give a server up that says nothing for N seconds (default: 60)",
+    )
+    add(
+        "--strict",
+        action="store_true",
+        help="end with status 5 where something was found that may have made the copy wrong",
+    )
+    add_accepting(add)
+
+
+def add_accepting(add: Callable[..., object]) -> None:
+    """Options on what is taken as it is, or passed over."""
+    add(
+        "--accept",
+        action="append",
+        default=[],
+        choices=ACCEPTED,
+        help="take what was found of this kind as it is, may be repeated; plaintext, which isn't in all: go on without TLS",
+    )
+    add(
+        "--accept-gap",
+        dest="accept",
+        action="append_const",
+        const="gap",
+        help="go on although changes between the store and the slot may be missing",
+    )
+    add(
+        "--skip",
+        type=lsn,
+        default=0,
+        metavar="LSN",
+        help="pass over the changes of the commit with this final LSN",
+    )
+
+
+def check_options(parser: argparse.ArgumentParser, options: Options) -> Options:
+    """Rejects options that don't go together."""
+    if options.tables and not options.feed:
+        options = dataclasses.replace(options, feed=options.store + ".feed")
+    check_creates(parser, options)
+    check_needs(
+        parser,
+        options,
+        ("snapshot", "store"),
+        ("snapshot_every", "snapshot"),
+        ("skip", "store"),
+        ("strict", "store"),
+    )
+    check_feed(parser, options)
+    if not options.store:
+        parser.error("--store is needed")
+    check_publishing(parser, options)
+    return options
+
+
+def settled(options: Options) -> Options:
+    """The options with what they leave out."""
+    check_files(
+        options.store,
+        {
+            "--snapshot": options.snapshot,
+            "--status-file": options.status_file,
+            "--metrics-file": options.metrics_file,
+            "--record": options.record,
+            "--tables": options.tables,
+            "--feed": options.feed,
+        },
+        {"--dsn-file": options.dsn_file, "--init": options.init},
+    )
+    # (the program is told the whole path of a feed)
+    feed = os.path.abspath(options.feed) if options.feed else ""
+    told = [
+        *each("--table", options.table),
+        ("--store", options.store),
+        ("--pgsub", options.pgsub),
+        ("--feed", feed),
+    ]
+    if not os.path.exists(options.store):
+        told.append(("--store", part_of(options.store)))
+    options = settled_server(options, options.store, options.keyless, told)
+    use_mode(options.mode)
+    return settled_sizes(options)
+
+
+def run(options: Options) -> int:
+    """Follows to the end that was asked for; the exit status."""
+    return follow(settled(options))
+
+
+def follow(options: Options) -> int:
+    start = Start()
+    stop_by_signals(start)
+    check_start(options)
+    parts = made(options, start.check)
+    signal.signal(signal.SIGUSR1, lambda *_: parts.snapshots.ask())
+    stop_by_signals(parts.copier, parts.follower)
+    if start.stop_asked:
+        parts.copier.stop_asked = parts.follower.stop_asked = True
+    for it in parts.threads:
+        it.start()
+    try:
+        follow_with(options, parts)
+        parts.progress.enter("stopped")
+    except Stopped:
+        parts.progress.enter("stopped")
+    except Exception as error:
+        parts.progress.note_error(str(error))
+        parts.progress.enter("failed")
+        raise
+    finally:
+        parts.finish()
+    return MISSED if parts.follower.misses.count else 0
+
+
+def check_start(options: Options) -> None:
+    """Rejects a start before there is a file that would stay."""
+    if options.snapshot:
+        check_copied(options.store, options.snapshot, "--snapshot")
+    check_meant(options.store)
+    is_there = any(os.path.exists(options.store + it) for it in ("", ".connector"))
+    if not (options.create or options.no_copy or is_there):
+        raise no_store(options)
+
+
+def no_store(options: Options) -> Unfit:
+    return Unfit(
+        f"there is no store {options.store}: --create makes it, with publication and slot; see --help"
+    )
+
+
+@dataclasses.dataclass(frozen=True)
+class Parts:
+    """What takes part in following. `threads`: what asks the server how far it is, and what shows
+    that."""
+
+    subscription: Subscription
+    tolerance: Tolerance
+    checkpoint: Checkpoint
+    remembered: Remembered
+    progress: Progress
+    feeding: Feeding
+    recording: Aside | None
+    child: Filter
+    snapshots: Snapshots
+    copier: Copier
+    follower: Follower
+    threads: tuple[Asker | Reporter, ...]
+
+    def finish(self) -> None:
+        self.child.kill()
+        self.feeding.finish()
+        if self.recording:
+            self.recording.flush()
+        for it in self.threads:
+            it.finish()
+
+
+def made(options: Options, check: Check) -> Parts:
+    """Makes all that takes part; nothing runs yet."""
+    store, mode = options.store, options.mode
+    checkpoint = Checkpoint(store, check)
+    transport.OWN.begin(checkpoint.known.encrypted, options.accept)
+    subscription, tolerance = options.subscription(), Tolerance(options.accept, options.strict)
+    progress, remembered = Progress(notifier_of(os.environ)), Remembered(store, mode)
+    settings = options.feed_settings(store, mode)
+    feeding = Feeding(settings, subscription, tolerance, checkpoint, progress, remembered)
+    feeding.check()
+    recording = recording_of(options)
+    part, child = (make_filter(options, checkpoint, it) for it in (part_of(store), store))
+    copier = Copier(options.copy_settings(), subscription, checkpoint, part, progress, remembered)
+    snapshots = Snapshots(store, options.snapshot, options.snapshot_every, mode)
+    follower = Follower(
+        options.follow_settings(),
+        subscription,
+        tolerance,
+        checkpoint,
+        child,
+        progress,
+        recording,
+        snapshots,
+        remembered,
+        feeding,
+    )
+    return Parts(
+        subscription,
+        tolerance,
+        checkpoint,
+        remembered,
+        progress,
+        feeding,
+        recording,
+        child,
+        snapshots,
+        copier,
+        follower,
+        threads_of(options, subscription, progress),
+    )
+
+
+def recording_of(options: Options) -> Aside | None:
+    if not options.record:
+        return None
+    return Aside(Recording(options.record, True, options.bytes, options.mode))
+
+
+def threads_of(
+    options: Options, subscription: Subscription, progress: Progress
+) -> tuple[Asker | Reporter, ...]:
+    is_shown = bool(options.status_file or options.metrics_file)
+    asker = Asker(subscription, is_shown, progress)
+    if not is_shown:
+        return (asker,)
+    return asker, Reporter(options.report_settings(), progress)
+
+
+def make_filter(options: Options, checkpoint: Checkpoint, path: str) -> Filter:
+    words = [options.pgsub, "follow", "--store", path]
+    words += ["--max-buffered", str(options.max_buffered), "--max-frame", str(options.max_frame)]
+    words += ["--cache", str(options.cache)] if options.cache else []
+    return Filter(words, (checkpoint.file,), options.proto, options.mode)
+
+
+def follow_with(options: Options, parts: Parts) -> None:
+    """Makes the copy where there is none, and follows."""
+    follower = parts.follower
+    if not os.path.exists(options.store):
+        begin(options, parts)
+        follower.begin_after(parts.copier.was_connected)
+    elif options.table or options.all_tables:
+        wanted = options.wanted(options.publication)
+        require_published(parts.subscription, wanted, follower.check_stop)
+    parts.feeding.begin(parts.child, follower.confirming.stored, follower.check_stop)
+    follower.run()
+
+
+def begin(options: Options, parts: Parts) -> None:
+    """What a start does where there is no store."""
+    known = parts.checkpoint.known
+    if options.create and not options.no_copy:
+        return parts.copier.run()
+    if known.phase == FOLLOWING and not parts.tolerance.accepts("gap"):
+        raise Unfit(
+            f"{options.store} is gone, and the slot {known.slot} went on: remove {parts.checkpoint.path} to begin anew"
+        )
+    if not options.create and not options.no_copy:
+        raise no_store(options)
+    if options.create:
+        create_slot(
+            parts.subscription,
+            options.wanted(options.publication),
+            options.failover,
+            parts.follower.check_stop,
+            parts.remembered,
+        )
+    else:
+        parts.remembered.remove()

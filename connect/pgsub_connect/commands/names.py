@@ -1,0 +1,32 @@
+"""`pgsub-connect names`: which OID each name of a table has now, and which ones had it before."""
+
+from __future__ import annotations
+
+import argparse
+import dataclasses
+
+from ..drift.remembered import print_names
+
+ABOUT = "tell which OID each name of a table has now, and which ones had it before"
+ENDS = """\
+exit status: 0 printed; 2 usage error; 3 a file can't be used; 6 a bug
+"""
+
+
+@dataclasses.dataclass(frozen=True)
+class Options:
+    """Of which store."""
+
+    store: str = ""
+
+
+def add_options(parser: argparse.ArgumentParser) -> None:
+    parser.add_argument(
+        "--store", metavar="FILE", required=True, help="the store, which may be in use"
+    )
+
+
+def run(options: Options) -> int:
+    """Prints the names; the exit status."""
+    print_names(options.store)
+    return 0

@@ -1,0 +1,131 @@
+"""Makes slots, and drops those that were just made."""
+
+from __future__ import annotations
+
+import secrets
+
+from pgsub_feed import log
+from pgsub_feed.errors import Unfit
+from pgsub_feed.interruption import Check, never
+from pgsub_feed.texts import identifier, literal, parse_lsn
+
+from ..drift.remembered import Remembered
+from ..errors import ServerError, understood
+from ..preconditions.judged import require
+from ..server.catalog_reader import read_catalog
+from ..server.connection import QUICK, Connection
+from ..server.publication_content import has_publication
+from ..server.publication_setup import Look, Maker, Wanted
+from ..server.session import settle, settle_for_slot, slot_position
+from ..server.subscription import Subscription
+from ..server.waits import Waiting
+
+
+def create_temporary(replication: Connection, name: str) -> tuple[str, int, str]:
+    """Makes a temporary slot with a name that begins so; its name, its consistent point and its
+    snapshot."""
+    temporary = f"{name}_{secrets.token_hex(4)}"
+    settle_for_slot(replication)
+    command = f"CREATE_REPLICATION_SLOT {identifier(temporary)} TEMPORARY LOGICAL pgoutput EXPORT_SNAPSHOT"
+    with understood("a new slot"):
+        _, point, snapshot, _ = replication.rows(command)[0]
+        return temporary, parse_lsn(point or ""), snapshot or ""
+
+
+def set_failover(replication: Connection, slot: str, wanted: bool) -> None:
+    """Makes a slot one that standbys get too. The copy of a slot isn't, whatever the slot was that
+    it was copied from."""
+    if not wanted:
+        return
+    is_failover = replication.value(
+        f"SELECT s.failover FROM pg_catalog.pg_replication_slots s WHERE s.slot_name = {literal(slot)}"
+    )
+    if is_failover != "t":
+        replication.run(f"ALTER_REPLICATION_SLOT {identifier(slot)} (FAILOVER true)")
+
+
+def drop_slot(connection: Connection, slot: str) -> None:
+    """Drops a slot that was just made."""
+    try:
+        with connection.checked_by(never):
+            connection.run(f"DROP_REPLICATION_SLOT {identifier(slot)}", limit=QUICK)
+    except ServerError as error:
+        log.warning(f"the slot {slot} was made and not dropped again: {error}")
+
+
+def maker_of(
+    subscription: Subscription,
+    wanted: Wanted,
+    check: Check,
+    look: Look = lambda connection, names: None,
+    remembered: Remembered | None = None,
+) -> Maker:
+    """What makes the publications that aren't there."""
+    dsn, slot = subscription.dsn, subscription.slot
+    if remembered is None:
+        return Maker(dsn, wanted, slot, check, look)
+    return Maker(dsn, wanted, slot, check, look, remembered.made, remembered.keep_made)
+
+
+def create_slot(
+    subscription: Subscription,
+    wanted: Wanted,
+    failover: bool,
+    check: Check,
+    remembered: Remembered | None = None,
+) -> None:
+    """Makes publications and slot, without rows, where they aren't there, and remembers what is
+    published from then on.
+
+    Where `check` raises meanwhile, none of them is made.
+    """
+    if remembered:
+        remembered.begin_anew()
+    slot, is_made = subscription.slot, False
+    maker = maker_of(subscription, wanted, check, remembered=remembered)
+    connection = Connection(subscription.dsn, replication=True, name=slot, check=check)
+    try:
+        settle(connection)
+        is_there = has_slot(connection, subscription, failover)
+        maker.make()
+        subscription.note_publications(maker.publications)
+        if not is_there:
+            make_slot(connection, subscription, check)
+            is_made = True
+        set_failover(connection, slot, failover)
+        if remembered:
+            remembered.begin(read_catalog(connection, subscription.publications))
+            remembered.keep_made(maker.made)
+        maker.keep()
+    except BaseException:
+        if is_made:
+            drop_slot(connection, slot)
+        maker.take_back()
+        raise
+    finally:
+        connection.close()
+
+
+def has_slot(connection: Connection, subscription: Subscription, failover: bool) -> bool:
+    """Whether the slot is there. Raises where it can't be made, or can't have publications that
+    aren't there."""
+    if slot_position(connection, subscription.slot) is None:
+        require(connection, subscription.slot, False, failover)
+        return False
+    if missing := [it for it in subscription.publications if not has_publication(connection, it)]:
+        # (its log is read with the catalog of its time, so the server would say that the
+        # publication isn't there)
+        raise Unfit(
+            f"the slot {subscription.slot} is older than the publication {missing[0]}, which isn't there: drop the slot"
+        )
+    return True
+
+
+def make_slot(connection: Connection, subscription: Subscription, check: Check) -> None:
+    slot = subscription.slot
+    settle_for_slot(connection)
+    with connection.checked_by(Waiting(subscription.dsn, slot, check).check):
+        connection.run(
+            f"CREATE_REPLICATION_SLOT {identifier(slot)} LOGICAL pgoutput NOEXPORT_SNAPSHOT"
+        )
+    log.info(f"made the slot {slot}")

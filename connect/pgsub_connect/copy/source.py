@@ -1,0 +1,241 @@
+"""A server as of the consistent point of a slot: its published tables, each under a lock.
+
+Who compares a copy with it reads them so, and who adds a table. The slot is a temporary one, which
+goes as soon as its snapshot is taken.
+"""
+
+from __future__ import annotations
+
+import contextlib
+import time
+from collections.abc import Iterable, Mapping
+
+from pgsub_feed.errors import Passing, Unfit
+from pgsub_feed.interruption import Check
+from pgsub_feed.tables.names import names_of
+
+from ..drift.remembered import Remembered
+from ..errors import NoSlot, ServerError
+from ..server.catalog import Table
+from ..server.connection import Connection
+from ..server.publications import published_tables
+from ..server.session import identify, is_same_database, settle
+from ..server.subscription import Subscription
+from ..server.waits import Waiting
+from ..store.checkpoint_lines import FOLLOWING, Known
+from .slots import create_temporary
+from .table_reader import GONE, LOCK_TIMEOUT, lock_tables, take_snapshot
+from .tables import SHORT, check_names
+from .tries import CHANGED
+from .unchanged import ALTERED, changed, locked, there
+
+# For how long tables may be locked by others, and how often it is looked, in seconds.
+PATIENCE, LOOK = 60.0, 0.1
+
+
+class Source:
+    """The server: its published tables, and a transaction that sees them as they were at the LSN of
+    a slot."""
+
+    def __init__(
+        self,
+        subscription: Subscription,
+        store: str,
+        known: Known,
+        check: Check,
+        purpose: str = "verify",
+    ) -> None:
+        self.subscription, self.store = subscription, store
+        self.check, self.purpose = check, purpose
+        # how long tables may be locked by others, in seconds
+        self.patience = PATIENCE
+        # what is closed at the end, and what is once the snapshot is taken: the slot goes with its
+        # connection
+        self.closing, self.slot = contextlib.ExitStack(), contextlib.ExitStack()
+        try:
+            self.replication = self.connect(self.slot, replication=True)
+            self.check_server(known)
+            self.plain = self.connect(self.closing, replication=False)
+            self.plain.run("SET row_security = off")
+            # the OID of the table that alone is looked at, 0 for all
+            self.only = 0
+            self.tables = self.published()
+            # those that can't be read as the snapshot has them, and why, where the others are read
+            self.left: dict[int, str] = {}
+            self.encoding = self.plain.text("SELECT pg_catalog.current_setting('server_encoding')")
+        except BaseException:
+            self.close()
+            raise
+
+    def connect(self, closing: contextlib.ExitStack, replication: bool) -> Connection:
+        connection = Connection(
+            self.subscription.dsn,
+            replication=replication,
+            name=f"{self.subscription.slot} {self.purpose}",
+            check=self.check,
+        )
+        closing.callback(connection.close)
+        settle(connection)
+        return connection
+
+    def check_server(self, known: Known) -> None:
+        """Rejects a server whose changes the store doesn't follow."""
+        if known.phase != FOLLOWING:
+            raise Passing(f"{self.store} isn't followed yet")
+        server = identify(self.replication)
+        timeline = known.timeline and server.timeline
+        ours, theirs = (known.system, known.database, known.timeline), (
+            server.system,
+            server.database,
+            timeline,
+        )
+        is_same = is_same_database(known.database, Remembered(self.store).database, server)
+        if not is_same or (ours[0], ours[2]) != (theirs[0], theirs[2]):
+            names = ("the server {}, database {}, timeline {}".format(*it) for it in (ours, theirs))
+            raise Unfit("the store follows {}, and this is {}".format(*names))
+
+    def maker(self) -> int:
+        """The process at the server that makes the slot."""
+        return self.replication.pid()
+
+    def standbys(self) -> str:
+        """For which standbys commits wait."""
+        return self.plain.text("SHOW synchronous_standby_names")
+
+    def make_slot(self, seconds: float, check_end: Check | None = None) -> tuple[int, str]:
+        """Makes a temporary slot; its consistent point and its snapshot. Raises where that takes
+        longer than so many seconds.
+
+        `check_end`: what is called meanwhile in place of what else is.
+        """
+        until = time.monotonic() + seconds
+        dsn, slot = self.subscription.dsn, self.subscription.slot
+        waiting = Waiting(dsn, slot, check_end or self.check)
+        waiting.tell_by(until - 1)
+
+        def check() -> None:
+            waiting.check()
+            if time.monotonic() > until:
+                raise no_slot(seconds)
+
+        # (a server that waits for a transaction doesn't see that whoever asked was killed)
+        self.replication.run(f"SET lock_timeout = {round(seconds * 1000)}")
+        try:
+            with self.replication.checked_by(check):
+                _, point, snapshot = create_temporary(
+                    self.replication, f"{slot[:40]}_{self.purpose}"
+                )
+        except ServerError as error:
+            raise no_slot(seconds) if error.sqlstate == LOCK_TIMEOUT else error from None
+        return point, snapshot
+
+    def see(self, snapshot: str, leaves: bool = False) -> None:
+        """Begins the transaction, in which no published table can be altered. Those that aren't any
+        more what the snapshot has end the comparison, or with `leaves` are left out."""
+        plain = self.plain
+        try:
+            plain.run("BEGIN ISOLATION LEVEL REPEATABLE READ READ ONLY")
+            take_snapshot(plain, snapshot)
+            self.lock(leaves)
+            # (from 16 on the server opens each published table for it)
+            plain.run(f"SET LOCAL lock_timeout = {SHORT}")
+            self.leave(changed(plain, self.tables, self.published), leaves)
+            plain.run("SET LOCAL lock_timeout = 0")
+            self.leave(dict.fromkeys(self.renamed(self.tables), ALTERED), leaves)
+        except ServerError as error:
+            if str(error) == CHANGED or error.sqlstate in GONE:
+                raise Passing(f"{CHANGED}: nothing was compared") from None
+            if error.sqlstate == LOCK_TIMEOUT:
+                raise Passing(
+                    "published tables are locked by others: nothing was compared"
+                ) from None
+            raise
+        self.slot.close()
+
+    def leave(self, found: Mapping[int, str], leaves: bool) -> None:
+        """Leaves tables out, where that is wanted."""
+        if found and not leaves:
+            raise ServerError(CHANGED)
+        self.left.update(found)
+        self.tables = [it for it in self.tables if it.oid not in found]
+
+    def renamed(self, tables: list[Table]) -> list[int]:
+        """Those of which names are others now than in the snapshot."""
+        try:
+            check_names(self.subscription, tables, self.check)
+            return []
+        except ServerError as error:
+            if str(error) != CHANGED:
+                raise
+        if len(tables) == 1:
+            return [tables[0].oid]
+        half = len(tables) // 2
+        return [*self.renamed(tables[:half]), *self.renamed(tables[half:])]
+
+    def narrow(self, oid: int, patience: float) -> Table | None:
+        """Looks at one table alone from now on, which may be locked by others for so many seconds.
+        Returns it, None where it isn't published."""
+        self.only, self.patience = oid, patience
+        self.tables = [it for it in self.tables if it.oid == oid]
+        return self.tables[0] if self.tables else None
+
+    def published(self) -> list[Table]:
+        """The published tables that are looked at, as they are now."""
+        found = published_tables(self.plain, self.subscription.publications)
+        return [it for it in found if self.only in (0, it.oid)]
+
+    def lock(self, leaves: bool) -> None:
+        """Locks the tables. None is waited for while others are locked: that could end an
+        application's transaction by a deadlock."""
+        until = time.monotonic() + self.patience
+        self.plain.run("SAVEPOINT unlocked")
+        while not self.has_locked(leaves):
+            if time.monotonic() > until:
+                if leaves:
+                    self.leave(
+                        {it.oid: why for it in self.tables if (why := locked(self.plain, it))},
+                        leaves,
+                    )
+                    return
+                raise Passing(
+                    f"published tables are locked by others for {self.patience:.0f} seconds: nothing was compared"
+                )
+            self.check()
+            time.sleep(LOOK)
+
+    def has_locked(self, leaves: bool) -> bool:
+        """Locks all tables, or none where one of them is to be waited for, or is gone."""
+        try:
+            lock_tables(self.plain, self.tables, waits=False)
+        except ServerError as error:
+            if error.sqlstate != LOCK_TIMEOUT and not (leaves and error.sqlstate in GONE):
+                raise
+            self.plain.run("ROLLBACK TO SAVEPOINT unlocked")
+            if error.sqlstate != LOCK_TIMEOUT:
+                here = there(self.plain, self.tables)
+                self.leave({it.oid: ALTERED for it in self.tables if it.oid not in here}, leaves)
+            return False
+        return True
+
+    def chosen(self, names: list[str]) -> list[Table]:
+        """The tables with these names, or all where none is named."""
+        return chosen(self.tables, names) if names else self.tables
+
+    def close(self) -> None:
+        self.slot.close()
+        self.closing.close()
+
+
+def chosen(tables: Iterable[Table], names: list[str]) -> list[Table]:
+    """The published tables with these names; those of the schema `public` have short ones too."""
+    known = {name: it for it in tables for name in names_of(it.namespace, it.name)}
+    if unknown := [name for name in names if name not in known]:
+        raise Unfit(f"there is no published table {unknown[0]}")
+    return list({known[name].oid: known[name] for name in names}.values())
+
+
+def no_slot(seconds: float) -> NoSlot:
+    return NoSlot(
+        f"the server made no slot in {seconds:g} seconds, since it waits for all transactions that run: nothing was compared, and following"
+        " goes on. Try again, or hold the stream for longer by --hold"
+    )

@@ -1,0 +1,331 @@
+"""What a server is compared with: what is remembered of the publications that are followed, and what
+was found by it."""
+
+from __future__ import annotations
+
+import dataclasses
+from typing import Any
+
+from pgsub_feed.relation import Relation, Shape
+from pgsub_feed.texts import lsn_text, parse_lsn
+
+from ..server.catalog import Catalog, Table
+from .catalog_json import catalog_of, catalog_written, shape_of
+from .differences import differences, gone
+from .findings import NAMES, NOTHING, About, Findings, tables_of
+from .names import Names
+from .pending import Outstanding, Unsaved
+from .shape_differences import shape_differences
+
+FORMAT = 1
+
+
+@dataclasses.dataclass(frozen=True)
+class Sent:
+    """The last Relation message of an OID: its commit's LSN, and what it said; None where only the
+    copy's rows are known."""
+
+    lsn: int
+    shape: Shape | None
+
+
+class Baseline:
+    """All of it. `found`: what was found; `names`: which table has each name; `outstanding`: whose
+    rows are to come or go; `unsaved`: what isn't on the disk yet."""
+
+    def __init__(self) -> None:
+        self.forget()
+
+    def forget(self) -> None:
+        self.unsaved, self.outstanding = Unsaved(), Outstanding()
+        self.found, self.names = Findings(self.touch), Names(self.touch)
+        self.catalog: Catalog | None = None
+        # the publications that --create has made, and their OIDs
+        self.made: dict[str, int] = {}
+        # the folder of the store's feed
+        self.feed = ""
+        # the OID and the name of the database; None where they weren't noted yet
+        self.database: tuple[int, str] | None = None
+        self.sent: dict[int, Sent] = {}
+        self.left: set[int] = set()
+
+    @property
+    def is_urgent(self) -> bool:
+        """Whether something is new that has to be on the disk before anything more is confirmed."""
+        return self.unsaved.is_urgent
+
+    @property
+    def is_changed(self) -> bool:
+        """Whether anything is new."""
+        return self.unsaved.is_changed
+
+    @property
+    def wanted(self) -> dict[int, str]:
+        return self.outstanding.wanted
+
+    @property
+    def unwanted(self) -> set[int]:
+        return self.outstanding.unwanted
+
+    @property
+    def partial(self) -> set[int]:
+        return self.outstanding.partial
+
+    @property
+    def copied(self) -> dict[int, int]:
+        return self.outstanding.copied
+
+    def touch(self) -> None:
+        """Something is new that has to be on the disk before anything more is confirmed."""
+        self.unsaved.touch()
+
+    def publications(self) -> list[str]:
+        """The names of those that are followed."""
+        return list(self.catalog.names) if self.catalog else []
+
+    def is_known(self, oid: int) -> bool:
+        """Whether a Relation message of this OID is no news."""
+        return self.catalog is not None and (
+            oid in self.catalog.tables or oid in self.catalog.partitions or oid in self.sent
+        )
+
+    def is_unpublished(self, oid: int, lsn: int) -> bool:
+        """Whether a table wasn't published under its own name at the last look, which was before a
+        commit with this LSN."""
+        return (
+            self.catalog is not None and lsn > self.catalog.lsn and oid not in self.catalog.tables
+        )
+
+    def is_partition(self, oid: int) -> bool:
+        """Whether this is a partition whose rows are sent under another name."""
+        return (
+            self.catalog is not None
+            and oid in self.catalog.partitions
+            and oid not in self.catalog.tables
+        )
+
+    def last_sent(self, oid: int) -> int:
+        """The LSN of the commit with the last Relation message of this OID, -1 where none has
+        come."""
+        return self.sent[oid].lsn if oid in self.sent else -1
+
+    def text_of(self, oid: int) -> str:
+        """A table's name and OID."""
+        name = self.name_of(oid)
+        return f"{name} ({oid})" if name else f"table {oid}"
+
+    def name_of(self, oid: int) -> str:
+        """The name that a table has, or had; "" where that isn't known."""
+        table = self.catalog.tables.get(oid) if self.catalog else None
+        return ".".join((table.namespace, table.name) if table else self.names.key_of(oid) or ())
+
+    def begin_copy(self, catalog: Catalog, point: int) -> None:
+        """Remembers what a server had at the LSN as of which its rows are copied."""
+        self.begin(dataclasses.replace(catalog, lsn=point), point)
+
+    def begin(self, catalog: Catalog, copied: int | None = None) -> None:
+        """Remembers what a server has, and nothing else. `copied`: as of which LSN all rows of it
+        are in the store."""
+        made, feed = self.made, self.feed
+        self.forget()
+        self.catalog, self.made, self.feed = catalog, made, feed
+        for oid, table in catalog.tables.items():
+            if copied is not None:
+                self.sent[oid] = Sent(copied, table.shape)
+            self.names.rename((table.namespace, table.name), oid, catalog.lsn)
+        self.touch()
+
+    def note_made(self, made: dict[str, int]) -> None:
+        """Notes publications that were made for this store, with their OIDs."""
+        if made:
+            self.made = {**self.made, **made}
+            self.touch()
+
+    def look(self, now: Catalog) -> list[str]:
+        """Compares what a server has with what is remembered, and remembers it. Returns what makes
+        nothing wrong, but is new."""
+        before = self.catalog
+        assert before is not None
+        harmless = []
+        for kind, text, about in differences(before, now):
+            if kind:
+                self.found.find_told(kind, now.lsn, text, about)
+            else:
+                harmless.append(text)
+        self.left = (self.left | before.tables.keys()) - now.tables.keys()
+        for oid in self.sent.keys() - now.tables.keys() - now.partitions.keys() - self.left:
+            kind, text, about = gone(oid, self.name_of(oid) or "table")
+            self.found.find(kind, now.lsn, text, about)
+            self.left.add(oid)
+        self.names.release_all(now)
+        for oid, table in now.tables.items():
+            if text := self.names.rename((table.namespace, table.name), oid, now.lsn):
+                self.found.find_told(NAMES, now.lsn, text)
+        # (without these two the next look only sees less harmless news)
+        is_urgent = dataclasses.replace(before, lsn=now.lsn, highest=now.highest) != now
+        self.unsaved.change(is_urgent)
+        self.catalog = now
+        return harmless
+
+    def name_new(self, namespace: str, table: str, oid: int, lsn: int) -> None:
+        """Notes the name of a table that wasn't there at the last look, unless that is known."""
+        if self.catalog and oid not in self.catalog.tables:
+            self.note_name(self.names.rename((namespace, table), oid, lsn), lsn)
+
+    def note_name(self, text: str, lsn: int) -> None:
+        """Notes what is to be said of a name that another table had."""
+        if text:
+            self.found.find(NAMES, lsn, text)
+
+    def note(self, relation: Relation, lsn: int, last: int) -> None:
+        """Takes a Relation message of a change into account. `last`: up to which commit those of
+        this OID are known."""
+        if self.catalog is None or lsn <= last:
+            return
+        with self.unsaved.noting(relation, lsn):
+            self.take(relation, lsn, self.catalog)
+
+    def take(self, relation: Relation, lsn: int, catalog: Catalog) -> None:
+        oid, sent, is_later = relation.oid, self.sent.get(relation.oid), lsn > catalog.lsn
+        table = catalog.tables.get(oid) if is_later else None
+        # What led to what was there at the last look is told by that. Before, each message is one
+        # step after the other.
+        before = table.shape if table else sent.shape if sent else None
+        text = relation.text()
+        told = list(shape_differences(oid, text, before, relation.shape)) if before else []
+        for difference in told:
+            self.found.find(difference.kind, lsn, difference.text, difference.about)
+        if is_later or oid not in self.names.held:
+            rename = self.names.rename if is_later else self.names.rename_earlier
+            self.note_name(rename((relation.namespace, relation.name), oid, lsn), lsn)
+        self.sent[oid] = Sent(lsn, relation.shape)
+        self.unsaved.note(sent is None or sent.shape != relation.shape)
+        if table:
+            catalog.tables[oid] = described(table, relation, bool(told))
+
+    def note_again(self, oid: int, lsn: int) -> None:
+        """A Relation message has come again as it was."""
+        if lsn > self.sent[oid].lsn:
+            self.sent[oid] = dataclasses.replace(self.sent[oid], lsn=lsn)
+            self.unsaved.note()
+
+    def find(self, kind: str, lsn: int, text: str, about: About = NOTHING) -> bool:
+        """Notes what was found, and what it is about. Returns false where it was known."""
+        return self.found.find(kind, lsn, text, about)
+
+    def take_news(self) -> list[str]:
+        """What was found since the last call."""
+        return self.found.take_news()
+
+    def forget_told(self, position: int) -> None:
+        """Forgets which texts a Relation message may give again, once those messages are in the
+        store."""
+        self.found.forget_told(position)
+
+    def accept(self, kinds: list[str]) -> None:
+        """Forgets what was found of these kinds."""
+        self.found.accept(kinds)
+
+    def described(self, oid: int) -> Relation | None:
+        """A table as it was described last, by which its rows can go; None where that isn't
+        known."""
+        sent, key = self.sent.get(oid), self.names.key_of(oid)
+        return Relation(oid, *key, sent.shape) if key and sent and sent.shape else None
+
+    def found_of(self, oid: int) -> list[str]:
+        """What was found of the rows of a table."""
+        return self.found.of(oid, self.catalog)
+
+    def about(self, text: str) -> About:
+        """What a text that was found is about."""
+        return self.found.about(text)
+
+    def tables_of(self, text: str) -> list[int]:
+        """The published tables that a text is about."""
+        return tables_of(self.found.about(text), self.catalog)
+
+    def never_copied(self, oid: int) -> None:
+        """Forgets a table that went before any row of it was copied."""
+        self.sent.pop(oid, None)
+        if self.catalog:
+            self.catalog.tables.pop(oid, None)
+        self.names.forget_last(oid)
+        self.unsaved.change()
+
+    def replaced(self, relation: Relation, lsn: int) -> None:
+        """Notes that a table's rows are those of a commit with this LSN: a Relation message up to
+        there tells nothing new."""
+        self.sent[relation.oid] = Sent(lsn, relation.shape)
+        self.unsaved.change()
+
+    def note_database(self, oid: int, name: str) -> str:
+        """Notes the database that is followed. Returns what is to be told of it, where its name was
+        another one."""
+        before, self.database = self.database, (oid, name)
+        if before != self.database:
+            self.unsaved.note()
+        return (
+            f"the database {before[1]} was renamed: it is {name} now"
+            if before and before[1] != name
+            else ""
+        )
+
+    def restore(self, said: dict[str, Any]) -> None:
+        """Takes what the first line of a file says."""
+        self.made = {str(name): int(oid) for name, oid in said["made"].items()}
+        # (an earlier version of this program had no feeds)
+        self.feed = text_of(said.get("feed", ""))
+        if "followed" not in said:
+            # (nothing was copied yet)
+            return
+        self.catalog = catalog_of(said)
+        # (an earlier version of this program noted no OID)
+        if database := said.get("database"):
+            self.database = (int(database[0]), str(database[1]))
+        self.sent = {
+            int(oid): Sent(parse_lsn(lsn), shape_of(*shape) if shape else None)
+            for oid, (lsn, shape) in said["sent"].items()
+        }
+        self.left = {int(oid) for oid in said["left"]}
+        self.names.restore(said["names"])
+        self.found.restore(said)
+        self.outstanding.restore(said)
+
+    def written(self) -> dict[str, Any]:
+        begun = {"format": FORMAT, "made": self.made, "feed": self.feed}
+        if self.catalog is None:
+            return begun
+        sent = {
+            oid: [lsn_text(it.lsn), it.shape and [it.shape.identity, it.shape.columns]]
+            for oid, it in self.sent.items()
+        }
+        return {
+            **begun,
+            "database": self.database,
+            **catalog_written(self.catalog),
+            "sent": sent,
+            "names": self.names.written(),
+            **self.found.written(),
+            **self.outstanding.written(),
+            "left": sorted(self.left),
+        }
+
+
+def described(table: Table, relation: Relation, is_told: bool) -> Table:
+    """A table as a Relation message describes it. `is_told`: what changed by that was found."""
+    numbers = {it.name: it.number for it in table.columns}
+    columns = tuple(it._replace(number=numbers.get(it.name, 0)) for it in relation.shape.columns)
+    return dataclasses.replace(
+        table,
+        namespace=relation.namespace,
+        name=relation.name,
+        shape=Shape(relation.shape.identity, columns),
+        # (the next look isn't to tell it in other words)
+        altered="" if is_told else table.altered,
+    )
+
+
+def text_of(it: object) -> str:
+    if not isinstance(it, str):
+        raise TypeError
+    return it

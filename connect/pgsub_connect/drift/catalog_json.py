@@ -1,0 +1,188 @@
+"""A reading of a server's catalog, and Relation messages, as the file of tables has them in JSON."""
+
+from __future__ import annotations
+
+import dataclasses
+import json
+from typing import Any
+
+from pgsub_feed.relation import Column, Relation, Shape
+from pgsub_feed.texts import lsn_text, parse_lsn
+
+from ..server.catalog import Catalog, Part, Partition, Publication, Table
+
+# One of a change, and the LSN of its commit.
+Noted = tuple[Relation, int]
+
+
+def json_text(it: object) -> bytes:
+    return (json.dumps(it, ensure_ascii=False, separators=(",", ":")) + "\n").encode()
+
+
+def noted_written(relation: Relation, lsn: int) -> list[Any]:
+    shape = relation.shape
+    return [
+        lsn_text(lsn),
+        relation.oid,
+        relation.namespace,
+        relation.name,
+        shape.identity,
+        shape.columns,
+    ]
+
+
+def noted_of(said: list[Any]) -> Noted:
+    """A Relation message that was noted, and the LSN of its commit."""
+    lsn, oid, namespace, name, identity, columns = said
+    return Relation(int(oid), str(namespace), str(name), shape_of(identity, columns)), parse_lsn(
+        lsn
+    )
+
+
+def catalog_written(catalog: Catalog) -> dict[str, Any]:
+    relations: list[Table | Partition] = [*catalog.tables.values(), *catalog.partitions.values()]
+    return {
+        "followed": catalog.names,
+        "lsn": lsn_text(catalog.lsn),
+        "highest": catalog.highest,
+        "running": catalog.running,
+        "publications": {name: dataclasses.asdict(it) for name, it in catalog.publications.items()},
+        "tables": [
+            {
+                "oid": it.oid,
+                "schema": it.namespace,
+                "name": it.name,
+                "kind": it.kind,
+                "identity": it.shape.identity,
+                "columns": it.shape.columns,
+                "parts": {name: part[:3] for name, part in it.parts.items()},
+                "since": {name: part.since for name, part in it.parts.items()},
+                "node": it.node,
+                "altered": it.altered,
+                "primary": it.primary,
+            }
+            for it in catalog.tables.values()
+        ],
+        "partitions": [
+            [it.oid, it.parent, it.name, it.leaf, it.node] for it in catalog.partitions.values()
+        ],
+        "attached": {it.oid: it.since for it in catalog.partitions.values()},
+        "unlogged": sorted({it.oid for it in relations if not it.logged}),
+        "toast": {it.oid: it.toast for it in relations if it.toast},
+        "types": catalog.types,
+    }
+
+
+def catalog_of(said: dict[str, Any]) -> Catalog:
+    publications = {name: publication_of(it) for name, it in said["publications"].items()}
+    attached = {str(oid): str(since) for oid, since in said.get("attached", {}).items()}
+    # (an earlier version of this program didn't keep these two, nor what ran)
+    unlogged = {int(oid) for oid in said.get("unlogged", [])}
+    toast = {int(oid): int(it) for oid, it in said.get("toast", {}).items()}
+    tables = {
+        it["oid"]: dataclasses.replace(
+            table_of(it), logged=it["oid"] not in unlogged, toast=toast.get(it["oid"], 0)
+        )
+        for it in said["tables"]
+    }
+    partitions = {
+        it[0]: partition_of(
+            *it,
+            since=attached.get(str(it[0]), ""),
+            logged=it[0] not in unlogged,
+            toast=toast.get(it[0], 0),
+        )
+        for it in said["partitions"]
+    }
+    types = {
+        int(oid): {str(part): str(text) for part, text in it.items()}
+        for oid, it in said["types"].items()
+    }
+    names = tuple(str(it) for it in said["followed"])
+    return Catalog(
+        names,
+        parse_lsn(said["lsn"]),
+        int(said["highest"]),
+        publications,
+        tables,
+        partitions,
+        types,
+        int(said.get("running", 0)),
+    )
+
+
+def publication_of(said: dict[str, Any]) -> Publication:
+    """A publication; an earlier version of this program didn't keep whose it is and who has written
+    it."""
+    return Publication(
+        int(said["oid"]),
+        bool(said["whole"]),
+        tuple(said["actions"]),
+        bool(said["via_root"]),
+        bool(said["generated"]),
+        int(said.get("owner", 0)),
+        str(said.get("since", "")),
+    )
+
+
+def partition_of(
+    oid: int,
+    parent: int,
+    name: str,
+    leaf: bool,
+    node: int = 0,
+    *,
+    since: str,
+    logged: bool,
+    toast: int,
+) -> Partition:
+    """A partition; an earlier version of this program didn't keep the number of its file, nor who
+    has attached it."""
+    return Partition(
+        int(oid),
+        int(parent),
+        str(name),
+        bool(leaf),
+        node=int(node),
+        since=since,
+        logged=logged,
+        toast=toast,
+    )
+
+
+def table_of(said: dict[str, Any]) -> Table:
+    """A table; an earlier version of this program didn't keep when its columns were altered, nor by
+    what publications have it, nor its primary key."""
+    since = {
+        name: tuple(str(it) for it in entries)
+        for name, entries in said.get("since", {}).items()
+        if entries is not None
+    }
+    parts = {
+        name: Part(
+            row_filter, None if listed is None else tuple(listed), bool(whole), since.get(name)
+        )
+        for name, (row_filter, listed, whole) in said["parts"].items()
+    }
+    shape = shape_of(said["identity"], said["columns"])
+    return Table(
+        int(said["oid"]),
+        str(said["schema"]),
+        str(said["name"]),
+        str(said["kind"]),
+        shape,
+        parts,
+        node=int(said.get("node", 0)),
+        altered=str(said.get("altered", "")),
+        primary=tuple(str(it) for it in said.get("primary", ())),
+    )
+
+
+def shape_of(identity: str, columns: list[Any]) -> Shape:
+    return Shape(
+        str(identity),
+        tuple(
+            Column(str(name), int(oid), int(modifier), bool(key), int(number))
+            for name, oid, modifier, key, number in columns
+        ),
+    )

@@ -1,0 +1,93 @@
+"""What is still to be done: which tables' rows are to come or go, and what isn't on the disk yet."""
+
+from __future__ import annotations
+
+import contextlib
+from collections.abc import Iterable, Iterator
+from typing import Any
+
+from pgsub_feed.relation import Relation
+
+from .catalog_json import Noted
+
+
+class Outstanding:
+    """Whose rows are to come or go. `wanted`: those whose rows are to be added, and why one was
+    refused, "" where none was; `unwanted`: those that aren't published any more; `partial`: those
+    that the initial copy has left for later, of which it has a part at most; `copied`: while rows
+    are copied first, those that are stored whole, each with the position from which they are."""
+
+    def __init__(self) -> None:
+        self.wanted: dict[int, str] = {}
+        self.unwanted: set[int] = set()
+        self.partial: set[int] = set()
+        self.copied: dict[int, int] = {}
+
+    def want(self, oids: Iterable[int], unwanted: Iterable[int]) -> None:
+        """Notes that the rows of tables are to be added, anew where that was refused, and that
+        those of others are to go."""
+        self.unwanted.update(unwanted)
+        self.wanted |= {oid: "" for oid in (*oids, *self.unwanted)}
+
+    def added(self, oid: int) -> bool:
+        """Notes that a table was added, or isn't to be any more. Returns whether its rows were to
+        go."""
+        self.wanted.pop(oid, None)
+        self.partial.discard(oid)
+        return oid in self.unwanted
+
+    def written(self) -> dict[str, Any]:
+        """What is kept of it in a file."""
+        return {
+            "copied": self.copied,
+            "wanted": self.wanted,
+            "unwanted": sorted(self.unwanted),
+            "partial": sorted(self.partial),
+        }
+
+    def restore(self, said: dict[str, Any]) -> None:
+        """Takes what a file has kept of it."""
+        self.wanted = {int(oid): str(why) for oid, why in said.get("wanted", {}).items()}
+        self.copied = {int(oid): int(end) for oid, end in said.get("copied", {}).items()}
+        self.unwanted = {int(oid) for oid in said.get("unwanted", [])}
+        self.partial = {int(oid) for oid in said.get("partial", [])}
+
+
+class Unsaved:
+    """What isn't on the disk yet. `is_urgent`: it has to be there before anything more is
+    confirmed; `is_changed`: anything new; `is_other`: anything but what Relation messages said,
+    which are `noted`."""
+
+    def __init__(self) -> None:
+        self.clear()
+
+    def clear(self) -> None:
+        """All of it is there."""
+        self.noted: list[Noted] = []
+        self.is_urgent = self.is_changed = self.is_other = False
+
+    def added(self) -> None:
+        """What Relation messages said is there."""
+        self.noted, self.is_urgent = [], False
+
+    def touch(self) -> None:
+        """Something is new, and urgent."""
+        self.change(True)
+
+    def change(self, is_urgent: bool = False) -> None:
+        """Something is new."""
+        self.note(is_urgent)
+        self.is_other = True
+
+    def note(self, is_urgent: bool = False) -> None:
+        """Something is new, as a Relation message said."""
+        self.is_changed, self.is_urgent = True, self.is_urgent or is_urgent
+
+    @contextlib.contextmanager
+    def noting(self, relation: Relation, lsn: int) -> Iterator[None]:
+        """Around what takes a Relation message into account. (Whatever it changes, it changes again
+        where it is read.)"""
+        is_other = self.is_other
+        yield
+        self.is_other = is_other
+        self.noted.append((relation, lsn))

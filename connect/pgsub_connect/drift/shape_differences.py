@@ -1,0 +1,71 @@
+"""What has changed between two Relation messages of a table, and between two readings of a type."""
+
+from __future__ import annotations
+
+from collections.abc import Iterator
+
+from pgsub_feed.relation import Shape
+
+from .findings import VALUES, About, Difference
+
+# How many columns, labels and the like a text names.
+NAMED = 20
+
+
+def shape_differences(oid: int, table: str, old: Shape, new: Shape) -> Iterator[Difference]:
+    """What of another definition may have changed values in rows that were there. Columns that only
+    went have not."""
+    about = About((oid,))
+    return (Difference(VALUES, text, about) for text in shape_texts(table, old, new))
+
+
+def shape_texts(table: str, old: Shape, new: Shape) -> Iterator[str]:
+    was = {it.name: it for it in old.columns}
+    for column in new.columns:
+        same = was.get(column.name)
+        if same is not None and column.number and same.number and column.number != same.number:
+            yield f"column {column.name} of {table} was dropped and made anew: its values may be the old ones"
+        elif same is not None and (same.type_oid, same.modifier) != (
+            column.type_oid,
+            column.modifier,
+        ):
+            yield f"column {column.name} of {table} has another type: its values may be written in another way"
+        elif same is None:
+            yield f"column {column.name} of {table} was added or renamed: rows that were there have nulls in it"
+    kept = {it.name for it in new.columns}
+    if [it.name for it in old.columns if it.name in kept] != [
+        it.name for it in new.columns if it.name in was
+    ]:
+        yield f"columns of {table} have changed their names among each other, or were made anew"
+    if (old.identity, keys_of(old)) != (new.identity, keys_of(new)):
+        key = (
+            "all columns" if new.identity == "f" else ", ".join(keys_of(new)[:NAMED]) or "no column"
+        )
+        yield f"table {table} has another replica identity: {key}"
+
+
+def keys_of(shape: Shape) -> list[str]:
+    return [it.name for it in shape.columns if it.key and shape.identity in "di"]
+
+
+def type_differences(oid: int, old: dict[str, str], new: dict[str, str]) -> Iterator[Difference]:
+    """Labels that were renamed, and parts of composite types. A label that was added changes no
+    value."""
+    name, about = f"type {new.get('name', '')} ({oid})", About(type_oid=oid)
+    renamed = sorted(
+        f"{old[it]} became {new[it]}"
+        for it in old.keys() & new.keys()
+        if it.isdigit() and old[it] != new[it]
+    )
+    if renamed:
+        yield Difference(
+            VALUES,
+            f"{name}: {', '.join(renamed[:NAMED])}: values that were there have the old labels",
+            about,
+        )
+    if {it: old[it] for it in old if it[0] == "#"} != {it: new[it] for it in new if it[0] == "#"}:
+        yield Difference(
+            VALUES,
+            f"{name} consists of other parts: values that were there have the old ones",
+            about,
+        )

@@ -1,0 +1,213 @@
+"""Records one session, without a filter."""
+
+from __future__ import annotations
+
+import dataclasses
+import select
+import struct
+import time
+from collections.abc import Sequence
+
+from pgsub_feed import log
+from pgsub_feed.errors import Stopped, UsageError
+from pgsub_feed.texts import counted, identifier, lsn_text, replication_literal
+
+from ..server.connection import COPY_BOTH, Connection
+from ..server.session import (
+    STREAMS,
+    log_end,
+    settle,
+    settle_for_slot,
+    tell_version_1,
+    unsettle_for_slot,
+)
+from ..server.subscription import Subscription
+from ..stream.frames import COPY_DONE
+from .recording import Recording, Session
+
+EPOCH = 946684800
+
+
+@dataclasses.dataclass(frozen=True)
+class RecordSettings:
+    """What a session asks for, and where it begins and ends. `asks_for`: options of the protocol
+    that PostgreSQL 14 has first; `confirm`: up to which LSN the server may forget its log."""
+
+    proto: int = 2
+    asks_for: Sequence[str] = ()
+    start: int = 0
+    until: int | str | None = None
+    seconds: float | None = None
+    transactions: int | None = None
+    confirm: int = 0
+    heartbeat: float = 10.0
+    is_temporary: bool = False
+
+
+@dataclasses.dataclass
+class Progress:
+    """What was recorded so far."""
+
+    payloads: int = 0
+    commits: int = 0
+    # the end of the server's log, as it told last, and the end of the last commit
+    server_end: int = 0
+    commit_end: int = 0
+    # the greatest LSN up to which all that was committed has come
+    reached: int = 0
+    asks: bool = False
+
+    def note(self, payload: bytes) -> None:
+        """Notes a payload: XLogData (`w`) or a keepalive (`k`). One that is too short is recorded
+        as any other."""
+        self.payloads += 1
+        if payload[:1] == b"k":
+            end = int.from_bytes(payload[1:9], "big")
+            self.server_end, self.reached = max(self.server_end, end), max(self.reached, end)
+            self.asks = self.asks or payload[17:18] == b"\1"
+        elif payload[:1] == b"w":
+            self.server_end = max(self.server_end, int.from_bytes(payload[9:17], "big"))
+            if payload[25:26] in (b"C", b"c"):
+                at = 35 if payload[25:26] == b"C" else 39
+                self.commit_end = int.from_bytes(payload[at : at + 8], "big")
+                self.reached = max(self.reached, self.commit_end)
+                self.commits += 1
+
+
+class Recorder:
+    """Records one session without a filter, and keeps the server content meanwhile."""
+
+    connection: Connection | None
+
+    def __init__(
+        self, subscription: Subscription, settings: RecordSettings, recording: Recording
+    ) -> None:
+        self.subscription, self.settings, self.recording = subscription, settings, recording
+        self.proto = settings.proto
+        self.until = settings.until if isinstance(settings.until, int) else None
+        self.progress = Progress()
+        self.stop_asked = False
+        self.last_status = 0.0
+        self.connection = None
+
+    def check_stop(self) -> None:
+        if self.stop_asked:
+            raise Stopped
+
+    def connect(self) -> Connection:
+        """Connects, and looks for what the server's version hasn't got, before anything is made
+        there."""
+        subscription = self.subscription
+        self.connection = connection = Connection(
+            subscription.dsn, replication=True, name=subscription.slot, check=self.check_stop
+        )
+        settle(connection)
+        if connection.version() < STREAMS:
+            if self.settings.asks_for:
+                raise UsageError(
+                    f"--{self.settings.asks_for[0]} needs PostgreSQL 14, and this is {connection.parameter('server_version')}"
+                )
+            if self.proto == 2:
+                tell_version_1()
+                self.proto = 1
+        return connection
+
+    def close(self) -> None:
+        if self.connection:
+            self.connection.close()
+        self.connection = None
+        self.recording.close()
+
+    def run(self) -> None:
+        """Records a session on the connection."""
+        settings, connection = self.settings, self.connection
+        assert connection
+        try:
+            if settings.is_temporary:
+                settle_for_slot(connection)
+                connection.run(
+                    f"CREATE_REPLICATION_SLOT {identifier(self.subscription.slot)} TEMPORARY LOGICAL pgoutput NOEXPORT_SNAPSHOT"
+                )
+                unsettle_for_slot(connection)
+                log.info("recording from now on: make changes now")
+            if settings.until == "now":
+                self.until = log_end(connection)
+            connection.run(self.command(), wanted=COPY_BOTH)
+            self.recording.begin_session(
+                Session(
+                    connection.parameter("server_version"),
+                    self.subscription.slot,
+                    self.subscription.publications,
+                    self.proto,
+                    settings.asks_for,
+                    settings.start,
+                )
+            )
+            self.record(connection)
+            if settings.confirm:
+                self.send_status(connection)
+            connection.end_copy()
+        finally:
+            self.recording.flush()
+            done = self.progress
+            said = f"{counted(done.payloads, 'frame')}, {counted(done.commits, 'commit')}"
+            log.info(f"{said}, the last up to {lsn_text(done.commit_end)}")
+
+    def command(self) -> str:
+        slot, start = identifier(self.subscription.slot), lsn_text(self.settings.start)
+        names = ", ".join(identifier(name) for name in self.subscription.publications)
+        words = [f"proto_version '{self.proto}'", f"publication_names {replication_literal(names)}"]
+        words += [f"{it} 'true'" for it in self.settings.asks_for]
+        return f"START_REPLICATION SLOT {slot} LOGICAL {start} ({', '.join(words)})"
+
+    def send_status(self, connection: Connection) -> None:
+        """Tells the server that it is heard. Only the second number, what is flushed, lets it
+        forget its log."""
+        confirmed = min(self.settings.confirm, self.progress.commit_end)
+        clock = int((time.time() - EPOCH) * 1000000)
+        received = max(self.progress.server_end, confirmed)
+        connection.send(struct.pack(">cQQQqB", b"r", received, confirmed, confirmed, clock, 0))
+        self.last_status = time.monotonic()
+        self.progress.asks = False
+
+    def is_enough(self) -> bool:
+        settings, progress = self.settings, self.progress
+        if self.stop_asked or self.recording.full:
+            return True
+        if settings.transactions is not None and progress.commits >= settings.transactions:
+            return True
+        return self.until is not None and progress.reached >= self.until
+
+    def take_ready(self, connection: Connection) -> bool:
+        """Records what has come. Returns false once the session is over or enough is recorded."""
+        while not self.is_enough():
+            payload = connection.next_payload()
+            if payload is None:
+                self.recording.write_frame(COPY_DONE)
+                return False
+            if not payload:
+                return True
+            self.recording.write_payload(payload)
+            self.progress.note(payload)
+            if self.progress.asks:
+                self.send_status(connection)
+        return False
+
+    def record(self, connection: Connection) -> None:
+        socket = connection.socket()
+        self.last_status = time.monotonic()
+        deadline = (
+            self.last_status + self.settings.seconds if self.settings.seconds is not None else None
+        )
+        while self.take_ready(connection):
+            now = time.monotonic()
+            if deadline is not None and now >= deadline:
+                return
+            wait = self.settings.heartbeat - (now - self.last_status)
+            if wait <= 0:
+                self.send_status(connection)
+                self.recording.flush()
+            if deadline is not None:
+                wait = min(wait, deadline - now)
+            select.select([socket], [], [], min(max(wait, 0.01), 0.5))
+            connection.consume()

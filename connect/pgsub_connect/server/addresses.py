@@ -1,0 +1,135 @@
+"""Where a connection goes: the settings of a DSN, its hosts and their addresses, as libpq takes
+them."""
+
+from __future__ import annotations
+
+import contextlib
+import ipaddress
+import os
+import socket
+import threading
+import time
+
+import psycopg
+from psycopg import pq
+from psycopg.conninfo import conninfo_to_dict
+
+from pgsub_feed.interruption import Check
+
+from ..errors import ServerError, Unconnected
+from .ticks import TICK
+
+# After how many seconds a host is given up, at most.
+CONNECT_LIMIT = 10.0
+# The first libpq that can be told to connect to a primary alone. One whose transactions are
+# read-only by default is one, too.
+PRIMARY = 140000
+# The limits that a DSN can give for a host: libpq knows none below two seconds, and takes 0 for
+# none at all.
+LEAST_LIMIT, MOST_LIMIT = 2.0, 3600.0
+# What a DSN goes before. A lost peer is noticed within about a minute.
+DEFAULTS = {
+    "keepalives_idle": "30",
+    "keepalives_interval": "10",
+    "keepalives_count": "3",
+    "tcp_user_timeout": "60000",
+}
+
+
+def parameters(dsn: str) -> dict[str, str]:
+    """What a connection string or URI says. A database's name alone is one too, as libpq has it."""
+    if dsn and "=" not in dsn and not dsn.startswith(("postgresql://", "postgres://")):
+        return {"dbname": dsn}
+    try:
+        return {name: str(value) for name, value in conninfo_to_dict(dsn).items()}
+    except psycopg.ProgrammingError:
+        # (libpq's own text may have a part of a password in it)
+        raise ServerError("the connection string is not one of libpq's", "22023") from None
+
+
+def hosts_of(settings: dict[str, str]) -> list[dict[str, str]]:
+    """The settings of one attempt for each host, in libpq's order."""
+    hosts, addresses, ports = (
+        (settings.get(name) or os.environ.get(variable) or "").split(",")
+        for name, variable in (("host", "PGHOST"), ("hostaddr", "PGHOSTADDR"), ("port", "PGPORT"))
+    )
+    count = max(len(hosts), len(addresses))
+    if count == 1 or settings.get("target_session_attrs") == "prefer-standby":
+        return [settings]
+    if len(ports) not in (1, count) or {len(hosts), len(addresses)} - {1, count}:
+        raise ServerError("the connection string has other numbers of hosts and ports", "22023")
+    attempts = []
+    for it in range(count):
+        own = {
+            "host": hosts[it % len(hosts)],
+            "hostaddr": addresses[it % len(addresses)],
+            "port": ports[it % len(ports)],
+        }
+        attempt = {**settings, **own}
+        # A restarted primary is waited for, rather than one of its standbys followed.
+        primary = "primary" if pq.version() >= PRIMARY else "read-write"
+        attempt.setdefault("target_session_attrs", os.environ.get("PGTARGETSESSIONATTRS", primary))
+        attempts.append(attempt)
+    return attempts
+
+
+def connect_limit(said: str) -> float:
+    """After how many seconds a host is given up, where a DSN or libpq's environment has this as its
+    `connect_timeout`."""
+    text = said or os.environ.get("PGCONNECT_TIMEOUT", "")
+    try:
+        number = float(text) if text else CONNECT_LIMIT
+    except ValueError:
+        raise ServerError("connect_timeout is no number", "22023") from None
+    return min(max(number, LEAST_LIMIT), MOST_LIMIT) if number > 0 else MOST_LIMIT
+
+
+def is_resolved(settings: dict[str, str]) -> bool:
+    """Whether no name has to be looked up for these settings, or libpq has to do it since it
+    chooses among several hosts itself."""
+    host = settings.get("host") or os.environ.get("PGHOST", "")
+    if (
+        settings.get("hostaddr")
+        or os.environ.get("PGHOSTADDR")
+        or not host
+        or host.startswith(("/", "@"))
+        or "," in host
+    ):
+        return True
+    with contextlib.suppress(ValueError):
+        ipaddress.ip_address(host)
+        return True
+    return bool(settings.get("service") or os.environ.get("PGSERVICE"))
+
+
+def addresses_of(settings: dict[str, str], check: Check) -> list[dict[str, str]]:
+    """The settings with each address of their host. The look-up is left to a thread, since nothing
+    can interrupt it."""
+    if is_resolved(settings):
+        return [settings]
+    host, found, failed = settings.get("host") or os.environ["PGHOST"], list[str](), list[OSError]()
+
+    def look_up() -> None:
+        try:
+            answers = socket.getaddrinfo(host, None, type=socket.SOCK_STREAM)
+            found.extend(dict.fromkeys(str(answer[4][0]) for answer in answers))
+        except OSError as error:
+            failed.append(error)
+
+    thread = threading.Thread(target=look_up, daemon=True)
+    thread.start()
+    until = time.monotonic() + CONNECT_LIMIT
+    while thread.is_alive() and time.monotonic() < until:
+        thread.join(TICK / 2)
+        check()
+    if not found:
+        why = failed[0].strerror if failed else f"no answer within {CONNECT_LIMIT:.0f} seconds"
+        raise Unconnected(f"the host {host} can't be looked up: {why}")
+    return [{**settings, "hostaddr": address} for address in found]
+
+
+def where(settings: dict[str, str]) -> str:
+    host = (
+        settings.get("host") or settings.get("hostaddr") or os.environ.get("PGHOST") or "the server"
+    )
+    return f"{host}:{settings['port']}" if settings.get("port") else host
