@@ -40,7 +40,9 @@ from .errors import (
 from .follow.feed import Feeding
 from .follow.filter import Filter, FilterEnded
 from .follow.follower import Follower
+from .follow.requests import Requests
 from .follow.server_watch import Asker
+from .follow.snapshots import Snapshots
 from .server import transport
 from .server.connection import Check
 from .server.followed_publications import require_published
@@ -50,7 +52,7 @@ from .store import checkpoint as known_of
 from .store import export
 from .store.checkpoint import Checkpoint
 from .store.placing import check_meant
-from .store.snapshot import Snapshots, part_of
+from .store.snapshot import part_of
 from .verify import tables_file as tables_verifying
 
 REJECTED, USAGE, FILE, SERVER, UNFIT, BUG, PASSING, NO_SLOT, MISSED = 1, 2, 3, 4, 5, 6, 7, 8, 9
@@ -77,10 +79,7 @@ def stop_by_signals(*workers: Worker) -> None:
 
 
 def snapshot_by_signal(snapshots: Snapshots) -> None:
-    def ask(*_: object) -> None:
-        snapshots.asked = True
-
-    signal.signal(signal.SIGUSR1, ask)
+    signal.signal(signal.SIGUSR1, lambda *_: snapshots.ask())
 
 
 def make_filter(options: Options, checkpoint: Checkpoint, path: str) -> Filter:
@@ -133,7 +132,10 @@ def follow(options: Options) -> int:
         remembered,
     )
     child = make_filter(options, checkpoint, options.store)
-    snapshots = Snapshots(options.store, options.snapshot, options.snapshot_every, options.mode)
+    requests = Requests(options.store, options.mode)
+    snapshots = Snapshots(
+        options.store, requests, options.snapshot, options.snapshot_every, options.mode
+    )
     follower = Follower(
         options, checkpoint, child, progress, recording, snapshots, remembered, feeding
     )
@@ -154,7 +156,7 @@ def follow(options: Options) -> int:
             follower.was_connected = copier.was_connected
         elif options.table or options.all_tables:
             require_published(options, follower.check_stop)
-        feeding.begin(child, follower.confirming.stored, follower.check_stop)
+        feeding.begin(child, follower.confirming.stored, follower.check_stop, requests.wake)
         follower.run()
         progress.state = "stopped"
     except Stopped:
@@ -170,6 +172,7 @@ def follow(options: Options) -> int:
         asker.finish()
         if reporter:
             reporter.finish()
+        requests.close()
     return MISSED if follower.misses.count else 0
 
 

@@ -21,10 +21,11 @@ from pgsub_connect.drift.remembered import Remembered
 from pgsub_connect.follow import follower, statuses
 from pgsub_connect.follow.filter import Filter
 from pgsub_connect.follow.follower import Follower
+from pgsub_connect.follow.requests import Requests
+from pgsub_connect.follow.snapshots import Snapshots
 from pgsub_connect.server import connection
 from pgsub_connect.status.progress import Progress
 from pgsub_connect.store.checkpoint import Checkpoint
-from pgsub_connect.store.snapshot import Snapshots
 from pgsub_feed.texts import lsn_text
 
 from .fake_server import FakeServer, Quiet, Row
@@ -104,7 +105,8 @@ class Run:
                 a_catalog(*map(catalog_table, case.world.tables.values())), 0
             )
             self.remembered.save()
-        self.snapshots = Snapshots(case.store, None, 0.0)
+        self.requests = Requests(case.store)
+        self.snapshots = Snapshots(case.store, self.requests, None, 0.0)
         self.follower = Follower(
             chosen,
             self.checkpoint,
@@ -135,6 +137,7 @@ class Run:
             self.raised = error
         finally:
             self.filter.kill()
+            self.requests.close()
             os.close(self.checkpoint.file)
 
     def ask(self, **asked: object) -> str | None:

@@ -5,7 +5,6 @@ from __future__ import annotations
 
 import argparse
 import os
-import select
 import sqlite3
 import time
 from typing import TYPE_CHECKING
@@ -13,7 +12,7 @@ from typing import TYPE_CHECKING
 from pgsub_feed import log
 from pgsub_feed.faults import Damaged
 from pgsub_feed.reader.commits import Commit
-from pgsub_feed.reader.polling import Poll
+from pgsub_feed.reader.polling import Parent, Poll
 from pgsub_feed.reader.positions import Noted
 from pgsub_feed.reader.segments import Reader, read_confirmed
 from pgsub_feed.tables.applier import Applier
@@ -109,10 +108,12 @@ def add_options(parser: argparse.ArgumentParser) -> None:
 class Tables:
     """Follows a feed into a file that is open."""
 
-    def __init__(self, options: Options, rows: Rows, check: Check) -> None:
-        self.options, self.rows, self.check = options, rows, check
+    def __init__(
+        self, options: Options, rows: Rows, check: Check, parent: Parent | None = None
+    ) -> None:
+        self.options, self.rows, self.check, self.parent = options, rows, check, parent
         self.reader = Reader(options.feed, rows.at)
-        self.poll = Poll(self.reader, not options.once, check)
+        self.poll = Poll(self.reader, not options.once, check, parent)
         self.applier = Applier(rows, check)
         self.noted = (
             Noted(options.feed, options.reader, options.into, options.mode)
@@ -192,6 +193,8 @@ class Tables:
 
     def settle(self) -> None:
         self.rows.settle(self.end)
+        if self.parent:
+            self.parent.tell(self.rows.at)
         if self.noted:
             self.noted.note(self.rows.at)
 
@@ -201,7 +204,7 @@ class Tables:
             self.noted.note(self.rows.at, is_last=True)
 
 
-def keep(options: Options, check: Check) -> tuple[int, list[str]]:
+def keep(options: Options, check: Check, parent: Parent | None = None) -> tuple[int, list[str]]:
     """Keeps the tables of a file. Returns its LSN at the end, and the tables that are set aside."""
     init = Init(options.init) if options.init else None
     if not os.path.exists(options.into):
@@ -221,7 +224,7 @@ def keep(options: Options, check: Check) -> tuple[int, list[str]]:
             rows.is_init_due = True
             rows.initialize()
             rows.settle(rows.at)
-        tables = Tables(options, rows, check)
+        tables = Tables(options, rows, check, parent)
         is_stopped = False
         rows.asides.tell(os.path.abspath(options.feed))
         if not options.once:
@@ -240,17 +243,6 @@ def keep(options: Options, check: Check) -> tuple[int, list[str]]:
     return rows.at, left
 
 
-def ending_with_input(check: Check) -> Check:
-    """Ends as by a signal, too, once standard input has ended."""
-
-    def look() -> None:
-        check()
-        if select.select([0], [], [], 0)[0] and not os.read(0, 1 << 12):
-            raise Stopped
-
-    return look
-
-
 def check_chosen(options: Options, rows: Rows) -> None:
     if set(options.table) != rows.chosen:
         was = ", ".join(sorted(rows.chosen)) or "all"
@@ -261,8 +253,8 @@ def check_chosen(options: Options, rows: Rows) -> None:
 
 def run(options: Options, check: Check) -> int:
     """Follows a feed; the exit status."""
-    if options.while_input:
-        check = ending_with_input(check)
+    parent = Parent(check) if options.while_input else None
+    check = parent.check if parent else check
     if sqlite3.sqlite_version_info < OLDEST:
         wanted = ".".join(map(str, OLDEST[:2]))
         raise FileError(
@@ -270,7 +262,7 @@ def run(options: Options, check: Check) -> int:
         )
     check_file(options.into)
     try:
-        at, left = keep(options, check)
+        at, left = keep(options, check, parent)
     except sqlite3.Error as error:
         is_passing = any(it in str(error) for it in PASSING)
         raise (Passing if is_passing else FileError)(f"{options.into}: {error}") from None

@@ -52,7 +52,6 @@ from ..server.session import (
 )
 from ..status.progress import Progress
 from ..store.checkpoint import Checkpoint
-from ..store.snapshot import SOON, Snapshots
 from . import too_large
 from .awake import NEEDED, Awake, processors
 from .feed import Feeding
@@ -62,9 +61,11 @@ from .gate import LOOK as GATE
 from .gate import WAITED, Gating
 from .repair import Repairing
 from .skip import Skipping
+from .snapshots import Snapshots
 from .stall import Standing
 from .statuses import Confirming
 from .stream_log import Noting
+from .waits import Waits
 
 if TYPE_CHECKING:
     from ..commands.options import Options
@@ -152,6 +153,9 @@ class Follower:
             confirming.reached,
         )
         snapshots.delays_commits = progress.note_standbys
+        # the filter's status of which those who read beside the follower were told
+        self.told = b""
+        self.waits = Waits(snapshots.requests, confirming.stored, feeding)
         self.gating = Gating(options, progress, snapshots.hold, self.serve_server, self.let_go)
         self.kills, self.repeats = too_large.Kills(), Repeats(options)
         self.standing = Standing(child, progress)
@@ -275,7 +279,9 @@ class Follower:
         """
         if self.stop_asked:
             return False
-        if not self.snapshots.is_due(self.confirming.position):
+        is_due = self.snapshots.is_due(self.confirming.position)
+        self.tell_readers()
+        if not is_due:
             return self.snapshots.hold.stops()
         if self.filter.is_running() and not self.confirming.is_stored():
             return True
@@ -287,6 +293,15 @@ class Follower:
             self.snapshots.take(self.confirming.position, self.serve_copy)
         self.progress.state = state
         return self.snapshots.hold.stops()
+
+    def tell_readers(self) -> None:
+        """Tells those who read beside the follower what the store has now."""
+        if self.filter.status is not self.told:
+            self.told = self.filter.status
+            self.confirming.forget_confirmed(self.filter.confirmed())
+            if self.feeding:
+                self.feeding.tell(self.confirming.stored())
+        self.waits.tend()
 
     def tick(self) -> None:
         """Keeps server and status file content while something takes long."""
@@ -341,17 +356,18 @@ class Follower:
         self.delay = min(2 * self.delay, LONGEST_DELAY) if self.delay else FIRST_DELAY
         if not self.stop_asked:
             self.progress.state = "waiting to connect again"
-        until = time.monotonic() + self.delay
+        until, requests = time.monotonic() + self.delay, self.snapshots.requests
         while not self.stop_asked and (
             (left := until - time.monotonic()) > 0 or self.standing.lasts()
         ):
             self.progress.beat()
             self.holds_for_snapshot()
             if not self.filter.is_running():
-                time.sleep(max(0.0, min(left, SLEEP)))
+                requests.rest(max(0.0, min(left, SLEEP)))
                 continue
             try:
-                self.confirming.note_statuses(self.serve(min(left, STEP) if left > 0 else STEP)[2])
+                step = min(left, STEP) if left > 0 else STEP
+                self.confirming.note_statuses(self.serve(step, [requests.fileno()])[2])
             except FilterEnded as ended:
                 self.note_end(ended)
             self.tend_misses()
@@ -488,6 +504,7 @@ class Follower:
         began, silent = time.monotonic(), 0.0
         more: bool | None = True
         socket, is_wrapped = connection.socket(), connection.is_wrapped()
+        requests = self.snapshots.requests.fileno()
         while not self.is_over():
             if self.ends_for_another(connection):
                 return
@@ -497,7 +514,7 @@ class Follower:
             )
             readable, writable, statuses = self.serve(
                 self.longest_wait(bool(more) and room),
-                [socket] if room else [],
+                [requests, socket] if room else [requests],
                 [socket] if connection.unsent else [],
                 self.awake(),
             )
@@ -566,7 +583,7 @@ class Follower:
         if hold.keeps:
             self.repairing.give_up(why, False, delays=True)
         elif hold.into:
-            self.snapshots.answer(hold.into, why)
+            self.snapshots.reject(why)
             hold.end()
         else:
             self.adder.let_go(why)
@@ -592,8 +609,6 @@ class Follower:
         wait = 0.0 if has_more else self.heartbeat - (time.monotonic() - confirming.last_sent)
         if confirming.held:
             wait = min(wait, confirming.quiet() - (time.monotonic() - confirming.last_moved))
-        if self.snapshots.hold.into:
-            wait = min(wait, SOON)
         if self.snapshots.hold.is_gated():
             wait = min(wait, GATE)
         return max(0.0, min(wait, STEP))

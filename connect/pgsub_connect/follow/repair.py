@@ -49,7 +49,7 @@ if TYPE_CHECKING:
     from ..drift.remembered import Remembered
     from ..drift.watch import Watch
     from ..store.checkpoint import Checkpoint
-    from ..store.snapshot import Snapshots
+    from .snapshots import Snapshots
     from .statuses import Confirming
     from .stream_log import Noting
 
@@ -236,7 +236,7 @@ class Repairing:
         log.info(
             f"rows of {counted(len(tables), 'table')} were repaired as of {lsn_text(hold.point)}"
         )
-        self.snapshots.answer(hold.into, None)
+        self.snapshots.end(repaired=lsn_text(hold.point))
         hold.end()
         self.ends_session = True
         self.watch.show()
@@ -246,5 +246,5 @@ class Repairing:
         to wait for it."""
         log.warning(f"no row is repaired: {why}")
         assert self.hold.into
-        self.snapshots.reject(self.hold.into, why, lasts, delays)
+        self.snapshots.reject(why, lasts, delays)
         self.hold.end()

@@ -12,12 +12,16 @@ from pgsub_feed.ownership import real
 from ..errors import FileError, UsageError
 from .at_rest import own_name, remove_files
 from .snapshot import COPYING, NEW, OF_FILE, meant, remove, sync_folder
+from .socket_file import SUFFIX
 
 # What follows a store's name in those of an initial copy's files.
 OF_COPY = (*(COPYING + it for it in OF_FILE), COPYING + NEW)
 # What follows it in those of all its own files, the checkpoint last: as long as it is there, a
-# start tells what is missing.
-OF_STORE = (*OF_COPY, NEW, *OF_FILE[1:], "", ".request", ".tables.new", ".tables", ".connector")
+# start tells what is missing. (`.request` is one of earlier versions of this program.)
+OF_STORE = (
+    *(*OF_COPY, NEW, *OF_FILE[1:], "", SUFFIX, ".request"),
+    *(".tables.new", ".tables", ".connector"),
+)
 Identity = str | tuple[int, int]
 
 
