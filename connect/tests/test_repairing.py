@@ -24,6 +24,7 @@ from pgsub_connect.follow.repair import Repairing, Unusable, messages_in
 from pgsub_connect.follow.snapshots import Snapshots
 from pgsub_connect.server.connection import never
 from pgsub_connect.server.publications import Table
+from pgsub_connect.store import snapshot
 from pgsub_connect.verify.digests import Plan, text_of
 from pgsub_connect.verify.meeting_point import Request
 from pgsub_connect.verify.repair_rows import Changes, changes_of
@@ -247,7 +248,7 @@ class Repaired(Repairs):
 
     def test_a_copy_that_takes_long(self) -> None:
         """Nothing is passed on meanwhile."""
-        run, real = self.running(), snapshots.fold
+        run, real = self.running(), snapshot.fold
 
         def fold(path: str) -> None:
             time.sleep(0.2)

@@ -13,6 +13,7 @@ import subprocess
 import sys
 import time
 import unittest
+from collections.abc import Callable
 from unittest import mock
 
 from pgsub_connect.errors import FileError, Passing
@@ -80,11 +81,12 @@ class Files(Case):
     def test_a_file_that_was_left(self) -> None:
         """It is replaced, and what a link leads to stays."""
         other = self.folder + "/other"
-        for leave in (
+        leaves: tuple[Callable[[str], object], ...] = (
             lambda path: listening(self.store, 0o600).close(),
             lambda path: open(path, "w").close(),
             lambda path: os.symlink(other, path),
-        ):
+        )
+        for leave in leaves:
             open(other, "w").close()
             leave(self.store + ".sock")
             requests = Requests(self.store)

@@ -139,7 +139,7 @@ class Snapshots:
     def obstacle_to_hold(self, asked: dict[str, Any]) -> str:
         """Why the stream can't be held for whoever will tell an LSN within some seconds, "" where
         it can."""
-        seconds = asked.get("seconds")
+        seconds: Any = asked.get("seconds")
         if type(seconds) not in (int, float) or not 0 < seconds <= LONGEST:
             return f"it may be held for {LONGEST:.0f} seconds at most"
         if not self.delays_commits(str(asked.get("standbys", ""))):
