@@ -378,7 +378,13 @@ class Waited(FeedCase):
 
     def test_a_follower_of_other_tables(self) -> None:
         """File and feed are looked at."""
-        for answer in ({"error": "no such tables"}, {"error": 5}, {}, None):
+        answers: tuple[dict[str, object] | None, ...] = (
+            {"error": "no such tables"},
+            {"error": 5},
+            {},
+            None,
+        )
+        for answer in answers:
             with self.followed(answer) as asked:
                 self.assertEqual(self.wait("0/200", "--within", "0.1"), 7)
                 self.assertGreater(len(asked), 1)

@@ -138,29 +138,14 @@ class Beside(threading.Thread):
         with self.lock:
             if self.ended.is_set():
                 return 0
-            environment = {
-                name: value
-                for name, value in os.environ.items()
-                if name in KEPT or name.startswith("PYTHON")
-            }
-            # (a session of its own: an interrupt at the terminal is for the follower, which ends
-            # it)
             try:
-                child = subprocess.Popen(
-                    self.words,
-                    stdin=subprocess.PIPE,
-                    stdout=subprocess.PIPE,
-                    stderr=subprocess.PIPE,
-                    start_new_session=True,
-                    env=environment,
-                )
+                child = self.launched()
             except OSError as error:
                 # (processes or memory may be too few)
                 log.warning(f"{self.path}: what follows can't be started now: {error.strerror}")
                 return PASSING
-            assert child.stdin and child.stdout and child.stderr
-            os.set_blocking(child.stdin.fileno(), False)
             self.child, self.asked = child, set()
+        assert child.stdin and child.stdout and child.stderr
         # (what is waited for is asked of this one too)
         self.wake()
         telling = threading.Thread(target=self.hear_positions, args=(child.stdout,), daemon=True)
@@ -174,6 +159,22 @@ class Beside(threading.Thread):
         child.stdout.close()
         child.stderr.close()
         return status
+
+    def launched(self) -> subprocess.Popen[bytes]:
+        """A process of it, whose input doesn't block. (A session of its own: an interrupt at the
+        terminal is for the follower, which ends it.)"""
+        kept = {
+            name: value
+            for name, value in os.environ.items()
+            if name in KEPT or name.startswith("PYTHON")
+        }
+        pipe = subprocess.PIPE
+        child = subprocess.Popen(
+            self.words, stdin=pipe, stdout=pipe, stderr=pipe, start_new_session=True, env=kept
+        )
+        assert child.stdin
+        os.set_blocking(child.stdin.fileno(), False)
+        return child
 
     def hear_positions(self, said: IO[bytes]) -> None:
         """Notes what the tables tell of their LSN."""
