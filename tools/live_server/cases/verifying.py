@@ -254,7 +254,7 @@ def no_slot(place: Place) -> None:
 
 def is_held(place: Place) -> bool:
     """Whether the stream is held: then the slot is made."""
-    return place.value("SELECT count(*) FROM pg_replication_slots WHERE slot_name = 'pgsub_verify'") == "1"
+    return place.value("SELECT count(*) FROM pg_replication_slots WHERE starts_with(slot_name, 'pgsub_verify')") == "1"
 
 
 def killed(place: Place) -> None:
