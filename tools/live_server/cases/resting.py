@@ -2,14 +2,15 @@
 
 from __future__ import annotations
 
+import contextlib
 import json
 import socket
+import sqlite3
 import time
 from pathlib import Path
 
 from ..child import Child
 from ..errors import Failed
-from ..feeds import reading
 from ..follower import filters_of, tables_of
 from ..patience import Patience
 from ..place import Place
@@ -47,7 +48,7 @@ def check_rest(child: Child) -> None:
 def seen_after(place: Place, session: Session, wanted: int) -> float:
     """After how many seconds a lone commit is seen."""
     query = "SELECT quantity FROM stock WHERE sku = 1"
-    with reading(rows_file(place)) as base:
+    with contextlib.closing(sqlite3.connect(rows_file(place), isolation_level=None)) as base:
         session.run(f"UPDATE stock SET quantity = {wanted} WHERE sku = 1")
         began = time.monotonic()
         while base.execute(query).fetchone() != (wanted,):
