@@ -82,6 +82,15 @@ class Case(StoreCase):
                 self.ended.set()
                 thread.join()
 
+    @contextlib.contextmanager
+    def asker(self) -> Iterator[Asker]:
+        """Another program, that is connected."""
+        until = time.monotonic() + 20
+        while not os.path.exists(self.path + ".sock") and time.monotonic() < until:
+            time.sleep(0.005)
+        with contextlib.closing(Asker(self.path)) as asker:
+            yield asker
+
     def rows(self) -> list[tuple[object, ...]]:
         with contextlib.closing(sqlite3.connect(self.into)) as base:
             return base.execute("SELECT * FROM t").fetchall()
@@ -224,15 +233,6 @@ class Asked(Case):
             self.assertEqual(export.run(self.options(), never), 0)
             self.assertEqual(asker.heard(), [{"copied": "0/130"}])
         self.assertEqual(self.left(), {"rows.db", "other.db"})
-
-    @contextlib.contextmanager
-    def asker(self) -> Iterator[Asker]:
-        """Another program, that is connected."""
-        until = time.monotonic() + 20
-        while not os.path.exists(self.path + ".sock") and time.monotonic() < until:
-            time.sleep(0.005)
-        with contextlib.closing(Asker(self.path)) as asker:
-            yield asker
 
     def test_a_follower_that_cant(self) -> None:
         with self.followed(0x200), logged(), self.assertRaisesRegex(
@@ -416,7 +416,8 @@ class Taken(Case):
             )
 
     def test_on_another_disk(self) -> None:
-        with self.followed(), logged(), mock.patch(
+        # (the follower has its socket before)
+        with self.followed(), logged(), self.asker(), mock.patch(
             "os.rename", side_effect=OSError(18, "Invalid cross-device link")
         ):
             self.assertEqual(snapshot.run(self.options(), never), 0)
