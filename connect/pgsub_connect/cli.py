@@ -27,7 +27,9 @@ from .drift.remembered import Remembered, print_names
 from .errors import MISSED
 from .follow.feed import Feeding
 from .follow.follower import Follower
+from .follow.request_socket import RequestSocket
 from .follow.server_watch import Asker
+from .follow.snapshots import Snapshots
 from .server import transport
 from .server.followed_publications import require_published
 from .status.files import Reporter
@@ -37,16 +39,13 @@ from .store import export
 from .store.checkpoint import Checkpoint
 from .store.checkpoint_lines import FOLLOWING
 from .store.placing import check_meant
-from .store.snapshot import Snapshots, part_of
+from .store.snapshot import part_of
 from .stream.filter import Filter
 from .verify import tables_file as tables_verifying
 
 
 def snapshot_by_signal(snapshots: Snapshots) -> None:
-    def ask(*_: object) -> None:
-        snapshots.asked = True
-
-    signal.signal(signal.SIGUSR1, ask)
+    signal.signal(signal.SIGUSR1, lambda *_: snapshots.ask())
 
 
 def make_filter(options: Options, checkpoint: Checkpoint, path: str) -> Filter:
@@ -89,7 +88,10 @@ def follow(options: Options) -> int:
         remembered,
     )
     child = make_filter(options, checkpoint, options.store)
-    snapshots = Snapshots(options.store, options.snapshot, options.snapshot_every, options.mode)
+    requests = RequestSocket(options.store, options.mode)
+    snapshots = Snapshots(
+        options.store, requests, options.snapshot, options.snapshot_every, options.mode
+    )
     follower = Follower(
         options, checkpoint, child, progress, recording, snapshots, remembered, feeding
     )
@@ -110,7 +112,7 @@ def follow(options: Options) -> int:
             follower.note_connected(copier.was_connected)
         elif options.table or options.all_tables:
             require_published(options, follower.check_stop)
-        feeding.begin(child, follower.confirming.stored, follower.check_stop)
+        feeding.begin(child, follower.confirming.stored, follower.check_stop, requests.wake)
         follower.run()
         progress.enter("stopped")
     except Stopped:
@@ -127,6 +129,7 @@ def follow(options: Options) -> int:
         asker.finish()
         if reporter:
             reporter.finish()
+        requests.close()
     return MISSED if follower.misses.count else 0
 
 

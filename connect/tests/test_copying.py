@@ -29,7 +29,7 @@ from pgsub_connect.status.progress import Progress
 from pgsub_connect.store import checkpoint_lines
 from pgsub_connect.store.checkpoint import Checkpoint
 from pgsub_connect.store.checkpoint_lines import COPIED, SLOT
-from pgsub_connect.store.snapshot import COPYING, part_of
+from pgsub_connect.store.snapshot import part_of
 from pgsub_connect.stream.filter import Filter
 from pgsub_connect.stream.filter_end import FilterEnded
 from pgsub_feed.errors import Passing, Stopped, Unfit, UsageError

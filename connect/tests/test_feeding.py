@@ -43,7 +43,7 @@ from .vectors import keepalive
 # What a child's code has before it begins.
 QUICK = (
     "from pgsub_feed.reader import polling, positions; "
-    "positions.OFTEN = 0.05; polling.PATIENCE = 0.2; "
+    "positions.OFTEN = 0.05; polling.PATIENCE = 0.2; polling.LEAST = polling.MOST = 0.05; "
 )
 
 
@@ -71,7 +71,8 @@ class Followed(Case):
         )
         it.check()
         self.addCleanup(it.finish)
-        it.begin(follower.life.filter, follower.confirming.stored, follower.check_stop)
+        wake = follower.snapshots.requests.wake
+        it.begin(follower.life.filter, follower.confirming.stored, follower.check_stop, wake)
         return follower
 
     def follower(self, **options: object) -> Follower:

@@ -5,14 +5,13 @@ from __future__ import annotations
 
 import argparse
 import os
-import select
 import sqlite3
 from typing import TYPE_CHECKING
 
 from pgsub_feed import log
 from pgsub_feed.arguments import plain_name
-from pgsub_feed.errors import Stopped
 from pgsub_feed.interruption import Check
+from pgsub_feed.reader.polling import Parent
 from pgsub_feed.reader.reading import Reading
 from pgsub_feed.tables.first_rows import check_file
 from pgsub_feed.tables.following import Wanted, keep
@@ -90,17 +89,6 @@ def add_options(parser: argparse.ArgumentParser) -> None:
     )
 
 
-def ending_with_input(check: Check) -> Check:
-    """Ends as by a signal, too, once standard input has ended."""
-
-    def look() -> None:
-        check()
-        if select.select([0], [], [], 0)[0] and not os.read(0, 1 << 12):
-            raise Stopped
-
-    return look
-
-
 def wanted_of(options: Options) -> Wanted:
     store = options.store or store_at(os.path.abspath(options.feed))
     reading = Reading(
@@ -119,12 +107,12 @@ def wanted_of(options: Options) -> Wanted:
 
 def run(options: Options, check: Check) -> int:
     """Follows a feed; the exit status."""
-    if options.while_input:
-        check = ending_with_input(check)
+    parent = Parent(check) if options.while_input else None
+    check = parent.check if parent else check
     check_sqlite()
     check_file(options.into)
     try:
-        at, left = keep(wanted_of(options), check)
+        at, left = keep(wanted_of(options), check, parent)
     except sqlite3.Error as error:
         raise failed(error, options.into) from None
     log.info(f"{options.into}: the rows at {lsn_text(at)}")

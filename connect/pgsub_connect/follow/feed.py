@@ -50,7 +50,6 @@ if TYPE_CHECKING:
     from ..commands.options import Options
     from ..status.progress import Progress
 
-
 # How often what is confirmed is written where a keepalive alone has moved it, and else; how often
 # the readers are looked at, and how often old segments are looked for, in seconds.
 QUIET, BUSY, LOOK, RETIRE = 0.25, 1.0, 1.0, 10.0
@@ -83,6 +82,8 @@ class Feeding:
         self.beside: Beside | None = None
         # what the tables are to have before the follower ends by itself
         self.wanted: int | None = None
+        # the end of the last commit of which the tables were told
+        self.told: int | None = None
 
     def check(self) -> None:
         """Rejects a folder that can't have the store's feed, before anything is made; and makes the
@@ -131,8 +132,11 @@ class Feeding:
         except OSError as error:
             raise FileError(f"--feed {self.options.feed}: {error.strerror}") from None
 
-    def begin(self, child: Filter, reached: Callable[[], Reached], check: Check) -> None:
-        """Notes the folder with the copy, and tells the filter of it."""
+    def begin(
+        self, child: Filter, reached: Callable[[], Reached], check: Check, wake: Callable[[], None]
+    ) -> None:
+        """Notes the folder with the copy, and tells the filter of it. `wake` has the main loop look
+        what the tables have said."""
         if not self.folder:
             if self.remembered.feed:
                 log.warning(
@@ -149,7 +153,7 @@ class Feeding:
         child.add_words(self.words(check))
         self.keeper = Keeper(self.options, self.folder, self.progress, reached)
         if self.options.tables:
-            self.beside = Beside(self.options, self.progress)
+            self.beside = Beside(self.options, self.progress, wake)
 
     def check_position(self, child: Filter, check: Check) -> None:
         """Rejects an older store, before a filter cuts off what the feed has above the store's
@@ -219,6 +223,14 @@ class Feeding:
         for it in (self.keeper, self.beside):
             if it and it.ident is None:
                 it.start()
+
+    def tell(self, reached: Reached) -> None:
+        """Tells those that read the feed what the store has now, and so the feed."""
+        if self.keeper:
+            self.keeper.changed.set()
+        if self.beside and reached.position != self.told:
+            self.told = reached.position
+            self.beside.tell()
 
     def is_read(self, position: int) -> bool:
         """Whether the tables have what the store had when this was asked first. One that is to end
@@ -305,6 +317,8 @@ class Keeper(threading.Thread):
         )
         self.limits = Limits(options.feed_max_bytes or None, options.feed_max_age)
         self.ended = threading.Event()
+        # set where the store has more
+        self.changed = threading.Event()
         # why what can't be done now can't be
         self.causes = dict[str, str]()
         # what was written last, and when; when the readers were looked at, and segments looked for
@@ -312,12 +326,22 @@ class Keeper(threading.Thread):
         self.looked = self.retired = 0.0
 
     def run(self) -> None:
-        while not self.ended.wait(QUIET):
+        while not self.ended.is_set():
+            is_told = self.changed.wait(QUIET if self.lags() else LOOK)
+            self.changed.clear()
+            if is_told:
+                # (much may come within a moment)
+                self.ended.wait(QUIET)
             self.tend(time.monotonic())
+
+    def lags(self) -> bool:
+        """Whether what is confirmed isn't written yet."""
+        return self.reached().confirmed != self.confirmed
 
     def finish(self) -> None:
         """Ends the thread, and notes what is there at the end."""
         self.ended.set()
+        self.changed.set()
         self.join()
         self.written = self.looked = -BUSY
         self.tend(time.monotonic())

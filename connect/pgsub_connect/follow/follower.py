@@ -17,7 +17,6 @@ from ..server.lost_slot import Repeats
 from ..server.publications import with_cure
 from ..status.progress import Progress
 from ..store.checkpoint import Checkpoint
-from ..store.snapshot import Snapshots
 from ..stream.filter import Filter
 from ..stream.filter_end import FilterEnded
 from ..stream.skip import Skipping
@@ -32,6 +31,7 @@ from .requests import Requests
 from .schedule import Delay, Schedule
 from .session import Session
 from .session_start import Recording, SessionStart
+from .snapshots import Snapshots
 from .stall import Standing
 from .stream_form import StreamForm
 from .upkeep import Upkeep
@@ -158,7 +158,7 @@ class Follower:
         """Waits before the next session, each time longer, and serves the filter meanwhile."""
         if self.delay.take_renewed():
             return
-        until = time.monotonic() + self.delay.next()
+        until, socket = time.monotonic() + self.delay.next(), self.requests.socket
         if not self.ending.is_asked:
             self.progress.enter("waiting to connect again")
         while not self.ending.is_asked and (
@@ -167,7 +167,7 @@ class Follower:
             self.progress.beat()
             self.requests.holds_for_copy()
             if self.life.filter.is_running():
-                self.life.serve_alone(min(left, STEP) if left > 0 else STEP)
+                self.life.serve_alone(min(left, STEP) if left > 0 else STEP, [socket.fileno()])
                 self.life.tend_misses()
             else:
-                time.sleep(max(0.0, min(left, SLEEP)))
+                socket.rest(max(0.0, min(left, SLEEP)))
