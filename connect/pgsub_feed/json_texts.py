@@ -109,13 +109,9 @@ def lsn_of(value: Any) -> int:
         raise Unreadable(str(error)) from None
 
 
-def open_plain(path: str, follows: bool = True) -> int:
-    """Opens a file for reading, where it is one: nothing is waited for, as a pipe would be.
-
-    `follows`: it may be named by a link.
-    """
-    flags = os.O_RDONLY | os.O_NONBLOCK | os.O_NOCTTY | os.O_CLOEXEC
-    file = os.open(path, flags if follows else flags | os.O_NOFOLLOW)
+def open_plain(path: str) -> int:
+    """Opens a file for reading, where it is one: nothing is waited for, as a pipe would be."""
+    file = os.open(path, os.O_RDONLY | os.O_NONBLOCK | os.O_NOCTTY | os.O_CLOEXEC)
     if stat.S_ISREG(os.fstat(file).st_mode):
         return file
     os.close(file)
@@ -133,9 +129,9 @@ def read_whole(file: int, longest: int = LONGEST) -> bytes:
     return b"".join(parts)
 
 
-def read_plain(path: str, longest: int = LONGEST, follows: bool = True) -> bytes:
+def read_plain(path: str, longest: int = LONGEST) -> bytes:
     """All of a file."""
-    file = open_plain(path, follows)
+    file = open_plain(path)
     try:
         return read_whole(file, longest)
     finally:

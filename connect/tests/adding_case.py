@@ -18,11 +18,12 @@ from pgsub_connect.add import adder, requests
 from pgsub_connect.drift.remembered import Remembered
 from pgsub_connect.follow import drift_watch, filter_life, follower, schedule, session, upkeep
 from pgsub_connect.follow.follower import Follower
+from pgsub_connect.follow.request_socket import RequestSocket
+from pgsub_connect.follow.snapshots import Snapshots
 from pgsub_connect.server import ticks
 from pgsub_connect.status.progress import Progress
 from pgsub_connect.store.checkpoint import Checkpoint
 from pgsub_connect.store.checkpoint_at_rest import read_known
-from pgsub_connect.store.snapshot import Snapshots
 from pgsub_connect.stream import statuses
 from pgsub_connect.stream.filter import Filter
 from pgsub_feed.texts import lsn_text
@@ -96,7 +97,8 @@ class Run:
                 a_catalog(*map(catalog_table, case.world.tables.values())), 0
             )
             self.remembered.save()
-        self.snapshots = Snapshots(case.store, None, 0.0)
+        self.requests = RequestSocket(case.store)
+        self.snapshots = Snapshots(case.store, self.requests, None, 0.0)
         self.follower = Follower(
             *followed(case.store, case.server.dsn(), heartbeat=0.2, **sizes),
             self.checkpoint,
@@ -127,6 +129,7 @@ class Run:
             self.raised = error
         finally:
             self.filter.kill()
+            self.requests.close()
             os.close(self.checkpoint.file)
 
     def ask(self, **asked: object) -> str | None:

@@ -19,8 +19,9 @@ from feed_text import Column, lsn_text
 from pgsub_connect.drift.remembered import Remembered
 from pgsub_connect.drift.tolerance import Tolerance
 from pgsub_connect.follow import feed as feed_module
-from pgsub_connect.follow import tables_process
-from pgsub_connect.follow.feed import Feeding, FeedSettings, Keeper
+from pgsub_connect.follow import feed_keeper, tables_process
+from pgsub_connect.follow.feed import Feeding, FeedSettings
+from pgsub_connect.follow.feed_keeper import Keeper
 from pgsub_connect.follow.follower import Follower
 from pgsub_connect.follow.tables_process import Beside, TablesSettings, words_of
 from pgsub_connect.server.subscription import Subscription
@@ -45,7 +46,7 @@ from .vectors import keepalive
 # What a child's code has before it begins.
 QUICK = (
     "from pgsub_feed.reader import polling, positions; "
-    "positions.OFTEN = 0.05; polling.PATIENCE = 0.2; "
+    "positions.OFTEN = 0.05; polling.PATIENCE = 0.2; polling.LEAST = polling.MOST = 0.05; "
 )
 
 
@@ -62,8 +63,8 @@ class Followed(Case):
     def setUp(self) -> None:
         super().setUp()
         self.feed = self.store + ".feed"
-        self.patch(feed_module, "QUIET", 0.02)
-        self.patch(feed_module, "BUSY", 0.02)
+        self.patch(feed_keeper, "QUIET", 0.02)
+        self.patch(feed_keeper, "BUSY", 0.02)
 
     def fed(
         self, feed: str | None = None, settings: dict[str, Any] | None = None, **options: Any
@@ -73,7 +74,8 @@ class Followed(Case):
         follower.life.feeding = it = self.feeding_of(follower, feed, **(settings or {}))
         it.check()
         self.addCleanup(it.finish)
-        it.begin(follower.life.filter, follower.confirming.stored, follower.check_stop)
+        wake = follower.snapshots.requests.wake
+        it.begin(follower.life.filter, follower.confirming.stored, follower.check_stop, wake)
         return follower
 
     def feeding_of(self, follower: Follower, feed: str | None = None, **settings: Any) -> Feeding:
@@ -125,7 +127,7 @@ class Followed(Case):
         self.assertEqual(oct(stat.S_IMODE(os.stat(self.feed).st_mode)), "0o700")
 
     def test_what_the_end_confirms_is_told(self) -> None:
-        self.patch(feed_module, "QUIET", 30.0)
+        self.patch(feed_keeper, "QUIET", 30.0)
         self.server.to_send = [begin(0x100, 7), inserted(1), commit(0x100, 0x108)]
         follower = self.fed()
         self.run_until(follower, lambda: self.confirmed() == 0x108)
@@ -425,7 +427,13 @@ class Kept(FeedCase):
 
     def keeper(self, confirmed: int = 0x600, **settings: Any) -> Keeper:
         chosen = FeedSettings("copy.db", str(self.path), **settings)
-        return Keeper(chosen, str(self.path), self.progress, lambda: Reached(confirmed, 0x600))
+        return Keeper(
+            str(self.path),
+            chosen.limits(),
+            chosen.mode,
+            self.progress,
+            lambda: Reached(confirmed, 0x600),
+        )
 
     def read(self, name: str, lsn: int) -> None:
         Noted(str(self.path), name, str(self.folder / "rows.db"), 0o600).note(lsn, is_last=True)
@@ -459,7 +467,7 @@ class Kept(FeedCase):
 
     def test_confirmed_is_written_so_often(self) -> None:
         keeper = self.keeper(confirmed=0x600)
-        with mock.patch.object(feed_module, "replace_file", wraps=replace_file) as written:
+        with mock.patch.object(feed_keeper, "replace_file", wraps=replace_file) as written:
             keeper.tend(100.0)
             keeper.tend(100.3)
             self.assertEqual(written.call_count, 1)

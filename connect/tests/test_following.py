@@ -4,8 +4,6 @@ from __future__ import annotations
 
 import contextlib
 import errno
-import fcntl
-import json
 import os
 import threading
 import time
@@ -23,16 +21,14 @@ from pgsub_connect.follow import schedule
 from pgsub_connect.follow import session as session_module
 from pgsub_connect.follow import upkeep
 from pgsub_connect.follow.follower import Follower
+from pgsub_connect.follow.snapshots import Snapshots
 from pgsub_connect.server import addresses
 from pgsub_connect.server import connection as connection_module
 from pgsub_connect.server import session, ticks, transport
 from pgsub_connect.server.session import Server
 from pgsub_connect.server.transport import Protection
 from pgsub_connect.status.progress import Progress
-from pgsub_connect.store import snapshot
-from pgsub_connect.store.at_rest import read_request
 from pgsub_connect.store.checkpoint import Checkpoint
-from pgsub_connect.store.snapshot import Snapshots
 from pgsub_connect.stream import statuses
 from pgsub_connect.stream.awake import Awake
 from pgsub_connect.stream.filter import Filter
@@ -41,6 +37,7 @@ from pgsub_connect.stream.frames import flushed
 from pgsub_feed.errors import Passing, Unfit
 from pgsub_feed.texts import lsn_text, parse_lsn
 
+from .asking import asking, snapshots_of
 from .fake_server import FakeServer, Quiet, Row
 from .followed import followed
 from .small_server import READY, SmallServer, error
@@ -111,7 +108,7 @@ class Case(Quiet):
             child,
             self.progress,
             None,
-            Snapshots(self.store, None, 0.0),
+            snapshots_of(self, self.store),
             remembered,
         )
 
@@ -460,11 +457,7 @@ class Meets(Case):
 
     def setUp(self) -> None:
         super().setUp()
-        for name in ("LOOK", "SOON"):
-            self.patch(snapshot, name, 0.01)
-        self.patch(schedule, "SOON", 0.01)
         self.patch(schedule, "ASK", 0.05)
-        self.request = self.store + ".request"
         self.taken: list[int] = []
         self.patch(Snapshots, "take", self.take)
 
@@ -473,20 +466,8 @@ class Meets(Case):
         with open(self.store, encoding="ascii") as file:
             self.taken.append(int(file.read()))
         self.assertEqual(self.taken[-1], position)
-        os.unlink(self.request)
         self.running.snapshots.hold.end()
-
-    def say(self, **fields: object) -> None:
-        with open(self.request, "w", encoding="utf-8") as file:
-            json.dump({"into": self.folder + "/into", "hold": 10.0, **fields}, file)
-
-    @contextlib.contextmanager
-    def asked(self) -> Iterator[None]:
-        """As while somebody asks who is alive."""
-        with open(self.request, "w", encoding="utf-8") as file:
-            fcntl.flock(file, fcntl.LOCK_EX)
-            self.say()
-            yield
+        self.running.snapshots.end(copied=lsn_text(position))
 
     def meet(self, then: Sequence[bytes], point: int, expected: int) -> None:
         """Passes a commit on, and has the copy taken at a point that comes with these payloads. The
@@ -503,8 +484,9 @@ class Meets(Case):
     ) -> Iterator[bool]:
         while self.confirmed() != 0x108:
             yield False
-        closing.enter_context(self.asked())
-        while "held" not in read_request(self.request):
+        asked = {"ask": "hold", "into": self.folder + "/into", "seconds": 10.0}
+        asker = closing.enter_context(asking(self.store, **asked))
+        while asker.heard() != [{"held": "0/108"}]:
             yield False
         self.server.to_send += then
         self.running.session.schedule.heartbeat, before = 0.02, len(self.server.statuses)
@@ -512,7 +494,7 @@ class Meets(Case):
             # (statuses go on meanwhile)
             yield False
         self.assertEqual((self.confirmed(), self.taken), (0x108, []))
-        self.say(held="0/108", point=lsn_text(point))
+        asker.say(point=lsn_text(point))
         while self.taken != [expected] or self.confirmed() != 0x208:
             yield False
         while True:

@@ -3,12 +3,9 @@
 from __future__ import annotations
 
 import contextlib
-import fcntl
-import json
 import os
 import time
 import unittest
-from collections.abc import Iterator
 from unittest import mock
 
 from pgsub_connect.add import addable, turn
@@ -16,8 +13,6 @@ from pgsub_connect.errors import Delayed, ServerError, Unrepaired
 from pgsub_connect.follow import schedule
 from pgsub_connect.server.subscription import Subscription
 from pgsub_connect.status.progress import Progress
-from pgsub_connect.store.at_rest import read_request
-from pgsub_connect.store.snapshot import Snapshots
 from pgsub_connect.stream import gate
 from pgsub_connect.stream.frames import flushed
 from pgsub_connect.stream.gate import Gating, Making, is_shared, too_large_to_copy
@@ -32,6 +27,7 @@ from pgsub_feed.texts import lsn_text
 from .adding_case import OTHER
 from .adding_case import Case as AddingCase
 from .adding_case import Run, T
+from .asking import Asker, asking, snapshots_of
 from .fake_server import FakeServer, Quiet, Row
 from .small_world import WorldSource, insert, table, wait_for
 from .stores import StoreCase
@@ -194,23 +190,12 @@ class Requests(StoreCase):
 
     def setUp(self) -> None:
         super().setUp()
-        self.request, self.copy = self.path + ".request", self.folder + "/copy"
-        self.snapshots = Snapshots(self.path, None, 0.0)
+        self.copy = self.folder + "/copy"
+        self.snapshots = snapshots_of(self, self.path)
         self.snapshots.delays_commits = lambda standbys: True
-        for name in ("LOOK", "SOON"):
-            self.patch(f"pgsub_connect.store.snapshot.{name}", 0.0)
 
-    @contextlib.contextmanager
-    def asked(self, **more: object) -> Iterator[None]:
-        with open(self.request, "w", encoding="utf-8") as file:
-            fcntl.flock(file, fcntl.LOCK_EX)
-            json.dump({"into": self.copy, "hold": 10.0, **more}, file)
-            file.flush()
-            yield
-
-    def error(self) -> str:
-        """What whoever asks was told."""
-        return str(read_request(self.request)["error"])
+    def asked(self, **more: object) -> contextlib.AbstractContextManager[Asker]:
+        return asking(self.path, **{"ask": "hold", "into": self.copy, "seconds": 10.0, **more})
 
     def test_the_process_that_makes_the_slot(self) -> None:
         with self.asked(maker=4711):
@@ -239,17 +224,17 @@ class Requests(StoreCase):
     def test_who_asks_is_of_an_older_version(self) -> None:
         cases: tuple[dict[str, object], ...] = ({}, {"maker": "x"}, {"maker": 0})
         for more in cases:
-            with self.asked(**more):
+            with self.asked(**more) as asker:
                 self.snapshots.is_due(0x130)
-                self.assertIn("of an older version", read_request(self.request)["error"])
+                self.assertIn("of an older version", asker.error())
                 self.assertFalse(self.snapshots.hold.is_held)
 
     def test_a_store_that_takes_long_to_copy(self) -> None:
         self.patch("pgsub_connect.stream.gate.COPIED", 1)
         self.patch("pgsub_connect.stream.gate.is_shared", lambda _: False)
-        with self.asked(maker=4711):
+        with self.asked(maker=4711) as asker:
             self.snapshots.is_due(0x130)
-            self.assertIn("take the follower out of synchronous_standby_names", self.error())
+            self.assertIn("take the follower out of synchronous_standby_names", asker.error())
             self.assertFalse(self.snapshots.hold.is_held)
 
     def test_a_file_system_that_shares_blocks(self) -> None:
@@ -261,18 +246,25 @@ class Requests(StoreCase):
 
     def test_changes_come_too_late(self) -> None:
         """The stream was let go while whoever asks wrote that they are there."""
-        with open(self.copy, "wb"), self.asked(repair=True, held="", copied="", tables=[1]):
+        with self.asked(repair=True, maker=4711) as asker:
             self.snapshots.is_due(0x130)
-            self.assertEqual(self.error(), "the stream went on before the changes came")
+            asker.heard()
+            self.snapshots.reject("it took too long", delays=True)
+            self.snapshots.hold.end()
+            with contextlib.suppress(BrokenPipeError):
+                asker.say(tables=[1])
+            self.snapshots.is_due(0x130)
+            self.assertEqual(asker.error(), "it took too long")
+            self.assertIsNone(self.snapshots.hold.tables)
 
     def test_a_point_that_was_passed(self) -> None:
-        with self.asked(maker=4711):
+        with self.asked(maker=4711) as asker:
             self.snapshots.is_due(0x130)
+            asker.heard()
             self.snapshots.hold.open_to(0x200)
-            with open(self.request, "w", encoding="utf-8") as file:
-                json.dump({"into": self.copy, "held": "0/130", "point": "0/200"}, file)
+            asker.say(point="0/200")
             self.snapshots.is_due(0x130)
-            self.assertIn("its slot is at 0/200, and the stream at 0/200", self.error())
+            self.assertIn("its slot is at 0/200, and the stream at 0/200", asker.error())
             self.assertFalse(self.snapshots.hold.is_held)
 
 
@@ -465,9 +457,7 @@ class Repairs(RepairsCase):
             request.tell(point)
             request.copied()
             time.sleep(0.5)
-            found = wait_for(lambda: "error" in read_request(self.store + ".request"), 10.0)
-            self.assertTrue(found)
-            self.assertIn("have waited", read_request(self.store + ".request")["error"])
+            self.assertTrue(wait_for(lambda: not run.snapshots.hold.is_held, 10.0))
             with self.assertRaisesRegex(Delayed, "have waited"):
                 request.pass_on([T])
         self.change()

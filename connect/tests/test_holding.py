@@ -5,28 +5,25 @@ from __future__ import annotations
 
 import collections
 import contextlib
-import fcntl
-import json
 import os
 import time
 import unittest
-from collections.abc import Callable, Iterator
+from collections.abc import Callable
 from unittest import mock
 
 from pgsub_connect.errors import ServerError
+from pgsub_connect.follow import snapshots
 from pgsub_connect.follow.ending import Ending
 from pgsub_connect.follow.requests import Requests as Asked
 from pgsub_connect.server.subscription import Subscription
 from pgsub_connect.status.progress import Progress
-from pgsub_connect.store import snapshot
-from pgsub_connect.store.at_rest import read_request
-from pgsub_connect.store.snapshot import Snapshots
 from pgsub_connect.stream.hold import Hold, count_below
 from pgsub_connect.stream.statuses import Confirming
 from pgsub_feed import files
 from pgsub_feed.errors import Stopped
 from pgsub_feed.interruption import never
 
+from .asking import Asker, asking, snapshots_of
 from .stores import StoreCase
 from .vectors import (
     begin,
@@ -47,14 +44,14 @@ class Holds(unittest.TestCase):
         self.progress = Progress()
         self.ending = Ending(self.progress, None)
         upkeep = mock.Mock(filter=self.filter, serve_server=self.ending.check)
-        upkeep.life.progress = self.progress
+        upkeep.life.progress, upkeep.life.feeding = self.progress, None
         upkeep.confirming = Confirming(
             mock.Mock(), self.filter, self.progress, self.noting, mock.Mock()
         )
         upkeep.confirming.position = 0x100
         self.noting.ends = collections.deque([0x108, 0x120])
         self.noting.confirm.side_effect = self.confirm
-        self.snapshots.hold = Hold()
+        self.snapshots.hold, self.snapshots.requests.waiting = Hold(), []
         self.filter.waiting = 0
         self.filter.confirmed.return_value = 0x100
         self.requests = Asked(
@@ -185,35 +182,27 @@ class Below(unittest.TestCase):
 
 
 class Requests(StoreCase):
-    """What is said in the request's file, and what becomes of the hold."""
+    """What is said to the follower, and what becomes of the hold."""
 
     def setUp(self) -> None:
         super().setUp()
-        self.request, self.copy = self.path + ".request", self.folder + "/copy"
-        self.snapshots = Snapshots(self.path, None, 0.0)
-        for name in ("LOOK", "SOON"):
-            self.patch(f"pgsub_connect.store.snapshot.{name}", 0.0)
+        self.copy = self.folder + "/copy"
+        self.snapshots = snapshots_of(self, self.path)
 
-    @contextlib.contextmanager
-    def asked(self, **more: object) -> Iterator[None]:
+    def asked(self, **more: object) -> contextlib.AbstractContextManager[Asker]:
         """As while somebody asks who is alive."""
-        with open(self.request, "w", encoding="utf-8") as file:
-            fcntl.flock(file, fcntl.LOCK_EX)
-            json.dump({"into": self.copy, "hold": 10.0, **more}, file)
-            file.flush()
-            yield
+        return asking(self.path, **{"ask": "hold", "into": self.copy, "seconds": 10.0, **more})
 
-    def say(self, **fields: object) -> None:
-        with open(self.request, "w", encoding="utf-8") as file:
-            json.dump({"into": self.copy, "hold": 10.0, **fields}, file)
+    def left(self) -> set[str]:
+        return set(os.listdir(self.folder)) - {"copy.db", "copy.db.sock"}
 
     def test_the_whole_of_it(self) -> None:
         hold = self.snapshots.hold
-        with self.asked():
+        with self.asked() as asker:
             self.assertFalse(self.snapshots.is_due(0x130))
-            self.assertEqual(read_request(self.request)["held"], "0/130")
+            self.assertEqual(asker.heard(), [{"held": "0/130"}])
             self.assertTrue(hold.stops())
-            self.say(held="0/130", point="0/140")
+            asker.say(point="0/140")
             self.assertFalse(self.snapshots.is_due(0x130))
             self.assertEqual((hold.point, hold.stops()), (0x140, False))
             hold.passing([keepalive(0x140)], False)
@@ -223,144 +212,172 @@ class Requests(StoreCase):
                 self.snapshots.wait()
             self.assertFalse(hold.stops())
             self.assertEqual(told, [f"{self.copy}: the rows at 0/130"])
-            self.assertFalse(os.path.exists(self.request))
+            self.assertEqual((asker.heard(), asker.is_over), ([{"copied": "0/130"}], True))
             self.assertTrue(os.path.exists(self.copy))
             self.assertEqual(hold.take_kept(), [keepalive(0x140)])
 
     def test_who_asked_is_gone(self) -> None:
         for point in ("", "0/140"):
-            with self.asked():
+            with self.asked() as asker:
                 self.snapshots.is_due(0x130)
                 if point:
-                    self.say(point=point)
+                    asker.say(point=point)
                     self.snapshots.is_due(0x130)
             with logged() as told:
                 self.assertFalse(self.snapshots.is_due(0x130))
-            self.assertEqual(
-                (self.snapshots.hold.into, os.path.exists(self.request)), (None, False)
-            )
+            self.assertEqual((self.snapshots.hold.into, self.snapshots.client), (None, None))
             self.assertIn("is gone: following goes on", told[0])
 
-    def copy_it(self) -> None:
+    def copy_it(self, asker: Asker) -> None:
         """Takes the copy that was asked for."""
         self.snapshots.is_due(0x130)
-        self.say(held="0/130", point="0/140")
+        asker.say(point="0/140")
         self.snapshots.is_due(0x130)
         self.snapshots.hold.passing([keepalive(0x140)], False)
         self.snapshots.take(0x130, never)
 
     def test_who_asked_is_gone_while_the_file_is_made(self) -> None:
         """Nothing of it stays."""
-        for is_taken_back in (False, True):
-            with contextlib.ExitStack() as going, logged(), mock.patch.object(
-                snapshot, "fold", lambda _, going=going: going.close()
-            ):
-                going.enter_context(self.asked())
-                if is_taken_back:
-                    going.callback(os.unlink, self.request)
-                self.copy_it()
-                self.snapshots.wait()
-                self.assertEqual([it for it in os.listdir(self.folder) if it != "copy.db"], [])
+        for is_killed in (False, True):
+            with logged(), self.asked() as asker:
 
-    def cut(self, error: Exception, **more: object) -> str | None:
-        """Begins a copy that was asked for, in which an error comes. What the request says then of
-        an error."""
-        with contextlib.ExitStack() as going, mock.patch.object(files, "CHUNK", 4096):
+                def fold(_: str, asker: Asker = asker, is_killed: bool = is_killed) -> None:
+                    if not is_killed:
+                        asker.say(ends=True)
+                    asker.close()
+
+                with mock.patch.object(snapshots, "fold", fold):
+                    self.copy_it(asker)
+                    self.snapshots.wait()
+                self.assertEqual(self.left(), set())
+                self.snapshots.is_due(0x130)
+                self.assertFalse(self.snapshots.hold.is_held)
+
+    def cut(self, error: Exception, **more: object) -> list[dict[str, object]]:
+        """Begins a copy that was asked for, in which an error comes. What is answered then."""
+        asked = self.asked(**more) if more else asking(self.path, ask="copy", into=self.copy)
+        with asked as asker, mock.patch.object(files, "CHUNK", 4096):
             if more:
-                going.enter_context(self.asked(**more))
                 self.assertFalse(self.snapshots.is_due(0x130))
-                self.say(held="0/130", point="0/140")
+                self.assertIn("held", asker.heard()[0])
+                asker.say(point="0/140")
                 self.assertFalse(self.snapshots.is_due(0x130))
                 self.snapshots.hold.passing([keepalive(0x140)], False)
-            else:
-                with open(self.request, "w", encoding="utf-8") as file:
-                    json.dump({"into": self.copy}, file)
             self.assertTrue(self.snapshots.is_due(0x130))
             with self.assertRaises(type(error)), logged():
                 self.snapshots.take(0x130, mock.Mock(side_effect=[None, error]))
             self.assertIsNone(self.snapshots.finishing)
-            self.assertEqual(set(os.listdir(self.folder)), {"copy.db", "copy.db.request"})
-            found = read_request(self.request)
-            os.unlink(self.request)
-        return found.get("error")
+            self.assertEqual(self.left(), set())
+            heard = asker.heard()
+            self.assertEqual(self.snapshots.wanted, None if heard else self.copy)
+        with logged():
+            self.snapshots.is_due(0x130)
+        self.assertFalse(self.snapshots.hold.is_held)
+        return heard
 
     def test_the_end_while_it_is_copied(self) -> None:
         """Whoever asked is told, and nothing of the copy stays."""
-        cases: tuple[dict[str, object], ...] = ({}, {"hold": 10.0}, {"hold": 10.0, "repair": True})
+        cases: tuple[dict[str, object], ...] = ({}, {"seconds": 10.0}, {"repair": True})
         for more in cases:
-            self.assertEqual(self.cut(Stopped(), **more), "the follower is about to end")
+            [said] = self.cut(Stopped(), **more)
+            self.assertEqual(said["error"], "the follower is about to end")
 
     def test_a_session_that_is_lost_while_it_is_copied(self) -> None:
-        """Nothing of it stays, and it is copied again later: the request isn't answered."""
-        self.assertIsNone(self.cut(ServerError("lost")))
+        """Nothing of it stays, and it is copied again later: the request isn't answered. But one at
+        an LSN is over."""
+        self.assertEqual(self.cut(ServerError("lost")), [])
+        [said] = self.cut(ServerError("lost"), seconds=10.0)
+        self.assertEqual(said["error"], "the session ended while it was copied")
 
     def test_one_that_nobody_waits_for(self) -> None:
         """Where the session is lost it is taken anew, also one for which there was a signal."""
-        self.snapshots.path, self.snapshots.asked = self.copy, True
+        self.snapshots.path = self.copy
+        self.snapshots.ask()
         for error, again in ((ServerError("lost"), True), (Stopped(), False)):
             self.assertTrue(self.snapshots.is_due(0x130))
             with mock.patch.object(files, "CHUNK", 4096), self.assertRaises(type(error)), logged():
                 self.snapshots.take(0x130, mock.Mock(side_effect=[None, error]))
-            self.assertEqual(os.listdir(self.folder), ["copy.db"])
+            self.assertEqual(self.left(), set())
             self.assertEqual(self.snapshots.is_due(0x130), again)
 
     def test_who_asked_was_gone_before(self) -> None:
-        self.say()
+        for ask in ("hold", "copy", "add"):
+            with self.asked(ask=ask):
+                pass
+            self.assertFalse(self.snapshots.is_due(0x130))
+            self.assertEqual((self.snapshots.hold.into, self.snapshots.wanted), (None, None))
+
+    def test_who_asked_for_a_copy_is_gone_before_it_is_made(self) -> None:
+        with asking(self.path, ask="copy", into=self.copy):
+            self.assertTrue(self.snapshots.is_due(0x130))
         self.assertFalse(self.snapshots.is_due(0x130))
-        self.assertEqual((self.snapshots.hold.into, os.path.exists(self.request)), (None, False))
+        self.assertIsNone(self.snapshots.client)
 
     def test_a_request_that_is_taken_back(self) -> None:
-        with self.asked():
+        with self.asked() as asker, logged() as told:
             self.snapshots.is_due(0x130)
-            os.unlink(self.request)
+            asker.say(ends=True)
             self.snapshots.is_due(0x130)
-        self.assertFalse(self.snapshots.hold.stops())
+        self.assertEqual((self.snapshots.hold.stops(), told), (False, []))
 
     def test_no_lsn_in_time(self) -> None:
-        with self.asked(hold=0.01):
+        with self.asked(seconds=0.01) as asker:
             self.snapshots.is_due(0x130)
+            asker.heard()
             time.sleep(0.02)
             self.snapshots.is_due(0x130)
-            self.assertIn("wasn't told in time", read_request(self.request)["error"])
+            self.assertIn("wasn't told in time", asker.error())
             self.assertFalse(self.snapshots.hold.stops())
             self.assertFalse(self.snapshots.is_due(0x130))
 
     def test_for_how_long(self) -> None:
-        for wrong in (0, -1, "x", None, 1e9):
-            with self.asked(hold=wrong):
+        for wrong in (0, -1, "x", None, 1e9, True, [1]):
+            with self.asked(seconds=wrong) as asker:
                 self.snapshots.is_due(0x130)
-                self.assertEqual(
-                    (self.snapshots.hold.into, os.path.exists(self.request)), (None, False)
-                )
+                self.assertIsNone(self.snapshots.hold.into)
+                self.assertIn("610 seconds at most", asker.error())
 
-    def test_a_file_that_is_being_written(self) -> None:
-        with self.asked():
-            self.snapshots.is_due(0x130)
-            for text in ("", '{"into": '):
-                with open(self.request, "w", encoding="utf-8") as file:
-                    file.write(text)
+    def test_a_line_that_comes_in_parts(self) -> None:
+        with self.asked() as asker:
+            for part in (b"", b'{"poi', b'nt": ', b'"0/140"}'):
+                asker.send(part)
                 self.snapshots.is_due(0x130)
                 self.assertTrue(self.snapshots.hold.stops())
+            asker.send(b"\n")
+            self.snapshots.is_due(0x130)
+            self.assertEqual(self.snapshots.hold.point, 0x140)
 
-    def test_another_follower(self) -> None:
-        """One that hasn't held the stream may be beyond the LSN."""
-        with self.asked(held="0/120", point="0/140"):
+    def test_what_is_no_lsn(self) -> None:
+        for wrong in ("x", "", 5, None, [], "0/123456789"):
+            with self.asked() as asker:
+                self.snapshots.is_due(0x130)
+                asker.heard()
+                asker.say(point=wrong)
+                self.snapshots.is_due(0x130)
+                self.assertIn("can't be read", asker.error())
+                self.assertFalse(self.snapshots.hold.is_held)
+
+    def test_one_after_the_other(self) -> None:
+        """What is asked while the stream is held is taken up afterwards."""
+        with self.asked() as first, asking(self.path, ask="copy", into=self.copy) as second:
             self.assertFalse(self.snapshots.is_due(0x130))
-            self.assertEqual(read_request(self.request)["error"], "another follower runs now")
-            self.assertFalse(self.snapshots.hold.stops())
+            first.say(ends=True)
+            self.assertFalse(self.snapshots.is_due(0x130))
+            self.assertTrue(self.snapshots.is_due(0x130))
+            self.assertEqual(second.heard(), [])
 
     def test_while_another_copy_is_made(self) -> None:
-        self.snapshots.finishing = mock.Mock()
-        with self.asked():
+        self.snapshots.finishing = mock.Mock(has_ended=False)
+        with self.asked() as asker:
             self.snapshots.is_due(0x130)
             self.assertFalse(self.snapshots.hold.stops())
-            self.snapshots.finishing.is_alive.return_value = False
+            self.snapshots.finishing = None
             self.snapshots.is_due(0x130)
             self.assertTrue(self.snapshots.hold.stops())
-            self.say(point="0/140")
+            asker.say(point="0/140")
             self.snapshots.is_due(0x130)
             self.snapshots.hold.is_there = True
-            self.snapshots.finishing.is_alive.return_value = True
+            self.snapshots.finishing = mock.Mock(has_ended=False)
             self.assertFalse(self.snapshots.is_due(0x130))
             self.assertTrue(self.snapshots.hold.stops())
 

@@ -5,7 +5,6 @@ from __future__ import annotations
 import contextlib
 import json
 import os
-import time
 from collections.abc import Callable
 from typing import Any
 from unittest import mock
@@ -13,15 +12,14 @@ from unittest import mock
 from pgsub_connect.cli import main
 from pgsub_connect.commands.drop import made_publications, read_remembered
 from pgsub_connect.drift.remembered import Remembered
-from pgsub_connect.store import snapshot
-from pgsub_connect.store.at_rest import read_request
+from pgsub_connect.follow.snapshots import Snapshots
 from pgsub_connect.store.checkpoint import Checkpoint
-from pgsub_connect.store.snapshot import Snapshots
 from pgsub_feed import json_texts
 from pgsub_feed.errors import BUG, FILE, FileError
 from pgsub_feed.interruption import never
 from pgsub_feed.json_texts import Unreadable, parsed
 
+from .asking import Asker, asking, snapshots_of
 from .fake_server import Quiet
 from .hostile import TEXTS, altered
 from .stores import StoreCase
@@ -62,14 +60,12 @@ class Parsed(Quiet):
         folder = self.make_folder()
         os.mkfifo(folder + "/pipe")
         os.symlink("pipe", folder + "/link")
-        for name, follows in (("pipe", True), ("link", True), ("", True)):
-            self.assertRaises(Unreadable, json_texts.read_plain, f"{folder}/{name}", 10, follows)
+        for name in ("pipe", "link", ""):
+            self.assertRaises(Unreadable, json_texts.read_plain, f"{folder}/{name}", 10)
         with open(folder + "/file", "w") as file:
             file.write("x" * 11)
         self.assertRaises(Unreadable, json_texts.read_plain, folder + "/file", 10)
         self.assertEqual(json_texts.read_plain(folder + "/file", 11), b"x" * 11)
-        os.symlink("file", folder + "/other")
-        self.assertRaises(OSError, json_texts.read_plain, folder + "/other", 20, False)
 
 
 class Files(StoreCase):
@@ -163,59 +159,47 @@ class Files(StoreCase):
             with self.assertRaises(FileError, msg=repr(text[:50])):
                 Checkpoint(self.path)
 
-    def test_a_request(self) -> None:
-        """The follower goes on whatever it says, and makes only new files beside the store."""
-        self.enterContext(mock.patch.object(snapshot, "LOOK", 0.0))
-        right = {
-            "into": self.folder + "/new.db",
-            "hold": 5.0,
-            "repair": True,
-            "point": "0/200",
-            "tables": [5],
-            "error": "x",
-            "held": "",
-            "copied": "",
-        }
-        adds = {"into": self.folder + "/new.db", "add": [5], "remove": [6]}
-        for text in (*TEXTS, *(it.encode() for said in (right, adds) for it in altered(said))):
-            self.put(".request", text)
-            read_request(self.path + ".request")
-            follower = Snapshots(self.path, None, 0.0)
-            follower.adds = lambda asked: "none is added"
-            with logged():
-                for is_held in (False, True):
-                    if is_held:
-                        follower.hold.begin(self.folder + "/new.db", 5.0, True)
-                        follower.looked = 0.0
-                    follower.is_due(0x130)
-                    follower.reject("/x", "why", True)
-                if follower.wanted:
+    def test_requests(self) -> None:
+        """The follower goes on whatever they say, and makes only new files beside the store."""
+        new = self.folder + "/new.db"
+        right = {"ask": "hold", "into": new, "seconds": 5.0, "repair": True, "maker": 5}
+        asked = (right, {"ask": "copy", "into": new}, {"ask": "add", "add": [5], "remove": [6]})
+        follower = snapshots_of(self, self.path)
+        follower.adds = lambda asked: "none is added"
+        for text in (*TEXTS, *(it.encode() for said in asked for it in altered(said))):
+            with contextlib.closing(Asker(self.path)) as asker, logged():
+                with contextlib.suppress(BlockingIOError):
+                    asker.send(text.replace(b"\n", b" ") + b"\n")
+                if follower.is_due(0x130) and follower.wanted:
                     follower.take(0x130, never)
                     follower.wait()
-            with contextlib.suppress(FileNotFoundError):
-                os.unlink(self.folder + "/new.db")
-            self.assertLessEqual(
-                {*os.listdir(self.folder)}, {"copy.db", "copy.db.request"}, text[:100]
-            )
+            self.settle(follower, text)
 
-    def test_a_request_that_is_a_pipe_or_a_link(self) -> None:
-        """Nobody waits for the one, nor follows the other."""
-        began = time.monotonic()
-        other = self.put("-other", b'{"into":"/x"}')
-        for is_pipe in (True, False):
-            if is_pipe:
-                os.mkfifo(self.path + ".request")
-            else:
-                os.symlink(other, self.path + ".request")
-            self.assertEqual(read_request(self.path + ".request"), {})
-            follower = Snapshots(self.path, None, 0.0)
-            follower.looked = 0.0
-            self.assertFalse(follower.is_due(0x130))
-            follower.answer("/x", "why")
-            os.unlink(self.path + ".request")
-        with open(other, "rb") as file:
-            self.assertEqual(file.read(), b'{"into":"/x"}')
-        self.assertLess(time.monotonic() - began, 2)
+    def settle(self, follower: Snapshots, text: bytes) -> None:
+        """Whoever asks is gone, and what is left is that."""
+        with logged():
+            follower.is_due(0x130)
+            follower.wait()
+        with contextlib.suppress(FileNotFoundError):
+            os.unlink(self.folder + "/new.db")
+        self.assertEqual((follower.hold.is_held, follower.client), (False, None), text[:100])
+        self.assertLessEqual({*os.listdir(self.folder)}, {"copy.db", "copy.db.sock"}, text[:100])
+
+    def test_what_is_said_of_a_hold(self) -> None:
+        follower = snapshots_of(self, self.path)
+        said = ({"point": "0/200"}, {"tables": [5]}, {"ends": True})
+        for text in (*TEXTS, *(it.encode() for fields in said for it in altered(fields))):
+            for is_copied in (False, True):
+                asked = {"ask": "hold", "into": self.folder + "/new.db", "seconds": 5.0}
+                with asking(self.path, **asked, repair=True) as asker, logged():
+                    follower.is_due(0x130)
+                    if is_copied:
+                        follower.hold.go(0x200)
+                        follower.hold.is_copied = True
+                    with contextlib.suppress(BlockingIOError):
+                        asker.send(text.replace(b"\n", b" ") + b"\n")
+                    follower.is_due(0x130)
+                self.settle(follower, text)
 
     def test_a_status_file(self) -> None:
         right = {

@@ -7,18 +7,20 @@ import fcntl
 import os
 import threading
 import unittest
-from collections.abc import Iterator
+from collections.abc import Iterator, Sequence
 from unittest import mock
 
 from pgsub_connect.copy.source import Source
 from pgsub_connect.copy.tries import CHANGED
 from pgsub_connect.copy.unchanged import ALTERED, LOCKED, MOVED
 from pgsub_connect.errors import NoSlot, ServerError
+from pgsub_connect.follow.request_socket import RequestSocket
+from pgsub_connect.follow.snapshots import Snapshots
 from pgsub_connect.server.catalog import Table
 from pgsub_connect.server.subscription import Subscription
+from pgsub_connect.store import at_rest
 from pgsub_connect.store.checkpoint_lines import FOLLOWING, Known
-from pgsub_connect.store.snapshot import Snapshots, position_in
-from pgsub_connect.stream.hold import write_request
+from pgsub_connect.store.snapshot import position_in
 from pgsub_connect.verify import meeting_point
 from pgsub_connect.verify.meeting_point import Request
 from pgsub_connect.verify.store import meet
@@ -36,12 +38,7 @@ KNOWN = Known(FOLLOWING, "77", "shop", "pgsub", 1)
 class Asks(StoreCase):
     def setUp(self) -> None:
         super().setUp()
-        for name in (
-            "store.at_rest.LOOK",
-            "verify.meeting_point.LOOK",
-            "store.snapshot.LOOK",
-            "store.snapshot.SOON",
-        ):
+        for name in ("store.at_rest.LOOK", "copy.source.LOOK", "store.asking.STEP"):
             self.patch(f"pgsub_connect.{name}", 0.005)
         self.ended = threading.Event()
         self.request = Request(self.path, 5.0, never)
@@ -50,15 +47,17 @@ class Asks(StoreCase):
     @contextlib.contextmanager
     def followed(self) -> Iterator[Snapshots]:
         """As while a follower runs that has nothing to pass on."""
-        snapshots = Snapshots(self.path, None, 0.0)
+        snapshots = Snapshots(self.path, requests := RequestSocket(self.path), None, 0.0)
 
         def follow() -> None:
-            while not self.ended.wait(0.002):
+            while not self.ended.is_set():
+                requests.rest(0.02)
                 if snapshots.is_due(0x130):
                     snapshots.take(0x130, never)
                 elif snapshots.hold.is_going():
                     snapshots.hold.passing([keepalive(0x200)], False)
             snapshots.wait()
+            requests.close()
 
         thread = threading.Thread(target=follow)
         with open(self.path + ".connector", "w") as file, logged():
@@ -107,15 +106,43 @@ class Asks(StoreCase):
         self.request.close()
         self.assertEqual(self.left(), {"copy.db", "copy.db.connector"})
 
-    def ask(self, text: str, check: Check = never) -> None:
-        """Asks a follower that does nothing, or what `check` does, and expects an error."""
-        request = Request(self.path, 5.0, check)
+    def ask(
+        self,
+        text: str,
+        answers: Sequence[dict[str, object]] = (),
+        check: Check = never,
+        ends: bool = False,
+    ) -> None:
+        """Asks a follower that gives these answers, one for each line, and then ends, or not; and
+        expects an error."""
+        request, requests, over = (
+            Request(self.path, 5.0, check),
+            RequestSocket(self.path),
+            threading.Event(),
+        )
+
+        def follow() -> None:
+            left = list(answers)
+            while not over.is_set():
+                requests.rest(0.01)
+                requests.tend()
+                if (client := requests.first()) and left:
+                    client.answer(**left.pop(0))
+                if client and ends and not left:
+                    self.lock.close()
+                    client.close()
+
+        thread = threading.Thread(target=follow)
         with open(self.path + ".connector", "w") as self.lock:
             fcntl.flock(self.lock, fcntl.LOCK_EX)
-            with contextlib.closing(request), self.assertRaisesRegex(Passing, text):
+            thread.start()
+            with contextlib.closing(request), self.assertRaisesRegex(Exception, text):
                 request.hold()
                 request.tell(0x200)
                 request.copied()
+            over.set()
+            thread.join()
+        requests.close()
         self.assertEqual(self.left(), {"copy.db", "copy.db.connector"})
 
     def test_a_follower_that_doesnt_answer(self) -> None:
@@ -123,42 +150,30 @@ class Asks(StoreCase):
             self.ask("hasn't answered in 0 seconds")
 
     def test_a_follower_that_ends(self) -> None:
-        self.ask("a follower has to run", lambda: self.lock.close())
+        self.ask("a follower has to run", ends=True)
 
     def test_a_follower_that_ends_later(self) -> None:
-        calls = iter(range(1000))
-
-        def check() -> None:
-            if next(calls) == 0:
-                write_request(self.path + ".request", into=self.request.into, held="0/130")
-            else:
-                self.lock.close()
-
-        self.ask("a follower has to run", check)
+        self.ask("a follower has to run", [{"held": "0/130"}], ends=True)
 
     def test_a_follower_of_an_older_version(self) -> None:
-        self.ask("is it of an older version", lambda: os.unlink(self.path + ".request"))
+        with mock.patch.object(at_rest, "STARTING", 0.02), open(
+            self.path + ".connector", "w"
+        ) as lock:
+            fcntl.flock(lock, fcntl.LOCK_EX)
+            with self.assertRaisesRegex(Passing, "is its follower of an older version"):
+                self.request.hold()
 
     def test_a_follower_that_cant(self) -> None:
-        def check() -> None:
-            with open(self.path + ".request", "w") as file:
-                file.write('{"into": "x", "error": "no"}')
+        self.ask("can't hold the stream: no", [{"error": "no"}])
 
-        request = Request(self.path, 5.0, check)
-        with open(self.path + ".connector", "w") as lock:
-            fcntl.flock(lock, fcntl.LOCK_EX)
-            with contextlib.closing(request), self.assertRaisesRegex(
-                Passing, "can't hold the stream: no"
-            ):
-                request.hold()
+    def test_a_follower_that_cant_later(self) -> None:
+        self.ask("couldn't copy it: no", [{"held": "0/130"}, {"error": "no"}])
+
+    def test_a_copy_that_isnt_there(self) -> None:
+        self.ask("the copy isn't there", [{"held": "0/130"}, {"copied": "0/130"}])
 
     def test_ended_by_a_signal(self) -> None:
-        request = Request(self.path, 5.0, mock.Mock(side_effect=Stopped))
-        with open(self.path + ".connector", "w") as lock:
-            fcntl.flock(lock, fcntl.LOCK_EX)
-            with contextlib.closing(request), self.assertRaises(Stopped):
-                request.hold()
-        self.assertEqual(self.left(), {"copy.db", "copy.db.connector"})
+        self.ask("^$", check=mock.Mock(side_effect=Stopped))
 
 
 class Servers(Quiet):

@@ -3,8 +3,6 @@
 from __future__ import annotations
 
 import contextlib
-import fcntl
-import json
 import os
 import shutil
 import stat
@@ -14,8 +12,7 @@ from unittest import mock
 
 from pgsub_connect.commands.add import noted
 from pgsub_connect.drift.remembered import Remembered
-from pgsub_connect.store import at_rest, export
-from pgsub_connect.store.snapshot import Snapshots
+from pgsub_connect.store import at_rest, export, socket_file
 from pgsub_connect.verify.repair_rows import Changes
 from pgsub_feed import ownership
 from pgsub_feed.errors import FileError
@@ -24,6 +21,7 @@ from pgsub_feed.interruption import never
 from pgsub_feed.reader import positions
 from pgsub_feed.tables import first_rows
 
+from .asking import snapshots_of
 from .fake_server import Quiet
 from .stores import StoreCase
 from .vectors import logged
@@ -87,36 +85,27 @@ class Case(StoreCase):
 class Given(Case):
     """What root makes for a follower of another account."""
 
-    def test_a_request(self) -> None:
-        written, lock, touched = self.folder + "/asked.request", fcntl.flock, Touched()
-
-        def plant(file: int, flags: int) -> None:
-            self.plant(written)
-            lock(file, flags)
-
-        with touched.noted(), mock.patch("fcntl.flock", plant), mock.patch.object(
-            at_rest, "is_followed", lambda _: True
-        ):
-            file = at_rest.put_request(
-                self.path, self.path + ".request", self.folder + "/asked", never
-            )
-        assert file is not None
-        self.addCleanup(os.close, file)
-        self.is_as_it_was(touched)
-        self.assertEqual(at_rest.read_request(self.path + ".request"), {})
-
     def test_a_copy_that_is_a_link(self) -> None:
         """What root reads is what the follower has copied."""
         self.plant(self.folder + "/asked")
-        for request in ({}, {"into": self.folder + "/asked", "copied": ""}):
-            with open(self.path + ".request", "w") as file:
-                json.dump(request, file)
-            if not request:
-                os.unlink(self.path + ".request")
-            with self.assertRaisesRegex(FileError, "a link in the place of a copy"):
-                at_rest.wait_for_copy(
-                    self.path, self.path + ".request", self.folder + "/asked", never
-                )
+        asking = mock.Mock(**{"answer.return_value": {"copied": "0/130"}})
+        with self.assertRaisesRegex(FileError, "a link in the place of a copy"):
+            at_rest.is_copied(asking, self.folder + "/asked")
+
+    def test_a_socket(self) -> None:
+        """Its file gets its mode whatever takes the place of its name."""
+        touched, set_mode = Touched(), socket_file.set_mode
+
+        def plant(name: str, folder: int, mode: int) -> None:
+            os.unlink(name, dir_fd=folder)
+            os.symlink(self.victim, name, dir_fd=folder)
+            set_mode(name, folder, mode)
+
+        with touched.noted(), mock.patch.object(socket_file, "set_mode", plant):
+            with contextlib.suppress(FileError):
+                socket_file.listening(self.path, 0o644).close()
+        self.assertEqual([name for name, _, _ in touched.calls], ["fchmod", "chmod"])
+        self.is_as_it_was(touched)
 
     def test_a_file_of_changes(self) -> None:
         path, opened, touched = self.folder + "/changes", os.open, Touched()
@@ -147,23 +136,6 @@ class Given(Case):
         with touched.noted(), mock.patch("os.mkdir", plant), self.assertRaises(OSError):
             positions.make_folder(path, 0o644)
         self.is_as_it_was(touched)
-
-    def test_a_request_that_is_changed(self) -> None:
-        """Who asks changes its own file alone, and a follower nothing that a link leads to."""
-        from pgsub_connect.stream.hold import write_own_request, write_request
-
-        request = self.folder + "/asked"
-        file = os.open(request, os.O_RDWR | os.O_CREAT, 0o600)
-        self.addCleanup(os.close, file)
-        write_own_request(request, file, into="a long text")
-        write_own_request(request, file, into="x")
-        self.assertEqual(at_rest.read_request(request), {"into": "x"})
-        write_request(request, into="y")
-        self.assertEqual(at_rest.read_request(request), {"into": "y"})
-        self.plant(request)
-        write_own_request(request, file, into="z")
-        write_request(request, into="z")
-        self.is_as_it_was(Touched())
 
 
 class Replaced(Quiet):
@@ -330,7 +302,7 @@ class Links(Case):
             self.fail("it was followed")
         with self.assertRaisesRegex(FileError, "isn't followed"):
             first_rows.check_file(self.into)
-        snapshots = Snapshots(self.path, self.into, 0.0)
+        snapshots = snapshots_of(self, self.path, self.into)
         with logged() as told:
             snapshots.take(0x130, never)
         self.assertIn("isn't followed", told[0])

@@ -16,11 +16,11 @@ from pgsub_connect.follow.follower import Follower
 from pgsub_connect.record.recording import Aside, Recording
 from pgsub_connect.status.progress import Progress
 from pgsub_connect.store.checkpoint import Checkpoint
-from pgsub_connect.store.snapshot import Snapshots
 from pgsub_connect.stream.filter import Filter
 from pgsub_connect.stream.filter_end import REJECTED, FilterEnded
 from pgsub_connect.stream.filter_input import PIECE, ROOM
 
+from .asking import snapshots_of
 from .followed import followed
 from .vectors import a_catalog, a_table, begin, commit, insert, keepalive, logged, relation
 
@@ -73,7 +73,7 @@ class Case(unittest.TestCase):
             self.child,
             Progress(),
             Aside(self.recording),
-            Snapshots(self.store, None, 0.0),
+            snapshots_of(self, self.store),
             remembered,
         )
 

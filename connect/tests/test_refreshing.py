@@ -20,9 +20,10 @@ from pgsub_connect.commands.refresh import CHANGED, EXTRA, MISSING, OTHER, Told,
 from pgsub_connect.drift.findings import NOTHING, About
 from pgsub_connect.drift.remembered import Remembered
 from pgsub_connect.errors import ServerError
+from pgsub_connect.follow.request_socket import RequestSocket
+from pgsub_connect.follow.snapshots import Snapshots
 from pgsub_connect.server.catalog import Catalog, Part, Partition
-from pgsub_connect.store import at_rest, snapshot
-from pgsub_connect.store.snapshot import Snapshots
+from pgsub_connect.store import asking, at_rest
 from pgsub_feed.errors import FileError, Passing, Stopped, Unfit
 from pgsub_feed.interruption import Check, never
 
@@ -136,11 +137,10 @@ class Case(Quiet):
         for where, what, by in (
             (add, "Connection", self.server.connect),
             (refresh_module, "Connection", self.server.connect),
-            (add, "LOOK", 0.005),
             (add, "WAIT", 0.005),
             (refresh_module, "read_catalog", lambda *_: self.now),
             (at_rest, "LOOK", 0.005),
-            (snapshot, "LOOK", 0.005),
+            (asking, "STEP", 0.005),
             (
                 add,
                 "published_tables",
@@ -173,7 +173,8 @@ class Case(Quiet):
     def followed(self, answer: str | None = None, why: str | None = "") -> Iterator[list[object]]:
         """As while a follower runs that answers requests so, and adds tables, or refuses them where
         there is a `why`."""
-        followed, ended, asked = Snapshots(self.store, None, 0.0), threading.Event(), list[object]()
+        requests, ended, asked = RequestSocket(self.store), threading.Event(), list[object]()
+        followed = Snapshots(self.store, requests, None, 0.0)
 
         def adds(words: dict[str, Any]) -> str | None:
             asked.append(words["add"] + [-oid for oid in words["remove"]])
@@ -187,8 +188,10 @@ class Case(Quiet):
 
         def follow() -> None:
             followed.adds = adds
-            while not ended.wait(0.002):
+            while not ended.is_set():
+                requests.rest(0.01)
                 followed.is_due(0x130)
+            requests.close()
 
         thread = threading.Thread(target=follow)
         with open(self.store + ".connector", "w") as file:
@@ -225,7 +228,7 @@ class Adds(Case):
         ) as raised:
             add.add_tables(self.options("one"), never)
         self.assertTrue(raised.exception.is_lasting())
-        self.assertFalse(os.path.exists(self.store + ".request"))
+        self.assertFalse(os.path.exists(self.store + ".sock"))
 
     def test_a_table_that_is_not_published(self) -> None:
         with self.assertRaisesRegex(Unfit, "no published table four"):
@@ -240,7 +243,7 @@ class Adds(Case):
             nonlocal is_taken
             if is_taken:
                 raise Stopped
-            is_taken = bool(self.wanted()) and not os.path.exists(self.store + ".request")
+            is_taken = bool(self.wanted())
 
         with self.followed(why=None):
             self.assertEqual(add.add_tables(self.options("one"), check), 0)

@@ -16,11 +16,12 @@ from pgsub_connect.copy.messages import relation as relation_body
 from pgsub_connect.drift.findings import About
 from pgsub_connect.drift.remembered import Remembered
 from pgsub_connect.errors import Unrepaired
+from pgsub_connect.follow import snapshots
 from pgsub_connect.follow.drift_watch import Watch
 from pgsub_connect.follow.repair import Repairing, Unusable, messages_in
+from pgsub_connect.follow.snapshots import Snapshots
 from pgsub_connect.server.catalog import Table
 from pgsub_connect.store import snapshot
-from pgsub_connect.store.snapshot import Snapshots
 from pgsub_connect.stream.hold import Hold
 from pgsub_connect.stream.memory_limit import BufferLimits
 from pgsub_connect.verify.digests import Plan
@@ -34,7 +35,7 @@ from pgsub_feed.tables.row_texts import text_of
 from .adding_case import OTHER, THIRD, Case, Run, T
 from .row_filter import Store
 from .small_world import cells, insert, table
-from .vectors import begin, commit, keepalive
+from .vectors import begin, commit, keepalive, logged
 
 Row = tuple[str | None, ...]
 
@@ -55,12 +56,7 @@ class Repairs(Case):
 
     def setUp(self) -> None:
         super().setUp()
-        for name in (
-            "store.at_rest.LOOK",
-            "verify.meeting_point.LOOK",
-            "store.snapshot.LOOK",
-            "store.snapshot.SOON",
-        ):
+        for name in ("store.at_rest.LOOK", "copy.source.LOOK", "store.asking.STEP"):
             patch = mock.patch(f"pgsub_connect.{name}", 0.005)
             patch.start()
             self.addCleanup(patch.stop)
@@ -145,7 +141,7 @@ class Repairs(Case):
         self.assertIsNone(run.raised)
         self.compare()
         self.assertFalse(
-            [it for it in os.listdir(self.folder) if ".export." in it or it.endswith(".request")]
+            [it for it in os.listdir(self.folder) if ".export." in it or it.endswith(".sock")]
         )
 
     def streams(self, since: int) -> list[bool]:
@@ -261,7 +257,7 @@ class Repaired(Repairs):
             time.sleep(0.2)
             real(path)
 
-        self.patch(snapshot, "fold", fold)
+        self.patch(snapshots, "fold", fold)
         self.hook = lambda name: self.change() if name == "slot" else None
         self.repair()
         self.ends(run)
@@ -305,13 +301,13 @@ class Repaired(Repairs):
             self.change()
         self.assertTrue(run.until(lambda: self.is_stored(run)), (self.said, run.raised))
         with self.compared() as request:
-            request_path = request.request
-            with mock.patch(
-                "pgsub_connect.verify.meeting_point.is_followed", return_value=False
-            ), contextlib.suppress(Passing):
-                request.pass_on([T])
+            assert request.asking
+            request.asking.say(tables=[T])
             self.assertTrue(
-                run.until(lambda: run.snapshots.hold.is_sent or not os.path.exists(request_path))
+                run.until(
+                    lambda: run.snapshots.hold.is_sent
+                    or any("were repaired" in it for it in self.said)
+                )
             )
         self.ends(run)
 
@@ -491,10 +487,12 @@ class Held(unittest.TestCase):
         """The stream stays held once the changes are on their way: behind them nothing is passed on
         in the session."""
         for is_sent in (False, True):
-            asked = Snapshots("/nowhere/copy.db", None, 0.0)
+            asked = Snapshots("/nowhere/copy.db", mock.Mock(), None, 0.0)
+            asked.client = mock.Mock(is_gone=True, said=[])
             asked.hold.begin("/nowhere/copy", 5.0, True)
             asked.hold.is_sent = is_sent
-            asked.look_after("/nowhere/copy")
+            with logged():
+                asked.look_after()
             self.assertEqual(asked.hold.is_held, is_sent)
 
     def test_sessions(self) -> None:

@@ -6,7 +6,6 @@ from __future__ import annotations
 import contextlib
 import errno
 import fcntl
-import json
 import os
 import shutil
 import sqlite3
@@ -21,15 +20,18 @@ from unittest import mock
 
 from pgsub_connect.cli import main
 from pgsub_connect.commands import snapshot
+from pgsub_connect.follow.request_socket import RequestSocket
+from pgsub_connect.follow.snapshots import Snapshots
 from pgsub_connect.store import at_rest as at_rest_module
 from pgsub_connect.store import export
 from pgsub_connect.store.at_rest import at_rest
 from pgsub_connect.store.export import ExportSettings
-from pgsub_connect.store.snapshot import Snapshots
+from pgsub_connect.store.socket_file import listening
 from pgsub_feed.errors import FILE, PASSING, USAGE, FileError, Passing, Stopped
 from pgsub_feed.files import own_name
 from pgsub_feed.interruption import never
 
+from .asking import Asker, asking, snapshots_of
 from .stores import StoreCase
 from .vectors import logged
 
@@ -40,8 +42,8 @@ GONE = 4194304 + 1
 class Case(StoreCase):
     def setUp(self) -> None:
         super().setUp()
-        for it in ("at_rest", "snapshot"):
-            self.patch(f"pgsub_connect.store.{it}.LOOK", 0.01)
+        self.patch("pgsub_connect.store.at_rest.LOOK", 0.01)
+        self.patch("pgsub_connect.store.asking.STEP", 0.01)
         self.store.table(1, "t")
         self.store.row(1, "1", "x")
         self.made = {"copy.db", "copy.db.connector"}
@@ -55,7 +57,7 @@ class Case(StoreCase):
         return ExportSettings(**chosen)
 
     def left(self) -> set[str]:
-        return set(os.listdir(self.folder)) - self.made
+        return set(os.listdir(self.folder)) - self.made - {"copy.db.sock"}
 
     @contextlib.contextmanager
     def locked(self) -> Iterator[None]:
@@ -66,11 +68,14 @@ class Case(StoreCase):
 
     def follow(self, position: int = 0x130) -> None:
         """What a follower does for requests."""
-        snapshots = Snapshots(self.path, None, 0.0)
-        while not self.ended.wait(0.005):
+        requests = RequestSocket(self.path)
+        snapshots = Snapshots(self.path, requests, None, 0.0)
+        while not self.ended.is_set():
+            requests.rest(0.02)
             if snapshots.is_due(position):
                 snapshots.take(position, never)
         snapshots.wait()
+        requests.close()
 
     @contextlib.contextmanager
     def followed(self, position: int = 0x130) -> Iterator[None]:
@@ -82,6 +87,15 @@ class Case(StoreCase):
             finally:
                 self.ended.set()
                 thread.join()
+
+    @contextlib.contextmanager
+    def asker(self) -> Iterator[Asker]:
+        """Another program, that is connected."""
+        until = time.monotonic() + 20
+        while not os.path.exists(self.path + ".sock") and time.monotonic() < until:
+            time.sleep(0.005)
+        with contextlib.closing(Asker(self.path)) as asker:
+            yield asker
 
     def rows(self) -> list[tuple[object, ...]]:
         with contextlib.closing(sqlite3.connect(self.into)) as base:
@@ -142,7 +156,7 @@ class Held(Case):
         with logged():
             export.export_store(settings, never)
             self.assertEqual(self.rows(), [(1, "x"), (2, "y")])
-            snapshots = Snapshots(settings.store, self.folder + "/snapshot.db", 0.0)
+            snapshots = snapshots_of(self, settings.store, self.folder + "/snapshot.db")
             snapshots.take(0x130, never)
             snapshots.wait()
         with contextlib.closing(sqlite3.connect(self.folder + "/snapshot.db")) as base:
@@ -217,19 +231,12 @@ class Asked(Case):
         self.assertTrue(snapshot.is_snapshot(self.into))
 
     def test_one_after_the_other(self) -> None:
-        """Another request is there already."""
-        with open(self.path + ".request", "w") as file:
-            json.dump({"into": self.folder + "/other.db"}, file)
-        with self.followed(), logged():
+        """Another program has asked before."""
+        with self.followed(), logged(), self.asker() as asker:
+            asker.say(ask="copy", into=self.folder + "/other.db")
             export.export_store(self.settings(), never)
+            self.assertEqual(asker.heard(), [{"copied": "0/130"}])
         self.assertEqual(self.left(), {"rows.db", "other.db"})
-
-    def test_a_request_that_was_answered_by_an_error(self) -> None:
-        with open(self.path + ".request", "w") as file:
-            json.dump({"into": self.folder + "/other.db", "error": "No space left on device"}, file)
-        with self.followed(), logged():
-            export.export_store(self.settings(), never)
-        self.assertEqual(self.left(), {"rows.db"})
 
     def test_a_follower_that_cant(self) -> None:
         with self.followed(0x200), logged(), self.assertRaisesRegex(
@@ -253,35 +260,85 @@ class Asked(Case):
         self.assertEqual(self.left(), {"rows.db"})
 
     def test_a_follower_that_doesnt_answer(self) -> None:
+        requests = RequestSocket(self.path)
+        self.addCleanup(requests.close)
         with self.locked(), mock.patch.object(at_rest_module, "PATIENCE", 0.05), logged():
-            with self.assertRaisesRegex(Passing, "hasn't begun to copy it"):
+            with self.assertRaisesRegex(Passing, "its follower hasn't answered in 0 seconds"):
                 export.export_store(self.settings(), never)
-            self.assertEqual(self.left(), set())
-            with open(self.path + ".request", "w") as file:
-                json.dump({"into": self.folder + "/other.db"}, file)
-            with self.assertRaisesRegex(Passing, "another request waits"):
-                export.export_store(self.settings(), never)
-        self.assertEqual(self.left(), {"copy.db.request"})
-
-    def test_ended_by_a_signal(self) -> None:
-        with self.locked(), logged(), self.assertRaises(Passing):
-            export.export_store(self.settings(), mock.Mock(side_effect=[None, None, Stopped]))
         self.assertEqual(self.left(), set())
 
+    def test_a_follower_without_a_socket(self) -> None:
+        """One of an older version; but one that is about to begin is waited for."""
+        with self.locked(), mock.patch.object(at_rest_module, "STARTING", 0.05), logged():
+            with self.assertRaisesRegex(Passing, "is its follower of an older version"):
+                export.export_store(self.settings(), never)
+        with self.locked(), logged():
+            late = threading.Timer(0.1, self.follow)
+            late.start()
+            export.export_store(self.settings(), never)
+            self.ended.set()
+            late.join()
+        self.assertEqual(self.left(), {"rows.db"})
+
+    def test_a_socket_that_a_killed_follower_left(self) -> None:
+        """Its filter has the store for a moment."""
+        listening(self.path, 0o600).close()
+        with contextlib.ExitStack() as stack, logged():
+            stack.enter_context(self.locked())
+            calls = iter(range(1000))
+
+            def check() -> None:
+                if next(calls) == 3:
+                    stack.close()
+
+            export.export_store(self.settings(), check)
+        self.assertEqual(self.rows(), [(1, "x")])
+        with self.followed(), logged():
+            export.export_store(self.settings(), never)
+
+    def test_a_follower_that_is_killed(self) -> None:
+        """The connection ends, and the store is read where it is."""
+        requests, ended = RequestSocket(self.path), threading.Event()
+
+        def die() -> None:
+            while not requests.first():
+                requests.rest(0.02)
+                requests.tend()
+            requests.close()
+            listening(self.path, 0o600).close()
+            ended.set()
+
+        with contextlib.ExitStack() as stack, logged():
+            stack.enter_context(self.locked())
+            thread = threading.Thread(target=die)
+            thread.start()
+            export.export_store(self.settings(), lambda: stack.close() if ended.is_set() else None)
+            thread.join()
+        self.assertEqual((self.rows(), self.left()), ([(1, "x")], {"rows.db"}))
+
+    def test_ended_by_a_signal(self) -> None:
+        requests = RequestSocket(self.path)
+        self.addCleanup(requests.close)
+        with self.locked(), logged(), self.assertRaises(Passing):
+            export.export_store(self.settings(), mock.Mock(side_effect=[None, None, Stopped]))
+        requests.tend()
+        self.assertEqual((self.left(), requests.first()), (set(), None))
+
     def test_a_request_in_another_folder(self) -> None:
-        with open(self.path + ".request", "w") as file:
-            json.dump({"into": "/rows.db"}, file)
-        with self.followed():
-            until = time.monotonic() + 20
-            while (
-                "error" not in (found := at_rest_module.read_request(self.path + ".request"))
-                and time.monotonic() < until
-            ):
-                time.sleep(0.01)
-        self.assertEqual(
-            found,
-            {"into": "/rows.db", "error": "the copy has to be a new file in the store's folder"},
-        )
+        snapshots = snapshots_of(self, self.path)
+        for into in ("/rows.db", self.path, self.folder + "/new/rows.db"):
+            with asking(self.path, ask="copy", into=into) as asker:
+                self.assertFalse(snapshots.is_due(0x130))
+                self.assertEqual(
+                    asker.error(), "the copy has to be a new file in the store's folder"
+                )
+
+    def test_files_that_have_no_name(self) -> None:
+        snapshots = snapshots_of(self, self.path)
+        for into in (None, 5, "a\0b", "\ud800", [self.into], ""):
+            with asking(self.path, ask="copy", into=into) as asker:
+                self.assertFalse(snapshots.is_due(0x130))
+                self.assertRegex(asker.error(), "names no file|has to be a new file")
 
     def test_a_folder_by_another_name(self) -> None:
         with tempfile.TemporaryDirectory() as room:
@@ -359,7 +416,8 @@ class Taken(Case):
             )
 
     def test_on_another_disk(self) -> None:
-        with self.followed(), logged(), mock.patch(
+        # (the follower has its socket before)
+        with self.followed(), logged(), self.asker(), mock.patch(
             "os.rename", side_effect=OSError(18, "Invalid cross-device link")
         ):
             snapshot.copy_store(self.options(), never)
@@ -424,7 +482,7 @@ class Taken(Case):
 
     def test_a_journal_of_the_file_that_was_there(self) -> None:
         """Or of one that a killed process was making."""
-        snapshots = Snapshots(self.path, self.into, 0.0)
+        snapshots = snapshots_of(self, self.path, self.into)
         for path in (self.into, self.into + ".pgsub-new"):
             self.leave_journal(path)
             with logged() as told:
@@ -443,7 +501,7 @@ class Taken(Case):
     def test_a_follower_s_copy_that_a_link_leads_to(self) -> None:
         os.mkdir(self.folder + "/far")
         os.symlink("far/rows.db", self.into)
-        snapshots = Snapshots(self.path, self.into, 0.0)
+        snapshots = snapshots_of(self, self.path, self.into)
         for _ in range(2):
             with logged() as told:
                 snapshots.take(0x130, never)
@@ -456,7 +514,7 @@ class Taken(Case):
     def test_a_follower_s_copy_beside_files_of_others(self) -> None:
         kept = ["rows.db.new", "copy.db.export.20261101", "copy.db.export.20261125093000"]
         self.left_after(self.into, kept)
-        snapshots = Snapshots(self.path, self.into, 0.0)
+        snapshots = snapshots_of(self, self.path, self.into)
         with logged():
             snapshots.take(0x130, never)
             snapshots.wait()

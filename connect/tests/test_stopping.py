@@ -21,6 +21,8 @@ import unittest
 from collections.abc import Callable
 from pathlib import Path
 
+from pgsub_connect.follow.request_socket import RequestSocket
+
 from .feeds import FeedCase, insert
 from .stores import StoreCase
 
@@ -202,15 +204,22 @@ class Exports(StoreCase, Case):
         self.assertEqual((status, os.path.exists(new)), (7, False), said)
         self.assertIn("ended before", said)
 
-    def test_a_pipe_in_the_place_of_a_request(self) -> None:
+    def test_a_follower_that_says_nothing(self) -> None:
+        """A signal is heard at once."""
         self.store.close()
-        os.mkfifo(self.path + ".request")
+        requests = RequestSocket(self.path)
+        self.addCleanup(requests.close)
         with open(self.path + ".connector", "w") as file:
             fcntl.flock(file, fcntl.LOCK_EX)
             child = self.export()
-            asked = f"{self.path}.export.pgsub-{child.pid}.request"
-            status, said = self.ends(child, lambda: os.path.exists(asked))
-        self.assertEqual((status, os.path.exists(asked)), (7, False), said)
+
+            def is_asked() -> bool:
+                requests.tend()
+                return requests.first() is not None
+
+            status, said = self.ends(child, is_asked)
+        self.assertEqual(status, 7, said)
+        self.assertEqual([it for it in os.listdir(self.folder) if "export" in it], [], said)
 
 
 if __name__ == "__main__":

@@ -15,8 +15,10 @@ import argparse
 import contextlib
 import fcntl
 import importlib
+import json
 import os
 import signal
+import socket
 import subprocess
 import sys
 import tempfile
@@ -25,18 +27,6 @@ from pathlib import Path
 
 CONNECT = Path(__file__).resolve().parents[2] / "connect"
 NOBODY = 65534
-# Runs the connector, which stops for a moment once it has made a request's file.
-SLOW = """
-import fcntl, sys, time
-sys.path.insert(0, {house!r})
-real = fcntl.flock
-def slow(file, how):
-    real(file, how)
-    time.sleep({seconds})
-fcntl.flock = slow
-from pgsub_connect.cli import main
-sys.exit(main(sys.argv[1:]))
-"""
 
 
 class Wrong(Exception):
@@ -71,15 +61,6 @@ class Place:
             said = self.victim.read_text()[:50]
             raise Wrong(f"root's file is of {about.st_uid}:{about.st_gid} and has {said!r}")
 
-    def run(self, code: str, *words: str, seconds: float = 0.0) -> subprocess.Popen[bytes]:
-        made = code.format(house=str(CONNECT), seconds=seconds)
-        return subprocess.Popen(
-            [sys.executable, "-c", made, *words],
-            stdin=subprocess.DEVNULL,
-            stdout=subprocess.PIPE,
-            stderr=subprocess.STDOUT,
-        )
-
 
 @contextlib.contextmanager
 def as_nobody(call: Callable[[], None]) -> Iterator[None]:
@@ -102,41 +83,65 @@ def as_nobody(call: Callable[[], None]) -> Iterator[None]:
         os.waitpid(child, 0)
 
 
-def given_away(place: Place, tries: int) -> None:
-    """A link takes the place of a request before that is given to the store's account."""
+def asks(place: Place) -> tuple[int, str]:
+    """Has root export the store, which is followed. Its status, and what it says."""
+    into = place.secret / "rows.db"
+    words = [str(CONNECT / "pgsub-connect"), "export", "--store", str(place.store)]
+    done = subprocess.run(
+        [*words, "--into", str(into)], stdin=subprocess.DEVNULL, capture_output=True, timeout=60
+    )
+    if into.exists():
+        raise Wrong("root has rows that no follower has copied")
+    return done.returncode, done.stderr.decode(errors="replace")
 
-    def plant() -> None:
-        for it in place.folder.iterdir():
-            if ".export.pgsub-" in it.name and it.name.endswith(".request") and not it.is_symlink():
-                it.unlink()
-                it.symlink_to(place.victim)
 
+@contextlib.contextmanager
+def followed(place: Place) -> Iterator[None]:
+    """As while the other account follows into the store."""
     checkpoint = place.store.with_name("copy.db.connector")
-    with open(checkpoint, "w") as lock, as_nobody(plant):
+    with open(checkpoint, "w") as lock:
         os.chown(checkpoint, NOBODY, NOBODY)
         fcntl.flock(lock, fcntl.LOCK_EX)
-        for number in range(tries):
-            # (the first times it is certain to be in time)
-            child = place.run(
-                SLOW,
-                "export",
-                "--store",
-                str(place.store),
-                "--into",
-                str(place.secret / "rows.db"),
-                seconds=0.2 if number < 2 else 0.0,
-            )
-            # (it tells so once the request is there)
-            assert child.stdout
-            said = child.stdout.readline()
-            child.send_signal(signal.SIGTERM)
-            more, _ = child.communicate(timeout=30)
-            if b"its follower is asked for a copy" not in said:
-                raise Wrong(f"no request was made: {(said + more).decode(errors='replace')}")
-            for it in place.folder.glob("copy.db.*request"):
-                it.unlink()
-            place.check()
+        yield
     checkpoint.unlink()
+
+
+def answered(place: Place, tries: int) -> None:
+    """The other account answers root, and puts a link in the place of the copy."""
+    made = socket.socket(socket.AF_UNIX)
+    made.bind(str(place.folder / "copy.db.sock"))
+    os.chown(place.folder / "copy.db.sock", NOBODY, NOBODY)
+
+    def answer() -> None:
+        # (the one that listens is the one whose account root sees)
+        made.listen()
+        client, _ = made.accept()
+        with client:
+            asked = json.loads(client.makefile().readline())
+            os.symlink(place.victim, asked["into"])
+            client.sendall(b'{"copied": "0/130"}\n')
+
+    with made, followed(place), as_nobody(answer):
+        for _ in range(tries):
+            status, said = asks(place)
+            if status != 3 or "a link in the place of a copy" not in said:
+                raise Wrong(f"status {status}: {said}")
+            place.check()
+
+
+def misled(place: Place, tries: int) -> None:
+    """A link to another socket of root's takes the place of the follower's."""
+    with socket.socket(socket.AF_UNIX) as other, followed(place):
+        other.bind(str(place.secret / "sock"))
+        other.listen()
+        other.settimeout(0.1)
+        (place.folder / "copy.db.sock").symlink_to(place.secret / "sock")
+        status, said = asks(place)
+        if status != 3 or "not a socket" not in said:
+            raise Wrong(f"status {status}: {said}")
+        with contextlib.suppress(TimeoutError):
+            other.accept()
+            raise Wrong("root asked another socket")
 
 
 def linked(place: Place, tries: int) -> None:
@@ -217,7 +222,7 @@ def main() -> int:
         print("passed over: it needs the rights of root\n0 passed, 0 failed")
         return 0
     failed = 0
-    cases = (given_away, linked, locked)
+    cases = (answered, misled, linked, locked)
     for case in cases:
         with tempfile.TemporaryDirectory(prefix="hostile-") as folder:
             os.chmod(folder, 0o755)

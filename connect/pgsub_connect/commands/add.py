@@ -1,8 +1,8 @@
 """`pgsub-connect add`: has the follower of a store copy tables anew beside what it follows, as the
 module `add.adder` says.
 
-What is wanted is noted in `STORE.tables`: by the follower, which is asked for it by the request
-file, or here, where none runs. The follower goes on with it whatever becomes of who asked.
+What is wanted is noted in `STORE.tables`: by the follower, which is asked for it by its socket, or
+here, where none runs. The follower goes on with it whatever becomes of who asked.
 """
 
 from __future__ import annotations
@@ -18,7 +18,6 @@ from types import MappingProxyType
 
 from pgsub_feed import log
 from pgsub_feed.errors import Passing, Stopped
-from pgsub_feed.files import own_name, remove, remove_files
 from pgsub_feed.interruption import Check
 from pgsub_feed.program import check_signals
 from pgsub_feed.texts import counted
@@ -32,7 +31,7 @@ from ..server.publication_setup import names_of
 from ..server.publications import published_tables
 from ..server.session import settle
 from ..server.subscription import Subscription
-from ..store.at_rest import LOOK, check_there, is_followed, put_request, read_request
+from ..store.at_rest import check_there, follower_of, is_followed
 from ..store.checkpoint_at_rest import locked, read_known
 from .arguments.exit_status import ADDED
 from .arguments.files import check_files, use_mode
@@ -145,31 +144,15 @@ def add(
 
 def ask(store: str, check: Check, **oids: list[int]) -> bool:
     """Asks the follower. Returns false where it has ended meanwhile."""
-    request, into = store + ".request", os.path.abspath(own_name(store + ".export"))
-    file = put_request(store, request, into, check, **oids)
-    if file is None:
+    asking = follower_of(store, check)
+    if asking is None:
         return False
-    try:
-        until = time.monotonic() + PATIENCE
-        while (
-            (found := read_request(request)).get("into") == into
-            or os.path.exists(request)
-            and not found
-        ):
-            if "error" in found:
-                raise ServerError(f"{store}: its follower adds none: {found['error']}", "42")
-            if not is_followed(store):
-                return False
-            if time.monotonic() > until:
-                raise Passing(f"{store}: its follower hasn't answered in {PATIENCE:.0f} seconds")
-            check()
-            time.sleep(LOOK)
-    finally:
-        if read_request(request).get("into") == into:
-            remove(request)
-        os.close(file)
-        remove_files(into)
-    return True
+    with contextlib.closing(asking):
+        asking.say(ask="add", **oids)
+        answer = asking.answer(PATIENCE)
+    if answer and "error" in answer:
+        raise ServerError(f"{store}: its follower adds none: {answer['error']}", "42")
+    return answer is not None
 
 
 def noted(store: str, mode: int, adds: list[int], removes: list[int]) -> bool:

@@ -21,8 +21,10 @@ from ..drift.tolerance import Tolerance
 from ..errors import MISSED
 from ..follow.feed import Feeding
 from ..follow.follower import Follower
+from ..follow.request_socket import RequestSocket
 from ..follow.server_watch import Asker
 from ..follow.settings import FollowSettings
+from ..follow.snapshots import Snapshots
 from ..record.recording import LONGEST, Aside, Recording
 from ..server import transport
 from ..server.followed_publications import require_published
@@ -33,7 +35,7 @@ from ..status.progress import Progress
 from ..store.checkpoint import Checkpoint
 from ..store.checkpoint_lines import FOLLOWING
 from ..store.placing import check_meant
-from ..store.snapshot import Snapshots, part_of
+from ..store.snapshot import part_of
 from ..stream.filter import Filter
 from .arguments import exit_status
 from .arguments.feed import FeedOptions, add_feed, check_feed
@@ -258,6 +260,7 @@ class Parts:
     feeding: Feeding
     recording: Aside | None
     child: Filter
+    requests: RequestSocket
     snapshots: Snapshots
     copier: Copier
     follower: Follower
@@ -270,22 +273,22 @@ class Parts:
             self.recording.flush()
         for it in self.threads:
             it.finish()
+        self.requests.close()
 
 
 def made(options: Options, check: Check) -> Parts:
     """Makes all that takes part; nothing runs yet."""
     store, mode = options.store, options.mode
-    checkpoint = Checkpoint(store, check)
-    transport.OWN.begin(checkpoint.known.encrypted, options.accept)
+    checkpoint = checkpoint_of(options, check)
     subscription, tolerance = options.subscription(), Tolerance(options.accept, options.strict)
     progress, remembered = Progress(notifier_of(os.environ)), Remembered(store, mode)
     settings = options.feed_settings(store, mode)
     feeding = Feeding(settings, subscription, tolerance, checkpoint, progress, remembered)
     feeding.check()
-    recording = recording_of(options)
     part, child = (make_filter(options, checkpoint, it) for it in (part_of(store), store))
     copier = Copier(options.copy_settings(), subscription, checkpoint, part, progress, remembered)
-    snapshots = Snapshots(store, options.snapshot, options.snapshot_every, mode)
+    recording, requests = recording_of(options), RequestSocket(store, mode)
+    snapshots = Snapshots(store, requests, options.snapshot, options.snapshot_every, mode)
     follower = Follower(
         options.follow_settings(),
         subscription,
@@ -307,11 +310,19 @@ def made(options: Options, check: Check) -> Parts:
         feeding,
         recording,
         child,
+        requests,
         snapshots,
         copier,
         follower,
         threads_of(options, subscription, progress),
     )
+
+
+def checkpoint_of(options: Options, check: Check) -> Checkpoint:
+    """Opens and locks it. From here on a session is judged by what it says of the earlier ones."""
+    checkpoint = Checkpoint(options.store, check)
+    transport.OWN.begin(checkpoint.known.encrypted, options.accept)
+    return checkpoint
 
 
 def recording_of(options: Options) -> Aside | None:
@@ -346,7 +357,8 @@ def follow_with(options: Options, parts: Parts) -> None:
     elif options.table or options.all_tables:
         wanted = options.wanted(options.publication)
         require_published(parts.subscription, wanted, follower.check_stop)
-    parts.feeding.begin(parts.child, follower.confirming.stored, follower.check_stop)
+    stored, wake = follower.confirming.stored, parts.requests.wake
+    parts.feeding.begin(parts.child, stored, follower.check_stop, wake)
     follower.run()
 
 

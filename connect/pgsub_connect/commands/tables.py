@@ -6,15 +6,14 @@ from __future__ import annotations
 import argparse
 import dataclasses
 import os
-import select
 import sqlite3
 from collections.abc import Sequence
 
 from pgsub_feed import log
 from pgsub_feed.arguments import lsn, plain_name
-from pgsub_feed.errors import Stopped
 from pgsub_feed.interruption import Check
 from pgsub_feed.program import check_signals
+from pgsub_feed.reader.polling import Parent
 from pgsub_feed.reader.reading import Reading
 from pgsub_feed.tables.first_rows import check_file
 from pgsub_feed.tables.following import Wanted, keep
@@ -167,29 +166,18 @@ def settled(options: Options) -> Options:
     return options
 
 
-def ending_with_input(check: Check) -> Check:
-    """Ends as by a signal, too, once standard input has ended."""
-
-    def look() -> None:
-        check()
-        if select.select([0], [], [], 0)[0] and not os.read(0, 1 << 12):
-            raise Stopped
-
-    return look
-
-
 def run(options: Options) -> int:
     """Follows a feed; the exit status."""
     return follow_feed(settled(options), check_signals())
 
 
 def follow_feed(options: Options, check: Check) -> int:
-    if options.while_input:
-        check = ending_with_input(check)
+    parent = Parent(check) if options.while_input else None
+    check = parent.check if parent else check
     check_sqlite()
     check_file(options.into)
     try:
-        at, left = keep(options.wanted(), check)
+        at, left = keep(options.wanted(), check, parent)
     except sqlite3.Error as error:
         raise failed(error, options.into) from None
     log.info(f"{options.into}: the rows at {lsn_text(at)}")

@@ -1,4 +1,8 @@
-"""`pgsub-connect wait`: until the tables of a file have all that was committed up to an LSN."""
+"""`pgsub-connect wait`: until the tables of a file have all that was committed up to an LSN.
+
+The follower that keeps the tables tells it. Where they follow the feed by themselves, and where no
+follower runs, file and feed are looked at again and again.
+"""
 
 from __future__ import annotations
 
@@ -15,9 +19,11 @@ from pgsub_feed.interruption import Check
 from pgsub_feed.program import check_signals
 from pgsub_feed.reader.segments import Reader, read_confirmed
 from pgsub_feed.tables.position import read_position
+from pgsub_feed.tables.set_aside import store_at
 from pgsub_feed.tables.sqlite_files import is_tables
 from pgsub_feed.texts import lsn_text
 
+from ..store.asking import Asking
 from .arguments.exit_status import FED
 
 ABOUT = """\
@@ -26,6 +32,7 @@ wait until tables that follow a feed have all that was committed up to an LSN
 Who has written reads it by: SELECT pg_current_wal_insert_lsn(). It ends with status 0, or with 7 where that took too long.
 """
 ENDS = FED
+# How often file and feed are looked at, in seconds.
 LOOK = 0.02
 
 
@@ -78,6 +85,19 @@ class Awaited:
                 self.end = commit.end
 
 
+def is_told(path: str, feed: str | None, lsn: int, until: float, check: Check) -> bool:
+    """Waits for the follower that keeps the tables of a file to tell that they have all of that.
+    False where it can't be asked, or the time is over."""
+    store = store_at(os.path.abspath(feed or read_position(path)[1]))
+    if store:
+        with contextlib.suppress(OSError, FileError, Passing):
+            with contextlib.closing(Asking(store, check)) as asking:
+                asking.say(ask="wait", lsn=lsn_text(lsn), tables=os.path.abspath(path))
+                answer = asking.answer(until - time.monotonic())
+                return answer is not None and "reached" in answer
+    return False
+
+
 def run(options: Options) -> int:
     """Waits; the exit status."""
     wait(options, check_signals())
@@ -90,19 +110,26 @@ def wait(options: Options, check: Check) -> None:
         raise FileError(f"there is no file {path}")
     if not is_tables(path):
         raise FileError(f"{path} has no tables that follow a feed")
-    until = time.monotonic() + options.within
     try:
-        awaited = Awaited(path, options.feed, lsn)
-        while not awaited.is_there():
-            try:
-                check()
-            except Stopped:
-                raise Passing(f"ended before {path} has reached {lsn_text(lsn)}") from None
-            if time.monotonic() > until:
-                at = lsn_text(read_position(path)[0])
-                raise Passing(
-                    f"{path} is at {at}, and {lsn_text(lsn)} wasn't reached in {options.within:g} seconds"
-                )
-            time.sleep(LOOK)
+        if not waited(path, options.feed, lsn, time.monotonic() + options.within, check):
+            at = lsn_text(read_position(path)[0])
+            raise Passing(
+                f"{path} is at {at}, and {lsn_text(lsn)} wasn't reached in {options.within:g} seconds"
+            )
+    except Stopped:
+        raise Passing(f"ended before {path} has reached {lsn_text(lsn)}") from None
     except sqlite3.Error as error:
         raise FileError(f"{path}: {error}") from None
+
+
+def waited(path: str, feed: str | None, lsn: int, until: float, check: Check) -> bool:
+    """Waits until the tables have all of that; false where the time was over before."""
+    awaited = Awaited(path, feed, lsn)
+    while not awaited.is_there():
+        check()
+        if time.monotonic() > until:
+            return False
+        if is_told(path, feed, lsn, until, check):
+            return True
+        time.sleep(LOOK)
+    return True

@@ -20,18 +20,16 @@ from __future__ import annotations
 import contextlib
 import dataclasses
 import os
-import threading
 import time
 from collections.abc import Callable
 from typing import TYPE_CHECKING
 
 from pgsub_feed import log
-from pgsub_feed.errors import FileError, Passing, Unfit
+from pgsub_feed.errors import FileError, Unfit
 from pgsub_feed.faults import Damaged
-from pgsub_feed.files import replace_file
 from pgsub_feed.interruption import Check
 from pgsub_feed.reader.positions import make_folder
-from pgsub_feed.reader.segments import CONFIRMED, Reader, read_confirmed, segments
+from pgsub_feed.reader.segments import Reader, read_confirmed, segments
 from pgsub_feed.texts import counted, lsn_text
 
 from ..drift.remembered import Remembered
@@ -45,16 +43,15 @@ from ..store.snapshot import position_in
 from ..stream.filter import Filter
 from ..stream.filter_end import FilterEnded
 from ..stream.statuses import Reached
-from .retention import Limits, feed_bytes, read_readers, retire
+from .feed_keeper import Keeper
+from .retention import Limits
 from .tables_process import Beside, TablesSettings
 from .tables_process import check as check_tables
 
 if TYPE_CHECKING:
     from ..status.progress import Progress
 
-# How often what is confirmed is written where a keepalive alone has moved it, and else; how often
-# the readers are looked at, and how often old segments are looked for, in seconds.
-QUIET, BUSY, LOOK, RETIRE = 0.25, 1.0, 1.0, 10.0
+
 # How long a filter that is to end is waited for, before it is looked whether the end was asked for.
 STEP = 0.5
 # After how many seconds a store that can't be opened is tried again, in steps of how many.
@@ -82,6 +79,9 @@ class FeedSettings:
     max_age: float | None = None
     tables: TablesSettings | None = None
 
+    def limits(self) -> Limits:
+        return Limits(self.max_bytes or None, self.max_age)
+
 
 class Feeding:
     """The folder. Nothing is written there before a filter has opened the feed."""
@@ -102,6 +102,8 @@ class Feeding:
         self.beside: Beside | None = None
         # what the tables are to have before the follower ends by itself
         self.wanted: int | None = None
+        # the end of the last commit of which the tables were told
+        self.told: int | None = None
 
     def check(self) -> None:
         """Rejects a folder that can't have the store's feed, before anything is made; and makes the
@@ -150,8 +152,11 @@ class Feeding:
         except OSError as error:
             raise FileError(f"--feed {self.settings.folder}: {error.strerror}") from None
 
-    def begin(self, child: Filter, reached: Callable[[], Reached], check: Check) -> None:
-        """Notes the folder with the copy, and tells the filter of it."""
+    def begin(
+        self, child: Filter, reached: Callable[[], Reached], check: Check, wake: Callable[[], None]
+    ) -> None:
+        """Notes the folder with the copy, and tells the filter of it. `wake` has the main loop look
+        what the tables have said."""
         if not self.folder:
             if self.remembered.feed:
                 log.warning(
@@ -166,9 +171,11 @@ class Feeding:
         self.check_position(child, check)
         self.remembered.note_feed(self.folder)
         child.add_words(self.words(check))
-        self.keeper = Keeper(self.settings, self.folder, self.progress, reached)
+        self.keeper = Keeper(
+            self.folder, self.settings.limits(), self.settings.mode, self.progress, reached
+        )
         if self.settings.tables:
-            self.beside = Beside(self.settings.tables, self.progress)
+            self.beside = Beside(self.settings.tables, self.progress, wake)
 
     def check_position(self, child: Filter, check: Check) -> None:
         """Rejects an older store, before a filter cuts off what the feed has above the store's
@@ -239,6 +246,14 @@ class Feeding:
             if it and it.ident is None:
                 it.start()
 
+    def tell(self, reached: Reached) -> None:
+        """Tells those that read the feed what the store has now, and so the feed."""
+        if self.keeper:
+            self.keeper.changed.set()
+        if self.beside and reached.position != self.told:
+            self.told = reached.position
+            self.beside.tell()
+
     def is_read(self, position: int) -> bool:
         """Whether the tables have what the store had when this was asked first. One that is to end
         by itself waits for that."""
@@ -307,93 +322,3 @@ def opened_at(child: Filter, check: Check) -> int | None:
         while time.monotonic() < until:
             check()
             time.sleep(SLEEP)
-
-
-class Keeper(threading.Thread):
-    """Writes what is confirmed, looks after the readers, and removes old segments."""
-
-    def __init__(
-        self,
-        settings: FeedSettings,
-        folder: str,
-        progress: Progress,
-        reached: Callable[[], Reached],
-    ) -> None:
-        super().__init__(daemon=True)
-        self.folder, self.progress, self.reached, self.mode = (
-            folder,
-            progress,
-            reached,
-            settings.mode,
-        )
-        self.limits = Limits(settings.max_bytes or None, settings.max_age)
-        self.ended = threading.Event()
-        # why what can't be done now can't be
-        self.causes = dict[str, str]()
-        # what was written last, and when; when the readers were looked at, and segments looked for
-        self.confirmed, self.written = -1, 0.0
-        self.looked = self.retired = 0.0
-
-    def run(self) -> None:
-        while not self.ended.wait(QUIET):
-            self.tend(time.monotonic())
-
-    def finish(self) -> None:
-        """Ends the thread, and notes what is there at the end."""
-        self.ended.set()
-        self.join()
-        self.written = self.looked = -BUSY
-        self.tend(time.monotonic())
-
-    def tend(self, now: float) -> None:
-        """Does what it is time for. First old segments go, since a disk that is full may have room
-        by that."""
-        reached = self.reached()
-        if now - self.retired >= RETIRE:
-            self.retired = now
-            self.attempt(self.retire, reached)
-        if now - self.looked >= LOOK:
-            self.looked = now
-            self.attempt(self.look, reached)
-        wait = QUIET if reached.confirmed > reached.position else BUSY
-        if reached.confirmed != self.confirmed and now - self.written >= wait:
-            self.written = now
-            self.attempt(self.confirm, reached)
-
-    def attempt(self, step: Callable[[Reached], None], reached: Reached) -> None:
-        """Does one of these. What can't be done is told, once for each cause, and is tried again;
-        the others are done."""
-        try:
-            step(reached)
-            self.causes.pop(step.__name__, None)
-        except (FileError, Passing, OSError) as error:
-            cause = str(error)
-            if cause not in self.causes.values():
-                log.warning(f"the feed can't be looked after: {cause}")
-            self.causes[step.__name__] = cause
-
-    def confirm(self, reached: Reached) -> None:
-        """Tells readers up to where the feed has all commits: the disk has these since before the
-        filter said so."""
-        if self.confirmed < 0:
-            self.confirmed = read_confirmed(self.folder) or 0
-        if reached.confirmed != self.confirmed:
-            replace_file(
-                os.path.join(self.folder, CONFIRMED),
-                f"{lsn_text(reached.confirmed)}\n".encode(),
-                self.mode,
-            )
-            self.confirmed = reached.confirmed
-
-    def look(self, reached: Reached) -> None:
-        """Shows how far behind each reader is, and how large the feed."""
-        self.progress.feed.note(read_readers(self.folder), feed_bytes(self.folder))
-
-    def retire(self, reached: Reached) -> None:
-        gone = retire(self.folder, self.limits, reached.position, time.time())
-        if gone.segments:
-            log.info(f"removed {counted(gone.segments, 'segment')} of the feed {self.folder}")
-        for name in sorted(gone.readers):
-            log.warning(
-                f"the reader {name} hadn't read all of that, and has to begin anew: the feed may have {self.limits.most_bytes} bytes"
-            )

@@ -102,10 +102,10 @@ class FilterLife:
         finally:
             self.confirming.note_missing(statuses)
 
-    def serve_alone(self, seconds: float) -> None:
-        """Serves the filter while no session is open."""
+    def serve_alone(self, seconds: float, reads: Sequence[int]) -> None:
+        """Serves the filter while no session is open, until one of these can be read at most."""
         try:
-            self.confirming.note_statuses(self.serve(seconds)[2])
+            self.confirming.note_statuses(self.serve(seconds, reads)[2])
         except FilterEnded as ended:
             self.note_end(ended)
 

@@ -16,7 +16,6 @@ from ..server.publications import with_cure
 from ..server.subscription import Subscription
 from ..status.progress import Progress
 from ..store.checkpoint import Checkpoint
-from ..store.snapshot import Snapshots
 from ..stream.filter import Filter
 from ..stream.filter_end import FilterEnded
 from ..stream.missed_rows import Misses
@@ -34,6 +33,7 @@ from .schedule import Delay, Schedule
 from .session import Session
 from .session_start import Recording, SessionStart
 from .settings import FollowSettings
+from .snapshots import Snapshots
 from .stall import Standing
 from .stream_form import StreamForm
 from .upkeep import Upkeep
@@ -164,7 +164,7 @@ class Follower:
         """Waits before the next session, each time longer, and serves the filter meanwhile."""
         if self.delay.take_renewed():
             return
-        until = time.monotonic() + self.delay.next()
+        until, socket = time.monotonic() + self.delay.next(), self.requests.socket
         if not self.ending.is_asked:
             self.progress.enter("waiting to connect again")
         while not self.ending.is_asked and (
@@ -173,7 +173,7 @@ class Follower:
             self.progress.beat()
             self.requests.holds_for_copy()
             if self.life.filter.is_running():
-                self.life.serve_alone(min(left, STEP) if left > 0 else STEP)
+                self.life.serve_alone(min(left, STEP) if left > 0 else STEP, [socket.fileno()])
                 self.life.tend_misses()
             else:
-                time.sleep(max(0.0, min(left, SLEEP)))
+                socket.rest(max(0.0, min(left, SLEEP)))

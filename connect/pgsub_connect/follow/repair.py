@@ -49,11 +49,12 @@ from ..stream.messages import EPOCH, relation_of
 if TYPE_CHECKING:
     from ..drift.remembered import Remembered
     from ..store.checkpoint import Checkpoint
-    from ..store.snapshot import Snapshots
     from ..stream.statuses import Confirming
     from ..stream.stream_log import Noting
     from .drift_watch import Watch
+    from .snapshots import Snapshots
     from .stream_form import StreamForm
+
 
 # How many bytes of the file are passed on at a time.
 BLOCK = 1 << 17
@@ -237,7 +238,7 @@ class Repairing:
         log.info(
             f"rows of {counted(len(tables), 'table')} were repaired as of {lsn_text(hold.point)}"
         )
-        self.snapshots.answer(hold.into, None)
+        self.snapshots.end(repaired=lsn_text(hold.point))
         hold.end()
         self.ends_session = True
         self.watch.show()
@@ -247,5 +248,5 @@ class Repairing:
         to wait for it."""
         log.warning(f"no row is repaired: {why}")
         assert self.hold.into
-        self.snapshots.reject(self.hold.into, why, lasts, delays)
+        self.snapshots.reject(why, lasts, delays)
         self.hold.end()

@@ -9,11 +9,12 @@ from pgsub_feed.errors import Stopped
 
 from ..add.adder import Adder
 from ..server.subscription import Subscription
-from ..store.snapshot import Snapshots
 from ..stream.gate import WAITED, Gating
 from .ending import Ending
 from .repair import Repairing
+from .snapshots import Snapshots
 from .upkeep import Upkeep
+from .waits import Waits
 
 
 class Requests:
@@ -28,13 +29,16 @@ class Requests:
         upkeep: Upkeep,
         ending: Ending,
     ) -> None:
-        self.snapshots, self.hold = snapshots, snapshots.hold
+        self.snapshots, self.hold, self.socket = snapshots, snapshots.hold, snapshots.requests
         self.adder, self.repairing, self.upkeep, self.ending = adder, repairing, upkeep, ending
         self.filter, self.confirming = upkeep.filter, upkeep.confirming
         self.progress = upkeep.life.progress
         self.gating = Gating(
             subscription, self.progress, self.hold, upkeep.serve_server, self.let_go
         )
+        self.waits = Waits(self.socket, self.confirming.stored, upkeep.life.feeding)
+        # the filter's status of which those who read beside the follower were told
+        self.told = b""
 
     def begin_session(self, streams: bool) -> bool:
         """A session begins. Returns whether it has to be one of whole transactions."""
@@ -69,7 +73,9 @@ class Requests:
         """
         if self.ending.is_asked:
             return False
-        if not self.snapshots.is_due(self.confirming.position):
+        is_due = self.snapshots.is_due(self.confirming.position)
+        self.tell_readers()
+        if not is_due:
             return self.hold.stops()
         if self.filter.is_running() and not self.confirming.is_stored():
             return True
@@ -83,6 +89,15 @@ class Requests:
         self.progress.enter(state)
         return self.hold.stops()
 
+    def tell_readers(self) -> None:
+        """Tells those who read beside the follower what the store has now."""
+        if self.filter.status is not self.told:
+            self.told = self.filter.status
+            self.confirming.forget_confirmed(self.filter.confirmed())
+            if feeding := self.upkeep.life.feeding:
+                feeding.tell(self.confirming.stored())
+        self.waits.tend()
+
     def serve_copy(self) -> None:
         """Keeps the server content while the store is copied. Ends one for which commits have
         waited for too long."""
@@ -95,7 +110,7 @@ class Requests:
         if self.hold.keeps:
             self.repairing.give_up(why, False, delays=True)
         elif self.hold.into:
-            self.snapshots.answer(self.hold.into, why)
+            self.snapshots.reject(why)
             self.hold.end()
         else:
             self.adder.let_go(why)

@@ -7,7 +7,6 @@ import time
 
 from ..errors import ServerError
 from ..status.progress import Progress
-from ..store.snapshot import SOON
 from ..stream.awake import NEEDED, Awake, processors
 from ..stream.gate import LOOK as GATE
 from ..stream.hold import Hold
@@ -71,8 +70,6 @@ class Schedule:
         wait = 0.0 if has_more else self.heartbeat - (time.monotonic() - confirming.last_sent)
         if confirming.held:
             wait = min(wait, confirming.quiet() - (time.monotonic() - confirming.last_moved))
-        if self.hold.into:
-            wait = min(wait, SOON)
         if self.hold.is_gated():
             wait = min(wait, GATE)
         return max(0.0, min(wait, STEP))

@@ -89,9 +89,10 @@ class Session:
         already. Returns that anew, None after the end."""
         room = not self.requests.holds_for_copy() and self.filter.has_room()
         listens, socket = time.monotonic(), connection.socket()
+        asked = self.requests.socket.fileno()
         readable, writable, statuses = self.life.serve(
             self.schedule.longest_wait(bool(more) and room),
-            [socket] if room else [],
+            [asked, socket] if room else [asked],
             [socket] if connection.unsent else [],
             self.schedule.awake(),
         )

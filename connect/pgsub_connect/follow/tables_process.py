@@ -4,6 +4,13 @@ from whose feed it reads.
 It begins with a copy of the store, for which it asks the follower as any other program does. It is
 a reader of the feed with a name, so that the feed has what it lacks. It ends with the follower: a
 signal ends it, and where the follower is killed, the end of its input.
+
+| Line of its input | Means |
+|---|---|
+| empty | the feed has more: until then it sleeps |
+| an LSN | once the tables are at this LSN, theirs is to be told |
+
+What it tells is a line of its output, with an LSN.
 """
 
 from __future__ import annotations
@@ -17,12 +24,15 @@ import subprocess
 import sys
 import threading
 import time
+from collections.abc import Callable
+from typing import IO
 
 from pgsub_feed import log
 from pgsub_feed.errors import FileError, Unfit
 from pgsub_feed.reader.positions import READERS
 from pgsub_feed.tables.set_aside import shown_asides
 from pgsub_feed.tables.sqlite_files import is_tables, opened
+from pgsub_feed.texts import lsn_text, parse_lsn
 
 from ..status.progress import Progress
 from ..stream.filter import KEPT
@@ -99,8 +109,16 @@ class Beside(threading.Thread):
 
     child: subprocess.Popen[bytes] | None
 
-    def __init__(self, settings: TablesSettings, progress: Progress) -> None:
+    def __init__(
+        self,
+        settings: TablesSettings,
+        progress: Progress,
+        wake: Callable[[], None] = lambda: None,
+    ) -> None:
         super().__init__(daemon=True)
+        self.wake = wake
+        # the LSN that the tables have told, and the LSNs at which they are to tell theirs
+        self.at, self.asked = 0, set[int]()
         self.path, self.progress, self.words = settings.path, progress, words_of(settings)
         self.reader = os.path.join(settings.feed, READERS, READER)
         self.child = None
@@ -134,34 +152,69 @@ class Beside(threading.Thread):
         with self.lock:
             if self.ended.is_set():
                 return 0
-            environment = {
-                name: value
-                for name, value in os.environ.items()
-                if name in KEPT or name.startswith("PYTHON")
-            }
-            # (a session of its own: an interrupt at the terminal is for the follower, which ends
-            # it)
             try:
-                child = subprocess.Popen(
-                    self.words,
-                    stdin=subprocess.PIPE,
-                    stdout=subprocess.DEVNULL,
-                    stderr=subprocess.PIPE,
-                    start_new_session=True,
-                    env=environment,
-                )
+                child = self.launched()
             except OSError as error:
                 # (processes or memory may be too few)
                 log.warning(f"{self.path}: what follows can't be started now: {error.strerror}")
                 return PASSING
-            self.child = child
-        assert child.stderr and child.stdin
+            self.child, self.asked = child, set()
+        assert child.stdin and child.stdout and child.stderr
+        # (what is waited for is asked of this one too)
+        self.wake()
+        telling = threading.Thread(target=self.hear_positions, args=(child.stdout,), daemon=True)
+        telling.start()
         for line in child.stderr:
             self.hear(line.decode(errors="replace").rstrip("\n"))
+        telling.join()
         status = child.wait()
-        child.stdin.close()
+        with self.lock:
+            child.stdin.close()
+        child.stdout.close()
         child.stderr.close()
         return status
+
+    def launched(self) -> subprocess.Popen[bytes]:
+        """A process of it, whose input doesn't block. (A session of its own: an interrupt at the
+        terminal is for the follower, which ends it.)"""
+        kept = {
+            name: value
+            for name, value in os.environ.items()
+            if name in KEPT or name.startswith("PYTHON")
+        }
+        pipe = subprocess.PIPE
+        child = subprocess.Popen(
+            self.words, stdin=pipe, stdout=pipe, stderr=pipe, start_new_session=True, env=kept
+        )
+        assert child.stdin
+        os.set_blocking(child.stdin.fileno(), False)
+        return child
+
+    def hear_positions(self, said: IO[bytes]) -> None:
+        """Notes what the tables tell of their LSN."""
+        for line in said:
+            with contextlib.suppress(ValueError):
+                self.at = parse_lsn(line.decode(errors="replace").strip())
+            self.wake()
+
+    def tell(self, text: str = "") -> bool:
+        """Tells that the feed has more, or something else. Returns false where the pipe is full, so
+        that it is about to look anyway, or nothing runs."""
+        with self.lock, contextlib.suppress(OSError):
+            if self.child and self.child.stdin and not self.child.stdin.closed:
+                return os.write(self.child.stdin.fileno(), f"{text}\n".encode()) > 0
+        return False
+
+    def ask(self, lsn: int) -> None:
+        """Has the tables tell their LSN once it is this one or above."""
+        if lsn not in self.asked and self.tell(lsn_text(lsn)):
+            self.asked.add(lsn)
+
+    def is_of(self, path: object) -> bool:
+        """Whether these are the tables of a file."""
+        with contextlib.suppress(OSError, ValueError):
+            return isinstance(path, str) and os.path.samefile(path, self.path)
+        return False
 
     def hear(self, line: str) -> None:
         """Passes a line on, without its time and the name of this program."""

@@ -6,30 +6,29 @@ from __future__ import annotations
 import contextlib
 import errno
 import fcntl
-import json
 import os
 import sqlite3
 import struct
 import time
 from collections.abc import Iterator
-from typing import Any
 
 from pgsub_feed import log
 from pgsub_feed.errors import FileError, Passing
-from pgsub_feed.files import LOG, copy, own_name, remove, remove_files
+from pgsub_feed.files import LOG, copy, own_name, remove_files
 from pgsub_feed.interruption import Check
-from pgsub_feed.json_texts import Unreadable, object_of, parsed, read_plain
-from pgsub_feed.ownership import give, real
+from pgsub_feed.ownership import real
 from pgsub_feed.tables.sqlite_files import FULL
 
+from .asking import Asking
 from .checkpoint import has_name
 from .snapshot import NEW, fold, part_of
+from .socket_file import SUFFIX
 
 # Where SQLite, and so the program, locks a file: the bytes of its readers.
 SHARED_FIRST, SHARED_SIZE = 0x40000002, 510
-# How long a follower may take until it begins to copy, in seconds, and how often it is looked
-# after.
-PATIENCE = 300.0
+# How long a follower may take until it begins to copy, and until it has its socket, in seconds;
+# and how often that is looked for.
+PATIENCE, STARTING = 300.0, 10.0
 LOOK = 0.1
 
 
@@ -151,91 +150,48 @@ def hold(store: str) -> int:
 
 
 def ask(store: str, check: Check) -> str | None:
-    """Asks the follower for a copy by the request file, and waits for it. Returns None where the
-    follower has ended."""
-    request, into = store + ".request", os.path.abspath(own_name(store + ".export"))
-    try:
-        file = put_request(store, request, into, check)
-        if file is None:
-            return None
-        os.close(file)
-        log.info(f"{store} is being followed: its follower is asked for a copy")
-        return into if wait_for_copy(store, request, into, check) else None
-    except BaseException:
-        if read_request(request).get("into") == into:
-            remove(request)
-        remove_files(into)
-        raise
-
-
-def put_request(store: str, request: str, into: str, check: Check, **more: object) -> int | None:
-    """Makes the request's file, after those of others. Returns it, open and locked; None where the
-    follower has ended meanwhile."""
-    written = into + ".request"
-    remove(written)
-    file = os.open(written, os.O_WRONLY | os.O_CREAT | os.O_EXCL | os.O_CLOEXEC, 0o600)
-    try:
-        fcntl.flock(file, fcntl.LOCK_EX)
-        os.write(file, json.dumps({"into": into, **more}).encode())
-        if os.geteuid() == 0:
-            # (so that a follower of another account may answer)
-            give(file, os.stat(real(store)))
-        if link_request(store, written, request, check):
-            return os.dup(file)
+    """Asks the follower for a copy, and waits for it. Returns None where the follower has ended."""
+    into = os.path.abspath(own_name(store + ".export"))
+    asking = follower_of(store, check)
+    if asking is None:
         return None
-    finally:
-        os.close(file)
-        remove(written)
+    with contextlib.ExitStack() as failed:
+        failed.callback(remove_files, into)
+        with contextlib.closing(asking):
+            log.info(f"{store} is being followed: its follower is asked for a copy")
+            asking.say(ask="copy", into=into)
+            if not is_copied(asking, into):
+                return None
+        failed.pop_all()
+    return into
 
 
-def link_request(store: str, written: str, request: str, check: Check) -> bool:
-    """Gives a file the request's name, after those of others. Returns false where the follower has
-    ended meanwhile."""
-    until = time.monotonic() + PATIENCE
+def follower_of(store: str, check: Check) -> Asking | None:
+    """A connection to the follower of a store. None where it has ended meanwhile."""
+    began = time.monotonic()
     while is_followed(store):
-        with contextlib.suppress(FileExistsError):
-            os.link(written, request)
-            return True
-        if "error" in read_request(request):
-            # (whoever asked has gone)
-            remove(request)
-            continue
-        if time.monotonic() > until:
+        # (a follower that was killed has left a socket, and its filter has the store for a moment)
+        with contextlib.suppress(BlockingIOError, ConnectionRefusedError, FileNotFoundError):
+            return Asking(store, check)
+        waited = time.monotonic() - began
+        if waited > PATIENCE or waited > STARTING and not os.path.lexists(store + SUFFIX):
             raise Passing(
-                f"{request}: another request waits for the follower since {PATIENCE:.0f} seconds"
+                f"{store}: nobody answers at {store}{SUFFIX}: is its follower of an older version?"
             )
         check()
         time.sleep(LOOK)
-    return False
+    return None
 
 
-def wait_for_copy(store: str, request: str, into: str, check: Check) -> bool:
-    """Waits for a follower's answer. Returns false where it has ended without one."""
-    until = time.monotonic() + PATIENCE
-    while True:
-        found = read_request(request)
-        # (an empty one is being written)
-        if not os.path.exists(request) or found.get("into", into) != into:
-            if os.path.exists(into):
-                check_copied(into)
-                return True
-            raise Passing(f"{request}: the request is gone, and the copy isn't there")
-        if "error" in found:
-            raise Passing(f"{store}: its follower couldn't copy it: {found['error']}")
-        if "copied" in found:
-            # (the stream stays held)
-            check_copied(into)
-            return True
-        if not is_followed(store):
-            remove(request)
-            remove_files(into)
-            return False
-        if time.monotonic() > until and not os.path.exists(into + NEW):
-            raise Passing(
-                f"{store}: its follower hasn't begun to copy it in {PATIENCE:.0f} seconds"
-            )
-        check()
-        time.sleep(LOOK)
+def is_copied(asking: Asking, into: str) -> bool:
+    """Waits for a follower's copy. Returns false where it has ended without one."""
+    answer = asking.answer(PATIENCE, lambda: os.path.exists(into + NEW))
+    if answer is None:
+        return False
+    if "error" in answer:
+        raise Passing(f"{asking.store}: its follower couldn't copy it: {answer['error']}")
+    check_copied(into)
+    return True
 
 
 def check_copied(into: str) -> None:
@@ -244,6 +200,8 @@ def check_copied(into: str) -> None:
         raise FileError(
             f"{into}: a link in the place of a copy: the store's folder has to be its account's alone"
         )
+    if not os.path.exists(into):
+        raise Passing(f"{into}: the copy isn't there")
 
 
 def is_followed(store: str) -> bool:
@@ -251,11 +209,3 @@ def is_followed(store: str) -> bool:
     if file is not None:
         os.close(file)
     return file is None
-
-
-def read_request(path: str) -> dict[str, Any]:
-    """A request's fields; none where there is no request, or one that is being written."""
-    try:
-        return object_of(parsed(read_plain(path, follows=False)))
-    except (OSError, Unreadable):
-        return {}

@@ -12,12 +12,16 @@ from pgsub_feed.files import OF_FILE, meant
 from pgsub_feed.ownership import real
 
 from .snapshot import COPYING, NEW
+from .socket_file import SUFFIX
 
 # What follows a store's name in those of an initial copy's files.
 OF_COPY = (*(COPYING + it for it in OF_FILE), COPYING + NEW)
 # What follows it in those of all its own files, the checkpoint last: as long as it is there, a
-# start tells what is missing.
-OF_STORE = (*OF_COPY, NEW, *OF_FILE[1:], "", ".request", ".tables.new", ".tables", ".connector")
+# start tells what is missing. (`.request` is one of earlier versions of this program.)
+OF_STORE = (
+    *(*OF_COPY, NEW, *OF_FILE[1:], "", SUFFIX, ".request"),
+    *(".tables.new", ".tables", ".connector"),
+)
 Identity = str | tuple[int, int]
 
 

@@ -26,39 +26,33 @@ written later than each commit that the server has sent. Where commits at the se
 follower, it goes on up to a gate, as the module `stream.gate` says, which P is above. No frame is
 made up or left out, and statuses go on meanwhile.
 
-The request is a dialog in the file `STORE.request`, which is locked (flock) by whoever asks: with
-the lock goes the hold.
+Whoever asks says and is answered the following, in this order, by the socket of the module
+`store.asking`. With the connection goes the hold.
 
-| Field | Written by | Means |
+| Said | By | Means |
 |---|---|---|
-| `into` | verify | the file to copy to, as in any request |
-| `hold` | verify | for how many seconds at most the stream may be held until `point` is there |
+| `ask`, `into` | verify | `hold`, and the file to copy to, as in any request |
+| `seconds` | verify | for how many seconds at most the stream may be held until `point` is there |
 | `maker` | verify | the process at the server that makes the slot |
 | `standbys` | verify | the server's `synchronous_standby_names` |
 | `held` | the follower | nothing is passed on from now on; its position |
-| `point` | verify | P: the stream goes on up to there, then the copy is taken, and the request goes |
+| `point` | verify | P: the stream goes on up to there, then the copy is taken |
+| `copied` | the follower | the copy is there, and this is the end |
 
-Where rows are to be repaired, as the module `follow.repair` says, the request has `repair` from its
-beginning on, and the stream stays held:
+Where rows are to be repaired, as the module `follow.repair` says, the request has `repair`, and the
+stream stays held behind `copied`:
 
-| Field | Written by | Means |
+| Said | By | Means |
 |---|---|---|
-| `copied` | the follower | the copy is there |
-| `tables` | verify | of these tables, by OIDs, changes are in the file `into`.changes; once they are stored, the request goes |
+| `tables` | verify | of these tables, by OIDs, changes are in the file `into`.changes |
+| `ends` | verify | there are no changes |
+| `repaired` | the follower | these are stored |
 """
 
 from __future__ import annotations
 
-import contextlib
-import errno
-import fcntl
-import json
-import os
 import time
 from collections.abc import Sequence
-from typing import Any
-
-from pgsub_feed.json_texts import Unreadable, object_of, open_plain, parsed, read_whole
 
 from .messages import BEGIN, COMMIT, STREAM_COMMIT, final_lsn
 
@@ -106,6 +100,14 @@ class Hold:
     def open_to(self, gate: int) -> None:
         """What was committed below this LSN is passed on until the point is known."""
         self.gate, self.is_at_gate = gate, False
+
+    def begin_copy(self) -> None:
+        """The copy is taken now, which is the end unless it stays held."""
+        self.is_copied = self.keeps
+
+    def note_changes(self, tables: list[int]) -> None:
+        """The changes of these tables are to be passed on."""
+        self.tables = tables
 
     def is_gated(self) -> bool:
         """Whether the point isn't known, and what is below it for certain is passed on."""
@@ -185,65 +187,3 @@ def count_below(payloads: Sequence[bytes], point: int, is_inside: bool) -> int:
         elif not letter and not is_inside and int.from_bytes(payload[1:9], "big") >= point:
             return index
     return len(payloads)
-
-
-def read_locked(path: str) -> tuple[dict[str, Any], bool] | None:
-    """A request's fields, none where it is being written, and whether whoever asks is alive; None
-    where there is no request, or it is of another account."""
-    try:
-        file = open_plain(path, follows=False)
-    except (OSError, Unreadable):
-        return None
-    try:
-        is_own = os.fstat(file).st_uid in (os.geteuid(), 0)
-        return (read_fields(file), is_locked(file)) if is_own else None
-    except OSError:
-        return None
-    finally:
-        os.close(file)
-
-
-def read_fields(file: int) -> dict[str, Any]:
-    """An open request's fields; none where it is being written."""
-    try:
-        return object_of(parsed(read_whole(file)))
-    except Unreadable:
-        return {}
-
-
-def is_locked(file: int) -> bool:
-    """Whether another process has locked an open file for itself."""
-    try:
-        fcntl.flock(file, fcntl.LOCK_SH | fcntl.LOCK_NB)
-    except BlockingIOError:
-        return True
-    fcntl.flock(file, fcntl.LOCK_UN)
-    return False
-
-
-def write_request(path: str, **fields: object) -> None:
-    """Changes a request in place, so that its lock stays. One that is gone isn't made anew, and
-    nothing else is written that has its name."""
-    try:
-        file = os.open(path, os.O_WRONLY | os.O_NOFOLLOW | os.O_NONBLOCK | os.O_CLOEXEC)
-    except OSError as error:
-        if error.errno in (errno.ENOENT, errno.ELOOP, errno.ENXIO):
-            return
-        raise
-    try:
-        rewrite(file, fields)
-    finally:
-        os.close(file)
-
-
-def write_own_request(path: str, file: int, **fields: object) -> None:
-    """The same, of a request that is open here: whatever has its name by then stays."""
-    with contextlib.suppress(FileNotFoundError):
-        if os.path.samestat(os.lstat(path), os.fstat(file)):
-            rewrite(file, fields)
-
-
-def rewrite(file: int, fields: dict[str, object]) -> None:
-    """Puts an object into an open file."""
-    os.ftruncate(file, 0)
-    os.pwrite(file, json.dumps(fields).encode(), 0)

@@ -28,6 +28,7 @@ from ..store.checkpoint import MISSING, Checkpoint
 if TYPE_CHECKING:
     from .filter_end import Missing
 
+
 # After how many seconds more of them are told at the earliest.
 AGAIN = 10.0
 

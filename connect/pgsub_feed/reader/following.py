@@ -12,7 +12,7 @@ from ..faults import Damaged
 from ..interruption import Check
 from ..texts import lsn_text
 from .commits import Commit, Head, Part
-from .polling import Poll
+from .polling import Parent, Poll
 from .positions import Noted
 from .reading import Reading
 from .segments import Reader, read_confirmed
@@ -49,7 +49,7 @@ class Keeper(Protocol):
 
 class Following:
     """Follows a feed into what keeps it. `begin` is told what it is a feed of, before the first
-    commit."""
+    commit, and the parent, where there is one, what is settled."""
 
     def __init__(
         self,
@@ -58,11 +58,12 @@ class Following:
         check: Check,
         noted: Noted | None = None,
         begin: Callable[[Head], None] = lambda _: None,
+        parent: Parent | None = None,
     ) -> None:
         self.reading, self.keeper, self.check, self.noted = reading, keeper, check, noted
-        self.begin = begin
+        self.begin, self.parent = begin, parent
         self.reader = Reader(reading.feed, keeper.at)
-        self.poll = Poll(self.reader, reading.follows, check)
+        self.poll = Poll(self.reader, reading.follows, check, parent)
         # since when commits wait to be settled
         self.begun: float | None = None
         self.has_begun = False
@@ -133,6 +134,8 @@ class Following:
     def settle(self) -> None:
         self.keeper.settle()
         self.begun = None
+        if self.parent:
+            self.parent.tell(self.keeper.at)
         self.note()
 
     def note(self, is_last: bool = False) -> None:

@@ -10,6 +10,7 @@ from ..errors import Passing, Stopped, Unfit
 from ..interruption import Check
 from ..reader.commits import Commit
 from ..reader.following import Following, Read
+from ..reader.polling import Parent
 from ..reader.positions import Noted
 from ..reader.reading import Reading
 from ..texts import lsn_text
@@ -74,7 +75,7 @@ class Tables:
         return self.rows.at
 
 
-def keep(wanted: Wanted, check: Check) -> tuple[int, list[str]]:
+def keep(wanted: Wanted, check: Check, parent: Parent | None = None) -> tuple[int, list[str]]:
     """Keeps the tables of a file. Returns its LSN at the end, and the tables that are set aside."""
     reading = wanted.reading
     init = Init(wanted.init) if wanted.init else None
@@ -84,7 +85,7 @@ def keep(wanted: Wanted, check: Check) -> tuple[int, list[str]]:
     rows, is_orderly = Rows(wanted.into, init, wanted.keys), False
     try:
         prepare(rows, wanted, check)
-        is_stopped = follow(rows, wanted, check)
+        is_stopped = follow(rows, wanted, check, parent)
         is_orderly = True
         if is_stopped and not reading.follows:
             raise Passing(f"ended before {wanted.into} had all of it")
@@ -108,11 +109,12 @@ def prepare(rows: Rows, wanted: Wanted, check: Check) -> None:
     rows.asides.tell(folder)
 
 
-def follow(rows: Rows, wanted: Wanted, check: Check) -> bool:
+def follow(rows: Rows, wanted: Wanted, check: Check, parent: Parent | None = None) -> bool:
     """Follows a feed to the end. Returns whether a signal was that."""
     reading = wanted.reading
     noted = Noted(reading.feed, reading.name, wanted.into, reading.mode) if reading.name else None
-    following = Following(reading, Tables(rows, check), check, noted, rows.check_source)
+    tables = Tables(rows, check)
+    following = Following(reading, tables, check, noted, rows.check_source, parent)
     if reading.follows:
         log.info(f"{wanted.into} follows {reading.feed} from {lsn_text(rows.at)}")
     is_stopped = False

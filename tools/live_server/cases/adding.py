@@ -35,7 +35,7 @@ def add(place: Place, *tables: str, status: int = OK, text: str = "", seconds: f
 def check_left(place: Place) -> None:
     """Fails where a table is still being added, or the server has a slot of it."""
     check_slots(place)
-    if place.beside(".request").exists() or place.checkpoint().get("adding"):
+    if place.checkpoint().get("adding"):
         raise Failed(f"left: {place.checkpoint()}")
 
 

@@ -12,7 +12,7 @@ from ..options import Options
 from ..place import Place, Shared
 from . import (
     adding, altering, confining, copying, feeding, keys, kinds, missing, names, operating, past, privacy,
-    proving, publications, reaching, repairing, shapes, sideroads, silence, sinking, slots,
+    proving, publications, reaching, repairing, resting, shapes, sideroads, silence, sinking, slots,
     standbys, starts, stops, tabling, timelines, trusting, twice, undoing, undoing_related,
     unlogged, values, verifying, versions, waiting,
 )
@@ -28,7 +28,7 @@ THEMES: dict[str, Sequence[Case]] = {
     "exports": EXPORTS,
     "feeds": (
         *feeding.CASES, *tabling.CASES, *past.CASES, *undoing.CASES, *undoing_related.CASES,
-        *twice.CASES, *keys.CASES,
+        *twice.CASES, *keys.CASES, *resting.CASES,
     ),
     "sinks": sinking.CASES,
     "verifying": (*verifying.CASES, *proving.CASES),

@@ -3,7 +3,6 @@
 from __future__ import annotations
 
 import contextlib
-import json
 import os
 import shutil
 import sqlite3
@@ -21,8 +20,7 @@ DIFFERENT = 1
 
 
 def check_left(place: Place) -> None:
-    """Fails where a comparison has left a slot, a request or a copy."""
-    wait_until(lambda: not place.beside(".request").exists(), "letting the request go", 10)
+    """Fails where a comparison has left a slot."""
     check_slots(place)
 
 
@@ -255,9 +253,8 @@ def no_slot(place: Place) -> None:
 
 
 def is_held(place: Place) -> bool:
-    with contextlib.suppress(OSError, ValueError):
-        return "held" in json.loads(place.beside(".request").read_text())
-    return False
+    """Whether the stream is held: then the slot is made."""
+    return place.value("SELECT count(*) FROM pg_replication_slots WHERE starts_with(slot_name, 'pgsub_verify')") == "1"
 
 
 def killed(place: Place) -> None:

@@ -7,7 +7,6 @@ import sqlite3
 import threading
 import time
 from collections.abc import Callable, Iterator
-from pathlib import Path
 from signal import SIGCONT, SIGSTOP
 
 from ..child import Child
@@ -19,6 +18,7 @@ from .adding import check_left
 from .adding import words as add_words
 from .case import Case
 from .common import verify, verify_words
+from .verifying import is_held
 
 # How long a commit may take, and how many there are at least in a second.
 LONGEST, LEAST = 2.0, 2
@@ -175,17 +175,13 @@ def beside_a_long_one(place: Place) -> None:
             session.run("COMMIT")
 
 
-def said(path: Path) -> str:
-    return path.read_text("utf-8") if path.exists() else ""
-
-
 def stopped_verifier(place: Place) -> None:
     """Where whoever compares is stopped, commits go on."""
     stock(place)
     place.follow("--create")
     with waited_for(place, 2) as child:
         verifier = place.started(verify_words(place, "--hold", "20"))
-        wait_until(lambda: "held" in said(place.beside(".request")), "holding", 20)
+        wait_until(lambda: is_held(place), "holding", 20)
         verifier.signal(SIGSTOP)
         time.sleep(5)
         verifier.signal(SIGCONT)

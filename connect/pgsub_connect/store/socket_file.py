@@ -1,0 +1,120 @@
+"""The socket `STORE.sock`, by which programs of the same machine ask the follower of a store.
+
+An address of a socket has 107 bytes at most, and a store may lie deeper or have a longer name. So
+it is bound by a short name in the folder, which is open, and renamed then. That replaces what a
+killed follower has left, or somebody has put there; the follower has locked the checkpoint. A
+program connects to the file that it has opened, which nobody can replace by a link.
+
+Whoever may read the store may connect. What each may ask is decided by the account of its process,
+which the kernel says (SO_PEERCRED). A program looks at the follower's in the same way.
+
+Requests and answers are objects of JSON, one on each line.
+"""
+
+from __future__ import annotations
+
+import contextlib
+import json
+import os
+import socket
+import stat
+import struct
+from typing import Any
+
+from pgsub_feed.errors import FileError
+from pgsub_feed.json_texts import Unreadable, object_of, parsed
+from pgsub_feed.ownership import real
+
+SUFFIX = ".sock"
+# How many connections may wait to be accepted.
+BACKLOG = 128
+# How many bytes a line may have, and how many are read at once.
+LONGEST, PIECE = 1 << 20, 1 << 16
+
+
+def listening(store: str, mode: int) -> socket.socket:
+    """Makes the socket, for those that a file with this mode may be read by."""
+    path, made = store + SUFFIX, socket.socket(socket.AF_UNIX, socket.SOCK_STREAM)
+    with contextlib.ExitStack() as failed:
+        failed.callback(made.close)
+        try:
+            bind(made, path, mode)
+        except OSError as error:
+            raise FileError(f"{path}: {error.strerror or error}") from None
+        failed.pop_all()
+    return made
+
+
+def bind(made: socket.socket, path: str, mode: int) -> None:
+    folder = os.open(os.path.dirname(os.path.abspath(path)), os.O_PATH | os.O_DIRECTORY)
+    short = f".pgsub-{os.getpid()}{SUFFIX}"
+    try:
+        with contextlib.suppress(FileNotFoundError):
+            os.unlink(short, dir_fd=folder)
+        # (its file begins with this mode)
+        os.fchmod(made.fileno(), 0o600)
+        made.setblocking(False)
+        made.bind(f"/proc/self/fd/{folder}/{short}")
+        try:
+            made.listen(BACKLOG)
+            set_mode(short, folder, mode)
+            os.rename(short, os.path.basename(path), src_dir_fd=folder, dst_dir_fd=folder)
+        except BaseException:
+            os.unlink(short, dir_fd=folder)
+            raise
+    finally:
+        os.close(folder)
+
+
+def set_mode(name: str, folder: int, mode: int) -> None:
+    """Lets those connect who may read a file with this mode: a socket has to be writable for it."""
+    readers = mode & 0o444
+    file = os.open(name, os.O_PATH | os.O_NOFOLLOW, dir_fd=folder)
+    try:
+        os.chmod(f"/proc/self/fd/{file}", 0o600 | readers | readers >> 1)
+    finally:
+        os.close(file)
+
+
+def connected(store: str) -> socket.socket:
+    """A connection to the follower of a store, which doesn't block. An OSError says why there is
+    none."""
+    path = store + SUFFIX
+    file = os.open(path, os.O_PATH | os.O_NOFOLLOW)
+    made = socket.socket(socket.AF_UNIX, socket.SOCK_STREAM)
+    try:
+        if not stat.S_ISSOCK(os.fstat(file).st_mode):
+            raise FileError(f"{path}: not a socket")
+        made.setblocking(False)
+        made.connect(f"/proc/self/fd/{file}")
+        if (uid := account_of(made)) not in (0, os.geteuid(), os.stat(real(store)).st_uid):
+            raise FileError(f"{path}: another account ({uid}) answers there, not the store's")
+    except BaseException:
+        made.close()
+        raise
+    finally:
+        os.close(file)
+    return made
+
+
+def account_of(made: socket.socket) -> int:
+    """The account of the process at the other end."""
+    said = made.getsockopt(socket.SOL_SOCKET, socket.SO_PEERCRED, struct.calcsize("iII"))
+    return int(struct.unpack("iII", said)[1])
+
+
+def line_of(fields: dict[str, Any]) -> bytes:
+    return json.dumps(fields).encode() + b"\n"
+
+
+class Lines:
+    """Takes the objects out of what comes. An Unreadable names what is none, or is too long."""
+
+    def __init__(self, longest: int = LONGEST) -> None:
+        self.longest, self.begun = longest, b""
+
+    def take(self, piece: bytes) -> list[dict[str, Any]]:
+        *lines, self.begun = (self.begun + piece).split(b"\n")
+        if len(self.begun) > self.longest:
+            raise Unreadable(f"longer than {self.longest} bytes")
+        return [object_of(parsed(it, self.longest)) for it in lines]
