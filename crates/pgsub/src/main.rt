@@ -6,6 +6,9 @@ ghost use Rattle.std.specs.Prelude.{◌≡◌, ◌≢◌, ◌⊎◌};
 ghost use Rattle.clap.specs.Values.{kind_of};
 ghost use Rattle.clap.specs.declared.error.kind.ErrorKind.TheVariants as kind;
 
+mod build;
+
+use build::{COMMIT, KIT};
 use pgcommand::{CommandFault, DEFAULT_CACHE, FeedOptions, Limits, Task, command_of};
 use pgfeed::{Folder, Origin, SegmentLimits};
 use pgfollow::{Clock, Link};
@@ -28,7 +31,7 @@ use std::io::ErrorKind;
 use std::process::ExitCode;
 use std::rt::Stderr;
 use std::time::{SystemTime, UNIX_EPOCH};
-use std::{env, fs};
+use std::{env, fs, io};
 
 /// The status of a usage error.
 const USAGE: u8 = 2;
@@ -51,8 +54,8 @@ fn words(rt: &HostRuntime) -> Result<Option<Vec<String>>, AllocError> {
     }
 }
 
-/// Prints help or the version, or tells on standard error why the words ask for no task. Where
-/// standard error can't be written, the status alone tells.
+/// Prints help, or the version with what it was built of, or tells on standard error why the words
+/// ask for no task. Where standard error can't be written, the status alone tells.
 fn tell_usage(rt: &HostRuntime, error: &clap::Error) -> u8
     ensures usage { kind_of error.now ≢ kind.DisplayHelp → kind_of error.now ≢ kind.DisplayVersion →
         result ≡ 2 }
@@ -63,11 +66,19 @@ fn tell_usage(rt: &HostRuntime, error: &clap::Error) -> u8
         let _ = error.print(rt);
         return USAGE;
     }
-    if error.print(rt).is_err() {
+    if error.print(rt).is_err() || tell_build(rt, &error).is_err() {
         let _ = eprintln!(rt; "pgsub: cannot write");
         return FILE;
     }
     0
+}
+
+/// After the version, prints the sources and the toolchain that the program was built of.
+fn tell_build(rt: &HostRuntime, error: &clap::Error) -> io::Result<()> {
+    match error.kind() {
+        clap::error::ErrorKind::DisplayVersion => println!(rt; "commit {COMMIT}, {KIT}"),
+        _ => Ok(()),
+    }
 }
 
 /// The file with this path, None where it can't be opened.
