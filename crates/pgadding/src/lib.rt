@@ -11,8 +11,9 @@
 //! ```
 //!
 //! Here the table t is added by a slot whose consistent point is 1000. No code here runs:
-//! `connect/pgsub_connect/replacing.py` does what `specs/Passing.antt` defines, and for a repair
-//! `mending.py` and `repairing.py` there do what `specs/Mended.antt` and `specs/Repairing.antt` do.
+//! `connect/pgsub_connect/add/replacement.py` does what `specs/Passing.antt` defines, and for a
+//! repair `verify/repair_rows.py` and `follow/repair.py` do what `specs/Mended.antt` and
+//! `specs/Repairing.antt` do.
 #![tactic(auto)]
 
 mod laws;

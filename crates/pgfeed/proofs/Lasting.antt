@@ -40,7 +40,7 @@ module _ {F D : Type 0} (seen : D → List ℕ) (may_leave : D → List ℕ → 
   has_ended l now above folder less (inr one) at =
       ended_less l.segment.base l.segment.last now (may_leave l.segment.disk) (has folder l.segment.base) less one.1
 
-  left_in : (l : Feed F D) (p : ℕ) (es : List Entry) (k : KeepsAll seen may_leave is_clean is_true places has l es) (gone : List ℕ)
+  pub left_in : (l : Feed F D) (p : ℕ) (es : List Entry) (k : KeepsAll seen may_leave is_clean is_true places has l es) (gone : List ℕ)
       (folder : F)
       → IsLeftOf seen may_leave is_clean is_true places has l p gone folder
       → IsLeftIn seen may_leave is_clean is_true places has l p k.now gone folder

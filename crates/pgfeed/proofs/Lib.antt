@@ -5,3 +5,5 @@ pub mod Folders
 pub mod Bodies
 pub mod Plain
 pub mod Lasting
+pub mod Beside
+mod Ending

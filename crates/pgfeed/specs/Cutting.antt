@@ -5,3 +5,4 @@ pub mod Files
 pub mod Kept
 pub mod Opened
 pub mod Following
+pub mod Beside

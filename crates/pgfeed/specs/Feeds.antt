@@ -240,11 +240,11 @@ module _ {F D : Type 0} (seen : D → List ℕ) (may_leave : D → List ℕ → 
     pub all : gone ≡ [] → before ≡ []
 
   -- The other one was opened at an LSN that the feed reaches, in a folder with what a crash left of
-  -- it.
+  -- it, but for a front of segments that others removed.
   abbrev pub ReopensAt : Feed F D → ℕ → Feed F D → Type 0
   ReopensAt l p other =
       (es : List Entry) (k : KeepsAll l es) → p ≤ l.segment.last
-      → (folder : F) × IsLeftIn l p k.now [] folder × OpensIn folder p other × IsHonestFeed other
+      → (gone : List ℕ) × (folder : F) × IsLeftIn l p k.now gone folder × OpensIn folder p other × IsHonestFeed other
 
   -- what a call leaves of a feed
   pub record Goes (old new : Feed F D) : Type 0 where

@@ -9,3 +9,4 @@ pub mod Feeds
 pub mod Cutting
 pub mod Told
 pub mod Lasting
+pub mod Beside

@@ -6,7 +6,8 @@ ghost use Rattle.pgapply.specs.Stored.{IsOwnFault};
 ghost use Rattle.pgledger.specs.Entries.{entry_of};
 ghost use Rattle.pgledger.specs.Ledgers.{Appends, AppendsAtMost, Keeps, Rests, Syncs};
 ghost use Rattle.pgfeed.specs.Feeds.{Ends, Goes, IsFull, IsHonestFeed, IsLate, IsOver, KeepsAll};
-ghost use Rattle.pgfeed.specs.Feeds.{LastsUpTo, MayEnd, MayGoOver, ReopensAt, TakesAllBack};
+ghost use Rattle.pgfeed.specs.Beside.{KeepsRest, LastsFrom};
+ghost use Rattle.pgfeed.specs.Feeds.{MayEnd, MayGoOver, ReopensAt, TakesAllBack};
 ghost use Rattle.pgfeed.specs.Feeds.{IsTimed, StaysTimed, first_time};
 ghost use Rattle.pgfeed.specs.Naming.{head_of};
 ghost use Rattle.pgfeed.specs.Texts.{entry_text};
@@ -300,19 +301,20 @@ impl<F: Folder + Drop> Feed<F> {
 }
 
 impl<F: Folder + Drop> Ledger for Feed<F> {
-    ghost use Rattle.pgfeed.specs.Feeds.{KeepsAll, LastsUpTo, ReopensAt};
-    ghost use Rattle.pgfeed.specs.Cutting.Following.{cut_ledger};
+    ghost use Rattle.pgfeed.specs.Beside.{KeepsRest, LastsFrom, is_stuck_feed, told_from};
+    ghost use Rattle.pgfeed.specs.Feeds.{ReopensAt};
+    ghost use Rattle.pgfeed.specs.Cutting.Beside.{cut_ledger};
     ghost use Rattle.pgfeed.specs.Cutting.Opened.{wants_all};
 
-    ghost begins = { λ l. l.begins };
+    ghost begins = { told_from };
 
-    ghost keeps = { KeepsAll F.File.seen F.File.may_leave F.File.is_clean F.is_true F.places
+    ghost keeps = { KeepsRest F.File.seen F.File.may_leave F.File.is_clean F.is_true F.places
         F.has };
 
-    ghost outlasts = { LastsUpTo F.File.seen F.File.may_leave F.File.is_clean F.is_true F.places
+    ghost outlasts = { LastsFrom F.File.seen F.File.may_leave F.File.is_clean F.is_true F.places
         F.has };
 
-    ghost is_stuck = { λ l. l.segment.is_stuck };
+    ghost is_stuck = { is_stuck_feed };
 
     ghost is_wanting = { λ _. true };
 
@@ -349,17 +351,17 @@ impl<F: Folder + Drop> Ledger for Feed<F> {
             self.old.segment self.new.segment) }
         ensures limits { self.new.limits ≡ self.old.limits }
         ensures names { self.new.names ≡ self.old.names }
-        ensures appended { OnOk result (Appends (KeepsAll F.File.seen F.File.may_leave
+        ensures appended { OnOk result (Appends (KeepsRest F.File.seen F.File.may_leave
             F.File.is_clean F.is_true F.places F.has) (entry_of commit.now.end commit.now.about
             commit.now.work.now.changes images.now) self.old self.new) }
         ensures was_free { OnOk result (self.old.segment.is_stuck ≡ false) }
         ensures free { OnOk result (self.new.segment.is_stuck ≡ false) }
-        ensures refused { OnErr result (AppendsAtMost (KeepsAll F.File.seen F.File.may_leave
+        ensures refused { OnErr result (AppendsAtMost (KeepsRest F.File.seen F.File.may_leave
             F.File.is_clean F.is_true F.places F.has) commit.now.end self.old self.new) }
         ensures stuck { OnErr result (self.new.segment.is_stuck ≡ true) }
         ensures fault { IfErr result IsOwnFault }
-        ensures rests { Rests (λ (l : Feed F F.File). l.begins) (λ (l : Feed F F.File). true)
-            (LastsUpTo F.File.seen F.File.may_leave F.File.is_clean F.is_true F.places F.has)
+        ensures rests { Rests (λ (l : Feed F F.File). 0) (λ (l : Feed F F.File). true)
+            (LastsFrom F.File.seen F.File.may_leave F.File.is_clean F.is_true F.places F.has)
             (ReopensAt F.File.seen F.File.may_leave F.File.is_clean F.is_true F.places F.has)
             self.old self.new }
     {
@@ -385,18 +387,18 @@ impl<F: Folder + Drop> Ledger for Feed<F> {
         ensures first { self.new.first ≡ self.old.first }
         ensures limits { self.new.limits ≡ self.old.limits }
         ensures names { self.new.names ≡ self.old.names }
-        ensures synced { OnOk result (Syncs (KeepsAll F.File.seen F.File.may_leave
-            F.File.is_clean F.is_true F.places F.has) (λ (l : Feed F F.File). l.begins)
-            (LastsUpTo F.File.seen F.File.may_leave F.File.is_clean F.is_true F.places F.has)
+        ensures synced { OnOk result (Syncs (KeepsRest F.File.seen F.File.may_leave
+            F.File.is_clean F.is_true F.places F.has) (λ (l : Feed F F.File). 0)
+            (LastsFrom F.File.seen F.File.may_leave F.File.is_clean F.is_true F.places F.has)
             self.old self.new) }
-        ensures kept { Keeps (KeepsAll F.File.seen F.File.may_leave F.File.is_clean F.is_true
+        ensures kept { Keeps (KeepsRest F.File.seen F.File.may_leave F.File.is_clean F.is_true
             F.places F.has) self.old self.new }
         ensures was_free { OnOk result (self.old.segment.is_stuck ≡ false) }
         ensures free { OnOk result (self.new.segment.is_stuck ≡ false) }
         ensures stuck { OnErr result (self.new.segment.is_stuck ≡ true) }
         ensures fault { IfErr result IsOwnFault }
-        ensures rests { Rests (λ (l : Feed F F.File). l.begins) (λ (l : Feed F F.File). true)
-            (LastsUpTo F.File.seen F.File.may_leave F.File.is_clean F.is_true F.places F.has)
+        ensures rests { Rests (λ (l : Feed F F.File). 0) (λ (l : Feed F F.File). true)
+            (LastsFrom F.File.seen F.File.may_leave F.File.is_clean F.is_true F.places F.has)
             (ReopensAt F.File.seen F.File.may_leave F.File.is_clean F.is_true F.places F.has)
             self.old self.new }
     {
@@ -411,7 +413,7 @@ impl<F: Folder + Drop> Ledger for Feed<F> {
 
     ghost cuts = { λ old new p told later opened kept ends lasting above. cut_ledger F.File.seen
         F.File.may_leave F.File.is_clean F.is_true F.places F.has F.File.seen_may_stay old new p
-        told later opened kept ends lasting };
+        told later opened kept ends lasting above };
 
     ghost unasked = { λ l no es. wants_all no };
 }

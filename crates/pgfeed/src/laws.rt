@@ -7,6 +7,7 @@ ghost use Rattle.pgfeed.specs.Reading.{BeginsWith, LinesLeadOver, TextIsReadInOn
 ghost use Rattle.pgfeed.specs.Texts.{closing_line, commit_line};
 ghost use Rattle.pgfeed.specs.declared.mark.Mark.{Mark};
 ghost use Rattle.pgfeed.specs.Whole.{LinesTellWholeRows};
+ghost use Rattle.pgfeed.specs.Beside.{FeedsBegin, FeedsGoOn, LeftIsReopened, RestsLead};
 ghost use Rattle.pgfeed.specs.Lasting.{FeedsOutlastCrashes};
 
 use crate::folder::Folder;
@@ -49,5 +50,20 @@ pub fn lines_tell_whole_rows()
 /// there.
 pub fn feeds_outlast_crashes<F: Folder + Drop>()
     ensures { FeedsOutlastCrashes F.File.seen F.File.may_leave F.File.is_clean F.is_true F.places
+        F.has }
+{}
+
+/// A feed beside a store, from start to start. In a folder without segments it begins with the
+/// store, whatever that holds. Opened again on what a crash leaves of it, or on all of that but a
+/// front of segments that others removed, it leads to what it led to. So the entries that it keeps
+/// lead from some tables where it begins to those that the store holds.
+pub fn feeds_lead_to_their_store<F: Folder + Drop>()
+    ensures begin { FeedsBegin F.File.seen F.File.may_leave F.File.is_clean F.is_true F.places
+        F.has }
+    ensures reopened { LeftIsReopened F.File.seen F.File.may_leave F.File.is_clean F.is_true
+        F.places F.has }
+    ensures go_on { FeedsGoOn F.File.seen F.File.may_leave F.File.is_clean F.is_true F.places
+        F.has }
+    ensures lead { RestsLead F.File.seen F.File.may_leave F.File.is_clean F.is_true F.places
         F.has }
 {}

@@ -51,8 +51,8 @@ pub use fault::FeedFault;
 pub use feed::{Feed, MOST_ENDED};
 pub use folder::{Folder, Origin, SegmentLimits};
 pub use laws::{
-    feeds_outlast_crashes, lines_lead_over_entries, lines_of_commits_fit, lines_tell_whole_rows,
-    lines_that_end_segments, text_is_read_in_one_way,
+    feeds_lead_to_their_store, feeds_outlast_crashes, lines_lead_over_entries,
+    lines_of_commits_fit, lines_tell_whole_rows, lines_that_end_segments, text_is_read_in_one_way,
 };
 pub use mark::Mark;
 pub use segment::Segment;

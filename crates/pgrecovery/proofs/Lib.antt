@@ -1,2 +1,3 @@
 mod Recovered
 mod Life
+mod FedLife

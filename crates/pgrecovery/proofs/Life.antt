@@ -34,12 +34,12 @@ use Rattle.pgrecovery.proofs.Recovered.{left_safely, recovers}
 -- ---- what is stored
 
 -- at a greater position no less is
-stored_up : (history : List Transaction) (p q c : ℕ) → p ≤ q → NothingBetween history p c → NothingBetween history q c
+pub stored_up : (history : List Transaction) (p q c : ℕ) → p ≤ q → NothingBetween history p c → NothingBetween history q c
 stored_up [] p q c up stored = tt
 stored_up (t ∷ history) p q c up stored =
     ((λ changes by. let at = stored.0 changes by in omega arith), stored_up history p q c up stored.1)
 
-stored_both : (history : List Transaction) (p c d : ℕ) → NothingBetween history p c → NothingBetween history p d
+pub stored_both : (history : List Transaction) (p c d : ℕ) → NothingBetween history p c → NothingBetween history p d
     → NothingBetween history p (max c d)
 stored_both [] p c d one two = tt
 stored_both (t ∷ history) p c d one two =
@@ -56,11 +56,11 @@ none_ended from (t ∷ history) is =
     let late : nat_le t.end 0 ≡ false = grind (arith, nat_tests) in
     rw late (none_ended t.end history is.4)
 
-nothing_yet : (history : List Transaction) → IsHistory history → tables_as_of history 0 ≡ Ok map.empty
+pub nothing_yet : (history : List Transaction) → IsHistory history → tables_as_of history 0 ≡ Ok map.empty
 unfolding tables_as_of fold_changes
 nothing_yet history is = ap (λ ts. fold_changes map.empty (all_changes ts)) (none_ended 0 history is)
 
-stored_none : (history : List Transaction) (p : ℕ) → NothingBetween history p 0
+pub stored_none : (history : List Transaction) (p : ℕ) → NothingBetween history p 0
 stored_none [] p = tt
 stored_none (t ∷ history) p = ((λ changes by. omega arith), stored_none history p)
 
@@ -71,7 +71,7 @@ after_up p [] = omega arith
 after_up p (Committed completed ∷ ms) = let more = after_up (max p (end_of completed)) ms in omega arith
 after_up p (KeepaliveEnd end quiet ∷ ms) = after_up p ms
 
-all_up : (p : Progress) (handled : List (List Sent)) → p.position ≤ (reached_all p handled).position
+pub all_up : (p : Progress) (handled : List (List Sent)) → p.position ≤ (reached_all p handled).position
 all_up p [] = omega arith
 all_up p (sent ∷ handled) =
     let first = after_up p.position (commits_and_keepalives [] sent) in

@@ -1,2 +1,3 @@
 pub mod Recovered
 pub mod Life
+pub mod FedLife

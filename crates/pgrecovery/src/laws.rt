@@ -2,8 +2,10 @@
 
 ghost use Rattle.pgrecovery.specs.Recovered.{FollowedIsRecovered, LeftSafelyIsRecovered};
 ghost use Rattle.pgrecovery.specs.Recovered.{ServedIsRecovered};
+ghost use Rattle.pgrecovery.specs.FedLife.{OneFedLife};
 ghost use Rattle.pgrecovery.specs.Life.{OneLife};
 
+use pgfeed::Folder;
 use sqlite::Alter;
 use sqlite_disk::Disk;
 
@@ -38,4 +40,17 @@ pub fn crashes_lose_nothing_confirmed<D: Disk, S: Alter>()
 /// PostgreSQL documentation, Logical Replication, Subscription.
 pub fn one_life_holds_one_history<D: Disk>()
     ensures life { OneLife D.Disk }
+{}
+
+/// One life of a store in two files with a feed in a folder: the same, of runs that open both, of
+/// which the first has an empty folder too. Between two runs others may remove any front of ended
+/// segments that lies below the position, and let the folder's answers be true.
+///
+/// Then what `one_life_holds_one_history` says is so, and the entries that the feed keeps lead,
+/// commit by commit, from some tables where it begins to those that the store holds.
+///
+/// PostgreSQL documentation, Logical Replication, Subscription.
+pub fn one_fed_life_holds_one_history<D: Disk, F: Folder + Drop>()
+    ensures life { OneFedLife D.Disk F.File.seen F.File.may_leave F.File.is_clean F.is_true
+        F.places F.has }
 {}

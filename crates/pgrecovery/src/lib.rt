@@ -16,4 +16,6 @@ mod following;
 mod laws;
 
 pub use following::follow_in_files;
-pub use laws::{crashes_lose_nothing_confirmed, one_life_holds_one_history};
+pub use laws::{
+    crashes_lose_nothing_confirmed, one_fed_life_holds_one_history, one_life_holds_one_history,
+};

@@ -36,13 +36,6 @@ TellsUnfed takes failed f old new = takes old (feed_line f) new ⊎ failed old
 
 -- ---- a store with its feed
 
--- what a feed is as a ledger
-abbrev pub feed_begins : {F D : Type 0} → Feed F D → ℕ
-feed_begins l = l.begins
-
-abbrev pub is_stuck_feed : {F D : Type 0} → Feed F D → Bool
-is_stuck_feed l = l.segment.is_stuck
-
 module _ {F D : Type 0} (seen : D → List ℕ) (may_leave : D → List ℕ → Type 0) (is_clean : D → Bool) (is_true : F → Type 0)
     (places : F → List ℕ) (has : F → ℕ → List ℕ → Type 0) where
   -- It was opened in this folder at this LSN, as a feed of this system, database and slot, whose

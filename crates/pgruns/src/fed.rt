@@ -10,7 +10,8 @@ ghost use Rattle.sqlite.specs.WalFiles.{image_at};
 ghost use Rattle.pgapply.specs.declared.fault.StoreFault.{StoreFault};
 ghost use Rattle.pgfeed.specs.declared.fault.FeedFault.{FeedFault};
 ghost use Rattle.pgfeed.specs.declared.feed.Feed.{Feed};
-ghost use Rattle.pgfeed.specs.Feeds.{KeepsAll, LastsUpTo, ReopensAt};
+ghost use Rattle.pgfeed.specs.Beside.{KeepsRest, LastsFrom, is_stuck_feed, told_from};
+ghost use Rattle.pgfeed.specs.Feeds.{ReopensAt};
 ghost use Rattle.pgfollow.specs.declared.fault.FollowFault.{FollowFault};
 ghost use Rattle.pgfollow.specs.declared.fault.FollowFault.TheVariants as follow;
 ghost use Rattle.pgfollow.specs.Live.{IsOfFollowing};
@@ -28,9 +29,7 @@ ghost use Rattle.pgsub_cli.specs.Storing.{status_of_unopened};
 ghost use Rattle.pgruns.specs.Filed.{RunsInFiles, TellsBoth, fault_of_closing, status_closed};
 ghost use Rattle.pgruns.specs.Filed.{status_of_unclosed};
 ghost use Rattle.pgruns.specs.Recorded.{AppliesRecorded, FollowsRecorded};
-ghost use Rattle.pgruns.specs.Fed.{IsOpenedAt, TellsUnfed, feed_begins, is_stuck_feed};
-ghost use Rattle.pgruns.specs.Fed.{status_of_unapplied};
-ghost use Rattle.pgruns.specs.Fed.{status_of_unfed};
+ghost use Rattle.pgruns.specs.Fed.{IsOpenedAt, TellsUnfed, status_of_unapplied, status_of_unfed};
 
 use crate::closing::{close_told, followed_status, run_status};
 use crate::filed::Filed;
@@ -119,9 +118,9 @@ fn follow_fed<
         plan.entry.folder plan.entry.origin.system.now plan.entry.origin.database.now
         plan.entry.origin.slot.now plan.entry.limits store.position begun
         × (IsHonest S.Store result.1 → Serves S.Store store →
-        FollowsRecorded S.Store feed_begins
-        (KeepsAll D.File.seen D.File.may_leave D.File.is_clean D.is_true D.places D.has)
-        (LastsUpTo D.File.seen D.File.may_leave D.File.is_clean D.is_true D.places D.has)
+        FollowsRecorded S.Store told_from
+        (KeepsRest D.File.seen D.File.may_leave D.File.is_clean D.is_true D.places D.has)
+        (LastsFrom D.File.seen D.File.may_leave D.File.is_clean D.is_true D.places D.has)
         is_stuck_feed
         (ReopensAt D.File.seen D.File.may_leave D.File.is_clean D.is_true D.places D.has) L
         (R.remaining link.old.reader) (R.remaining link.new.reader) link.new.reads
@@ -170,9 +169,9 @@ fn apply_fed<
         × IsOpenedAt D.File.seen D.File.may_leave D.File.is_clean D.is_true D.places D.has
         plan.entry.folder plan.entry.origin.system.now plan.entry.origin.database.now
         plan.entry.origin.slot.now plan.entry.limits store.position begun
-        × AppliesRecorded S.Store feed_begins
-        (KeepsAll D.File.seen D.File.may_leave D.File.is_clean D.is_true D.places D.has)
-        (LastsUpTo D.File.seen D.File.may_leave D.File.is_clean D.is_true D.places D.has)
+        × AppliesRecorded S.Store told_from
+        (KeepsRest D.File.seen D.File.may_leave D.File.is_clean D.is_true D.places D.has)
+        (LastsFrom D.File.seen D.File.may_leave D.File.is_clean D.is_true D.places D.has)
         is_stuck_feed
         (ReopensAt D.File.seen D.File.may_leave D.File.is_clean D.is_true D.places D.has)
         R.gives R.begins R.failed W.takes W.failed limits input
@@ -238,9 +237,9 @@ pub fn follow_fed_file<
         plan.entry.folder plan.entry.origin.system.now plan.entry.origin.database.now
         plan.entry.origin.slot.now plan.entry.limits opened.position begun
         × (IsHonest over_files ended →
-        FollowsRecorded over_files feed_begins
-        (KeepsAll D.File.seen D.File.may_leave D.File.is_clean D.is_true D.places D.has)
-        (LastsUpTo D.File.seen D.File.may_leave D.File.is_clean D.is_true D.places D.has)
+        FollowsRecorded over_files told_from
+        (KeepsRest D.File.seen D.File.may_leave D.File.is_clean D.is_true D.places D.has)
+        (LastsFrom D.File.seen D.File.may_leave D.File.is_clean D.is_true D.places D.has)
         is_stuck_feed
         (ReopensAt D.File.seen D.File.may_leave D.File.is_clean D.is_true D.places D.has) L
         (R.remaining link.old.reader) (R.remaining link.new.reader) link.new.reads
@@ -301,9 +300,9 @@ pub fn apply_fed_to_file<
         × IsOpenedAt D.File.seen D.File.may_leave D.File.is_clean D.is_true D.places D.has
         plan.entry.folder plan.entry.origin.system.now plan.entry.origin.database.now
         plan.entry.origin.slot.now plan.entry.limits opened.position begun
-        × AppliesRecorded over_files feed_begins
-        (KeepsAll D.File.seen D.File.may_leave D.File.is_clean D.is_true D.places D.has)
-        (LastsUpTo D.File.seen D.File.may_leave D.File.is_clean D.is_true D.places D.has)
+        × AppliesRecorded over_files told_from
+        (KeepsRest D.File.seen D.File.may_leave D.File.is_clean D.is_true D.places D.has)
+        (LastsFrom D.File.seen D.File.may_leave D.File.is_clean D.is_true D.places D.has)
         is_stuck_feed
         (ReopensAt D.File.seen D.File.may_leave D.File.is_clean D.is_true D.places D.has)
         R.gives R.begins R.failed W.takes W.failed limits input

@@ -14,7 +14,7 @@ use Rattle.pgfeed.specs.Texts.{closing_line, entries_text}
 use Rattle.pgfeed.specs.Feeds.{AreEnded, BeginAt, Follow, IsCutAt, IsFresh, OpenedFrom}
 use Rattle.pgfeed.specs.Feeds.{IsHonestFeed, IsLeftIn, KeepsAll, KeepsLast, LastsUpTo, LeavesAt}
 use Rattle.pgfeed.specs.Feeds.{MayHave}
-use Rattle.pgfeed.specs.Feeds.{OpensIn, ReopensAt}
+use Rattle.pgfeed.specs.Feeds.{OpensIn}
 use Rattle.pgfeed.specs.Feeds.{first_of}
 use Rattle.pgfeed.specs.Cutting.Kept.{end_append, entries_append, entries_behind, entries_front}
 use Rattle.pgfeed.specs.Cutting.Kept.{text_append}
@@ -534,20 +534,4 @@ module _ {F D : Type 0} (seen : D → List ℕ) (may_leave : D → List ℕ → 
       } in (
         record { before = last.0; stay = mid; is = rest.1; kept = keeps; begins_is = begins; all = last.5 },
         (let there = opens.last in omega arith, λ _. cut.lasting),
-      )
-
-  -- where no segment has gone, all of them
-  pub cut_ledger : ((d : D) → may_leave d (seen d)) → (old new : Feed F D) (p : ℕ) (told later : List Entry)
-      → ReopensAt seen may_leave is_clean is_true places has old p new
-      → KeepsAll seen may_leave is_clean is_true places has old (told ++ later) → last_end old.begins told ≡ p
-      → LastsUpTo seen may_leave is_clean is_true places has old p
-      → KeepsAll seen may_leave is_clean is_true places has new told × (new.begins ≡ old.begins)
-      × LastsUpTo seen may_leave is_clean is_true places has new p
-  cut_ledger may_stay old new p told later opened k ends lasting =
-      let o = opened (told ++ later) k lasting.0 in
-      let cut = cut_last may_stay old new p [] told later o.0 k ends lasting o.1 o.2 o.3 in
-      let none = cut.0.all refl in (
-        subst (KeepsAll seen may_leave is_clean is_true places has new) (sym (cut.0.is ∙ ap (λ es. es ++ cut.0.stay) none)) cut.0.kept,
-        cut.0.begins_is ∙ ap (last_end old.begins) none,
-        cut.1,
       )

@@ -5,8 +5,8 @@ use Rattle.pgfeed.specs.Feeds.{IsFresh}
 use Rattle.pgfeed.specs.Folders.{AreBelow, HasNoMoreElse, MakesAtMost}
 use Rattle.pgfeed.specs.Segments.{IsFinished, KeepsEntries}
 use Rattle.pgfeed.specs.declared.segment.Segment.{Segment}
-use Rattle.pgfeed.proofs.Following.{Writes, all_begins, all_ends, all_quiet}
-use Rattle.pgfeed.proofs.Following.{goes_begins, goes_ends, goes_quiet, writes_line}
+use Rattle.pgfeed.proofs.Ending.{all_begins, all_ends, goes_begins, goes_ends}
+use Rattle.pgfeed.proofs.Following.{Writes, all_quiet, goes_quiet, writes_line}
 use Rattle.pgfeed.proofs.feed.Feed.begin_next.Goals as goal
 
 pub returns-in_err-finish-clause-goes : goal.returns-in_err-finish-clause-goes

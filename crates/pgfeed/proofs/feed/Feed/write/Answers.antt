@@ -4,9 +4,10 @@ use Rattle.pgledger.specs.Entries.{Entry, entry_of}
 use Rattle.pgfeed.specs.Fits.{FitsEntry}
 use Rattle.pgfeed.specs.Texts.{entry_text}
 use Rattle.pgfeed.specs.Cutting.Walking.{entry_length}
-use Rattle.pgfeed.proofs.Following.{Writes, all_more, all_quiet, ends_same, goes_end, goes_on_by}
+use Rattle.pgfeed.proofs.Ending.{ends_same, timed}
+use Rattle.pgfeed.proofs.Following.{Writes, all_more, all_quiet, goes_end, goes_on_by}
 use Rattle.pgfeed.proofs.Following.{goes_quiet}
-use Rattle.pgfeed.proofs.Following.{on_err, timed, writes_line}
+use Rattle.pgfeed.proofs.Following.{on_err, writes_line}
 use Rattle.pgfeed.proofs.feed.Feed.write.Goals as goal
 
 pub returns-in_err-put-clause-goes : goal.returns-in_err-put-clause-goes

@@ -1,19 +1,32 @@
-use Rattle.std.proofs.Common.{◌≡◌, ◌∙◌, ap, inl, refl, sym, subst}
+use Rattle.std.proofs.Common.{◌≡◌, ◌∙◌, ap, refl, sym, subst}
 use Rattle.std.specs.Prelude.{IsTrue}
 use Rattle.pgfeed.specs.declared.segment.Segment.{Segment}
-use Rattle.pgfeed.proofs.Following.{all_stays, ends_same, goes_on_by, goes_stays, true_false}
+use Rattle.pgledger.specs.Entries.{entry_of}
+use Rattle.pgfeed.proofs.Beside.{rest_appends, rest_at_most, rest_rests}
+use Rattle.pgfeed.proofs.Ending.{ends_same}
+use Rattle.pgfeed.proofs.Following.{all_stays, goes_on_by, goes_stays, true_false}
 use Rattle.pgfeed.proofs.Following.{writes_stopped}
 use Rattle.pgfeed.proofs.feed.FeedLedger.append.Goals as goal
 
 pub returns-in-Ok-clause-rests : goal.returns-in-Ok-clause-rests
 returns-in-Ok-clause-rests g c =
     let done = c.in-Ok.ensures in
-    record { begins_is = done.begins; wanting_is = refl; outlasts_more = done.goes.lasts_more; reopens_less = done.goes.opens_less }
+    rest_rests g.F.File.Disk.seen g.F.File.Disk.may_leave g.F.File.Disk.is_clean g.F.Folder.is_true g.F.Folder.places
+    g.F.Folder.has c.args.self.now c.write.new.self done.begins done.goes
+
+pub returns-in-Ok-clause-appended : goal.returns-in-Ok-clause-appended
+returns-in-Ok-clause-appended g c =
+    let done = c.in-Ok.ensures in
+    rest_appends g.F.File.Disk.seen g.F.File.Disk.may_leave g.F.File.Disk.is_clean g.F.Folder.is_true g.F.Folder.places
+    g.F.Folder.has c.args.self.now c.write.new.self done.begins
+    (entry_of c.args.commit.now.end c.args.commit.now.about c.args.commit.now.work.now.changes c.args.images.now) done.appended
 
 pub returns-in-Err-clause-refused : goal.returns-in-Err-clause-refused
-returns-in-Err-clause-refused g c = λ es kept.
+returns-in-Err-clause-refused g c =
     let failed = c.in-Err.ensures in
-    inl (all_stays g.F.File.Disk.seen g.F.File.Disk.may_leave g.F.File.Disk.is_clean g.F.Folder.is_true g.F.Folder.places g.F.Folder.has
+    rest_at_most g.F.File.Disk.seen g.F.File.Disk.may_leave g.F.File.Disk.is_clean g.F.Folder.is_true g.F.Folder.places
+    g.F.Folder.has c.args.self.now (record c.write.new.self { segment = c.stop.new.self }) failed.begins c.args.commit.now.end
+    (λ es kept. all_stays g.F.File.Disk.seen g.F.File.Disk.may_leave g.F.File.Disk.is_clean g.F.Folder.is_true g.F.Folder.places g.F.Folder.has
     c.write.new.self _ (record {
       on = record {
         folder_is = refl;
@@ -49,7 +62,8 @@ returns-in-Err-clause-rests g c =
       less = λ text may. subst (λ (s : Segment g.row.F-File.Denot). g.F.File.Disk.may_leave s.disk text) c.stop.ensures may;
       stuck = λ free. absurd (true_false (sym (ap (λ (s : Segment g.row.F-File.Denot). s.is_stuck) c.stop.ensures) ∙ free));
     })) in
-    record { begins_is = failed.begins; wanting_is = refl; outlasts_more = goes.lasts_more; reopens_less = goes.opens_less }
+    rest_rests g.F.File.Disk.seen g.F.File.Disk.may_leave g.F.File.Disk.is_clean g.F.Folder.is_true g.F.Folder.places
+    g.F.Folder.has c.args.self.now (record c.write.new.self { segment = c.stop.new.self }) failed.begins goes
 
 pub returns-in-Err-clause-ends : goal.returns-in-Err-clause-ends
 returns-in-Err-clause-ends g c =

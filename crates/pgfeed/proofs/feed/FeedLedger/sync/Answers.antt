@@ -1,4 +1,5 @@
 use Rattle.std.proofs.Common.{◌∙◌, refl, sym}
+use Rattle.pgfeed.proofs.Beside.{rest_keeps, rest_rests, rest_syncs}
 use Rattle.pgfeed.proofs.Following.{all_lasts, all_stays, goes_stays, true_false, writes_nothing}
 use Rattle.pgfeed.proofs.feed.FeedLedger.sync.Goals as goal
 
@@ -20,14 +21,17 @@ returns-in_err-flush-clause-rests g c =
       less = done.crash;
       stuck = λ free. absurd (true_false (sym done.stuck ∙ free));
     }) in
-    record { begins_is = refl; wanting_is = refl; outlasts_more = goes.lasts_more; reopens_less = goes.opens_less }
+    rest_rests g.F.File.Disk.seen g.F.File.Disk.may_leave g.F.File.Disk.is_clean g.F.Folder.is_true g.F.Folder.places
+    g.F.Folder.has c.args.self.now (record c.args.self.now { segment = c.flush.new.self }) refl goes
 
 pub returns-clause-synced : goal.returns-clause-synced
-returns-clause-synced g c = λ es kept.
+returns-clause-synced g c =
     let done = c.in_ok-flush.ensures in
-    all_lasts g.F.File.Disk.seen g.F.File.Disk.may_leave g.F.File.Disk.is_clean g.F.Folder.is_true g.F.Folder.places g.F.Folder.has
+    rest_syncs g.F.File.Disk.seen g.F.File.Disk.may_leave g.F.File.Disk.is_clean g.F.Folder.is_true g.F.Folder.places
+    g.F.Folder.has c.args.self.now (record c.args.self.now { segment = c.flush.new.self; synced = c.last-self.result }) refl
+    (λ es kept. all_lasts g.F.File.Disk.seen g.F.File.Disk.may_leave g.F.File.Disk.is_clean g.F.Folder.is_true g.F.Folder.places g.F.Folder.has
     c.args.self.now
-    (record c.args.self.now { segment = c.flush.new.self; synced = c.last-self.result }) es done.base done.last done.size done.durable kept
+    (record c.args.self.now { segment = c.flush.new.self; synced = c.last-self.result }) es done.base done.last done.size done.durable kept)
 
 pub returns-clause-rests : goal.returns-clause-rests
 returns-clause-rests g c =
@@ -47,12 +51,15 @@ returns-clause-rests g c =
       less = done.crash;
       stuck = λ _. done.was_free;
     }) in
-    record { begins_is = refl; wanting_is = refl; outlasts_more = goes.lasts_more; reopens_less = goes.opens_less }
+    rest_rests g.F.File.Disk.seen g.F.File.Disk.may_leave g.F.File.Disk.is_clean g.F.Folder.is_true g.F.Folder.places
+    g.F.Folder.has c.args.self.now (record c.args.self.now { segment = c.flush.new.self; synced = c.last-self.result }) refl goes
 
 pub returns-in_err-flush-clause-kept : goal.returns-in_err-flush-clause-kept
 returns-in_err-flush-clause-kept g c =
     let done = c.in_err-flush.ensures in
-    all_stays g.F.File.Disk.seen g.F.File.Disk.may_leave g.F.File.Disk.is_clean g.F.Folder.is_true g.F.Folder.places g.F.Folder.has
+    rest_keeps g.F.File.Disk.seen g.F.File.Disk.may_leave g.F.File.Disk.is_clean g.F.Folder.is_true g.F.Folder.places
+    g.F.Folder.has c.args.self.now (record c.args.self.now { segment = c.flush.new.self }) refl
+    (all_stays g.F.File.Disk.seen g.F.File.Disk.may_leave g.F.File.Disk.is_clean g.F.Folder.is_true g.F.Folder.places g.F.Folder.has
     c.args.self.now _ (record {
       on = record {
         folder_is = refl;
@@ -66,12 +73,14 @@ returns-in_err-flush-clause-kept g c =
       last_is = done.last;
       less = done.crash;
       stuck = λ free. absurd (true_false (sym done.stuck ∙ free));
-    })
+    }))
 
 pub returns-clause-kept : goal.returns-clause-kept
 returns-clause-kept g c =
     let done = c.in_ok-flush.ensures in
-    all_stays g.F.File.Disk.seen g.F.File.Disk.may_leave g.F.File.Disk.is_clean g.F.Folder.is_true g.F.Folder.places g.F.Folder.has
+    rest_keeps g.F.File.Disk.seen g.F.File.Disk.may_leave g.F.File.Disk.is_clean g.F.Folder.is_true g.F.Folder.places
+    g.F.Folder.has c.args.self.now (record c.args.self.now { segment = c.flush.new.self; synced = c.last-self.result }) refl
+    (all_stays g.F.File.Disk.seen g.F.File.Disk.may_leave g.F.File.Disk.is_clean g.F.Folder.is_true g.F.Folder.places g.F.Folder.has
     c.args.self.now _ (record {
       on = record {
         folder_is = refl;
@@ -85,4 +94,4 @@ returns-clause-kept g c =
       last_is = done.last;
       less = done.crash;
       stuck = λ _. done.was_free;
-    })
+    }))
