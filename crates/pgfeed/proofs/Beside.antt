@@ -10,7 +10,8 @@ use Rattle.pgledger.specs.Images.{images}
 use Rattle.pgledger.specs.Ledgers.{Appends, AppendsAtMost, Keeps, Rests, Syncs}
 use Rattle.pgfeed.specs.declared.feed.Feed.{Feed}
 use Rattle.pgfeed.specs.declared.segment.Segment.{Segment}
-use Rattle.pgfeed.specs.Beside.{FeedsBegin, FeedsGoOn, KeepsRest, LastsFrom, LeftIsReopened, RestsLead}
+use Rattle.pgfeed.specs.Beside.{FeedsBegin, FeedsGoOn, KeepsRest, LastsFrom}
+use Rattle.pgfeed.specs.Beside.{LeftIsReopened, RestsLead}
 use Rattle.pgfeed.specs.Feeds.{CutsIn, Goes, IsFresh, KeepsAll, LastsUpTo, OpenedFrom, OpensIn}
 use Rattle.pgfeed.specs.Feeds.{ReopensAt, first_of}
 use Rattle.pgfeed.specs.Segments.{Lasts}

@@ -31,7 +31,8 @@ module _ {F D : Type 0} (seen : D → List ℕ) (may_leave : D → List ℕ → 
   abbrev pub LastsFrom : Feed F D → ℕ → Type 0
   LastsFrom l p = (l.begins ≤ p) × LastsUpTo seen may_leave is_clean is_true places has l p
 
-  -- the entries of the feed lead to these tables at this LSN, whatever came before those that it has
+  -- the entries of the feed lead to these tables at this LSN, whatever came before those that it
+  -- has
   abbrev pub RecordsRest : Feed F D → Tables → ℕ → ℕ → Type 0
   RecordsRest l tables place reach = Records told_from KeepsRest LastsFrom is_stuck_feed l tables place reach
 
@@ -55,7 +56,8 @@ module _ {F D : Type 0} (seen : D → List ℕ) (may_leave : D → List ℕ → 
       → OpensIn seen may_leave is_clean is_true places has folder place l
       → IsHonestFeed seen may_leave is_clean is_true places has l → places folder ≡ [] → RecordsRest l tables place reach
 
-  -- What a crash leaves of a feed, but for a front of segments that others removed, is opened again.
+  -- What a crash leaves of a feed, but for a front of segments that others removed, is opened
+  -- again.
   abbrev pub LeftIsReopened : Type 0
   LeftIsReopened =
       (l other : Feed F D) (place : ℕ) (gone : List ℕ) (folder : F)

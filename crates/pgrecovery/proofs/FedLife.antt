@@ -1,7 +1,7 @@
 -- Runs over one store with one feed, each over what the one before left, hold the rows of one
 -- history.
-use Rattle.std.proofs.Common.{◌≡◌, ◌≤◌, ◌⊎◌, inl, inr, ℕ, List, [], ◌∷◌, Bool, Ok, max, refl, sym, ap}
-use Rattle.std.proofs.Common.{subst, arith}
+use Rattle.std.proofs.Common.{◌≡◌, ◌≤◌, ◌⊎◌, inl, inr, ℕ, List, [], ◌∷◌, Bool, Ok, max, refl}
+use Rattle.std.proofs.Common.{ap, subst, arith, sym}
 use Rattle.std.proofs.Math.Logic.{∥∥₁_elim, ∥∥₁_map, ∥∥₁_prop}
 use Rattle.std.specs.FinMap as map
 use Rattle.sqlite_disk.specs.declared.Disk as disk
@@ -25,8 +25,9 @@ use Rattle.pgsub_core.specs.Subscriber.SubscriberValue.{SubscriberValue, seen}
 use Rattle.pgsub_core.proofs.Restarting.{left_starts}
 use Rattle.pgrecovery.specs.Recovered.{GoesOn}
 use Rattle.pgrecovery.specs.Life.{ClosedAs}
-use Rattle.pgrecovery.specs.FedLife.{AreFedRuns, FedRun, FedStore, HoldFedThrough, HoldsFed, IsFedRun}
-use Rattle.pgrecovery.specs.FedLife.{IsLeftBy, OneFedLife, fed_place, fed_position, holds_fed}
+use Rattle.pgrecovery.specs.FedLife.{AreFedRuns, FedRun, FedStore, HoldFedThrough, HoldsFed}
+use Rattle.pgrecovery.specs.FedLife.{IsFedRun, IsLeftBy, OneFedLife, fed_place, fed_position}
+use Rattle.pgrecovery.specs.FedLife.{holds_fed}
 use Rattle.pgrecovery.proofs.Life.{all_up, nothing_yet, stored_both, stored_none, stored_up}
 
 module _ {D F E : Type 0} (g : disk.Ghosts D) (shows : E → List ℕ) (may_leave : E → List ℕ → Type 0) (is_clean : E → Bool)

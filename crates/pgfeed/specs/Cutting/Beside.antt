@@ -1,4 +1,5 @@
--- A feed that is opened again keeps the entries up to the LSN, from the first segment that is there.
+-- A feed that is opened again keeps the entries up to the LSN, from the first segment that is
+-- there.
 use Rattle.std.proofs.Common.{◌≡◌, ◌<◌, ◌≤◌, ℕ, List, [], ◌∷◌, ◌++◌, append_assoc, ap, refl, sym}
 use Rattle.std.proofs.Common.{◌∙◌, subst, arith, Bool}
 use Rattle.std.specs.List.{AllByRecursion}
@@ -20,7 +21,8 @@ pub split_at : (at p : ℕ) (gone stay told later : List Entry) → told ++ late
     → AllByRecursion (λ (e : Entry). p < e.end) later → (mid : List Entry) × (told ≡ gone ++ mid) × (stay ≡ mid ++ later)
 split_at at p [] stay told later same low ends all = (told, refl, sym same)
 split_at at p (g ∷ gone) stay [] later same low ends all =
-    let above : AllByRecursion (λ (e : Entry). p < e.end) (g ∷ (gone ++ stay)) = subst (AllByRecursion (λ (e : Entry). p < e.end)) same all in
+    let above : AllByRecursion (λ (e : Entry). p < e.end) (g ∷ (gone ++ stay)) =
+    subst (AllByRecursion (λ (e : Entry). p < e.end)) same all in
     let up = above_end p g.end gone stay above.0 above.1 in
     absurd (omega (arith, up, low))
 split_at at p (g ∷ gone) stay (t ∷ told) later same low ends all =

@@ -26,7 +26,8 @@ returns-in-Err-clause-refused g c =
     let failed = c.in-Err.ensures in
     rest_at_most g.F.File.Disk.seen g.F.File.Disk.may_leave g.F.File.Disk.is_clean g.F.Folder.is_true g.F.Folder.places
     g.F.Folder.has c.args.self.now (record c.write.new.self { segment = c.stop.new.self }) failed.begins c.args.commit.now.end
-    (λ es kept. all_stays g.F.File.Disk.seen g.F.File.Disk.may_leave g.F.File.Disk.is_clean g.F.Folder.is_true g.F.Folder.places g.F.Folder.has
+    (λ es kept. all_stays g.F.File.Disk.seen g.F.File.Disk.may_leave g.F.File.Disk.is_clean
+    g.F.Folder.is_true g.F.Folder.places g.F.Folder.has
     c.write.new.self _ (record {
       on = record {
         folder_is = refl;

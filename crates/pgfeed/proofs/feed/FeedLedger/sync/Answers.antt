@@ -29,7 +29,8 @@ returns-clause-synced g c =
     let done = c.in_ok-flush.ensures in
     rest_syncs g.F.File.Disk.seen g.F.File.Disk.may_leave g.F.File.Disk.is_clean g.F.Folder.is_true g.F.Folder.places
     g.F.Folder.has c.args.self.now (record c.args.self.now { segment = c.flush.new.self; synced = c.last-self.result }) refl
-    (λ es kept. all_lasts g.F.File.Disk.seen g.F.File.Disk.may_leave g.F.File.Disk.is_clean g.F.Folder.is_true g.F.Folder.places g.F.Folder.has
+    (λ es kept. all_lasts g.F.File.Disk.seen g.F.File.Disk.may_leave g.F.File.Disk.is_clean
+    g.F.Folder.is_true g.F.Folder.places g.F.Folder.has
     c.args.self.now
     (record c.args.self.now { segment = c.flush.new.self; synced = c.last-self.result }) es done.base done.last done.size done.durable kept)
 
