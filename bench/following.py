@@ -1,7 +1,8 @@
-"""A PostgreSQL server that publishes, and its followers: subscriptions of a second server, and `pgsub-connect follow` into a store.
+"""A PostgreSQL server that publishes, and its followers: subscriptions of a second server, and
+`pgsub-connect follow` into a store.
 
-Each follower has a slot of its own, has the rows that are there when it is made, and runs from `start` to `stop` alone. Both servers and
-the stores lie in one folder, and sync what they commit.
+Each follower has a slot of its own, has the rows that are there when it is made, and runs from
+`start` to `stop` alone. Both servers and the stores lie in one folder, and sync what they commit.
 """
 
 from __future__ import annotations
@@ -28,9 +29,16 @@ from live_server.rows import Rows, compare, rows_of_server, rows_of_store
 from live_server.sessions import Session
 
 SETTINGS = {
-    "fsync": "on", "shared_buffers": "512MB", "logical_decoding_work_mem": "64MB", "max_replication_slots": "100",
-    "max_wal_senders": "100", "wal_sender_timeout": "60s", "wal_retrieve_retry_interval": "10ms", "max_wal_size": "16GB",
-    "checkpoint_timeout": "1h", "autovacuum": "off",
+    "fsync": "on",
+    "shared_buffers": "512MB",
+    "logical_decoding_work_mem": "64MB",
+    "max_replication_slots": "100",
+    "max_wal_senders": "100",
+    "wal_sender_timeout": "60s",
+    "wal_retrieve_retry_interval": "10ms",
+    "max_wal_size": "16GB",
+    "checkpoint_timeout": "1h",
+    "autovacuum": "off",
 }
 PUBLICATION = "pgsub"
 # how long is waited for what takes long, and how often the quick things are looked at, in seconds
@@ -42,7 +50,9 @@ Tables = Callable[[Cluster, str], None]
 
 def plain_table(cluster: Cluster, database: str) -> None:
     """Makes the table `measured`."""
-    cluster.run("CREATE TABLE measured (id bigint PRIMARY KEY, a text, b text, c text)", database=database)
+    cluster.run(
+        "CREATE TABLE measured (id bigint PRIMARY KEY, a text, b text, c text)", database=database
+    )
 
 
 class Servers:
@@ -53,7 +63,8 @@ class Servers:
         self.closing = contextlib.ExitStack()
         # (what a subscriber writes is to be read by nobody)
         self.publisher, self.subscriber = (
-            Cluster(options.installed, options.folder, {**SETTINGS, "wal_level": level}) for level in ("logical", "replica")
+            Cluster(options.installed, options.folder, {**SETTINGS, "wal_level": level})
+            for level in ("logical", "replica")
         )
         for server in (self.publisher, self.subscriber):
             self.closing.callback(server.remove)
@@ -68,20 +79,30 @@ class Servers:
         """Makes a database with the tables, and a publication, which also says what is compared."""
         server.run(f"CREATE DATABASE {name}", database="postgres")
         self.tables(server, name)
-        server.run("SET client_min_messages = error", f"CREATE PUBLICATION {PUBLICATION} FOR ALL TABLES", database=name)
+        server.run(
+            "SET client_min_messages = error",
+            f"CREATE PUBLICATION {PUBLICATION} FOR ALL TABLES",
+            database=name,
+        )
 
     def last_commit(self, statement: str) -> str:
-        """Runs an INSERT, and returns an LSN that is before the end of its commit, and after those of all commits before it."""
+        """Runs an INSERT, and returns an LSN that is before the end of its commit, and after those
+        of all commits before it."""
         return self.session.value(f"{statement} RETURNING pg_current_wal_insert_lsn()")
 
     def sender(self, slot: str) -> int | None:
         """The process that sends what is in a slot."""
-        pid = self.session.value(f"SELECT active_pid FROM pg_replication_slots WHERE slot_name = '{slot}'")
+        pid = self.session.value(
+            f"SELECT active_pid FROM pg_replication_slots WHERE slot_name = '{slot}'"
+        )
         return int(pid) if pid else None
 
     def has(self, field: str, slot: str, lsn: str) -> bool:
-        """Whether a follower has told that it is beyond an LSN: `replay_lsn` tells what it has applied, `flush_lsn` what is on its disk."""
-        query = f"SELECT {field} > '{lsn}' FROM pg_stat_replication WHERE application_name = '{slot}'"
+        """Whether a follower has told that it is beyond an LSN: `replay_lsn` tells what it has
+        applied, `flush_lsn` what is on its disk."""
+        query = (
+            f"SELECT {field} > '{lsn}' FROM pg_stat_replication WHERE application_name = '{slot}'"
+        )
         return self.session.value(query) == "t"
 
     def wait_for(self, follower: Follower, field: str, lsn: str) -> None:
@@ -90,7 +111,8 @@ class Servers:
         wait_until(lambda: self.has(field, follower.slot, lsn), what, LIMIT, follower.check, STEP)
 
     def rest(self) -> None:
-        """Writes what the servers have in memory, which else would be written while something is measured."""
+        """Writes what the servers have in memory, which else would be written while something is
+        measured."""
         for server in (self.publisher, self.subscriber):
             server.run("CHECKPOINT", database="postgres")
         os.sync()
@@ -129,7 +151,13 @@ class Follower(Protocol):
 
 
 def wait_for_stream(servers: Servers, follower: Follower) -> None:
-    wait_until(lambda: servers.sender(follower.slot) is not None, f"{follower.slot}: connecting", LIMIT, follower.check, STEP)
+    wait_until(
+        lambda: servers.sender(follower.slot) is not None,
+        f"{follower.slot}: connecting",
+        LIMIT,
+        follower.check,
+        STEP,
+    )
 
 
 class Subscription:
@@ -152,14 +180,18 @@ class Subscription:
         wait_until(self.is_copied, f"{self.slot}: the copy", LIMIT)
 
     def is_copied(self) -> bool:
-        return self.session.value("SELECT bool_and(srsubstate = 'r') FROM pg_subscription_rel") == "t"
+        return (
+            self.session.value("SELECT bool_and(srsubstate = 'r') FROM pg_subscription_rel") == "t"
+        )
 
     def start(self) -> None:
         self.session.run(f"ALTER SUBSCRIPTION {self.slot} ENABLE")
         wait_for_stream(self.servers, self)
 
     def processes(self) -> dict[str, int]:
-        query = f"SELECT pid FROM pg_stat_subscription WHERE subname = '{self.slot}' AND relid IS NULL"
+        query = (
+            f"SELECT pid FROM pg_stat_subscription WHERE subname = '{self.slot}' AND relid IS NULL"
+        )
         return {"worker": int(self.session.value(query))}
 
     def check(self) -> None:
@@ -180,7 +212,9 @@ class Program:
         self.servers, self.slot = servers, slot
         self.name = f"pgsub, version {proto}"
         self.store = servers.options.folder / f"{slot}.db"
-        self.words = servers.options.words(servers.publisher.dsn(), self.store, "--slot", slot, "--proto", str(proto), *more)
+        self.words = servers.options.words(
+            servers.publisher.dsn(), self.store, "--slot", slot, "--proto", str(proto), *more
+        )
         self.child = servers.child(slot, [*self.words, "--create"])
         self.copy()
         self.stop()
@@ -209,17 +243,32 @@ class Program:
 
 def parser_of(about: str) -> argparse.ArgumentParser:
     """The options that all measurements of followers have."""
-    parser = argparse.ArgumentParser(description=about, formatter_class=argparse.RawDescriptionHelpFormatter)
+    parser = argparse.ArgumentParser(
+        description=about, formatter_class=argparse.RawDescriptionHelpFormatter
+    )
     add_program(parser)
     add = parser.add_argument
-    add("--server", type=int, metavar="N", help="PostgreSQL's major version (default: the newest that is there)")
-    add("--folder", type=Path, metavar="PATH", help="a folder on the disk that is measured (default: a temporary one)")
+    add(
+        "--server",
+        type=int,
+        metavar="N",
+        help="PostgreSQL's major version (default: the newest that is there)",
+    )
+    add(
+        "--folder",
+        type=Path,
+        metavar="PATH",
+        help="a folder on the disk that is measured (default: a temporary one)",
+    )
     return parser
 
 
 @contextlib.contextmanager
-def started(parser: argparse.ArgumentParser, words: argparse.Namespace, tables: Tables) -> Iterator[Servers]:
-    """The servers that the words ask for. They are removed at the end, also where a signal ends this; what fails is told."""
+def started(
+    parser: argparse.ArgumentParser, words: argparse.Namespace, tables: Tables
+) -> Iterator[Servers]:
+    """The servers that the words ask for. They are removed at the end, also where a signal ends
+    this; what fails is told."""
     program = check_program(parser, words.program)
     signal.signal(signal.SIGTERM, lambda *_: sys.exit(f"{parser.prog}: stopped"))
     for name in [it for it in os.environ if it.startswith("PG")]:
@@ -231,7 +280,9 @@ def started(parser: argparse.ArgumentParser, words: argparse.Namespace, tables: 
             # the servers' account goes through it
             os.chmod(folder, 0o711)
             found = installed.find(words.server, None, "postgres")
-            servers = Servers(Options(program, TOP / "connect/pgsub-connect", found, Path(folder)), tables)
+            servers = Servers(
+                Options(program, TOP / "connect/pgsub-connect", found, Path(folder)), tables
+            )
             with servers.closing:
                 servers.start()
                 yield servers
@@ -239,9 +290,18 @@ def started(parser: argparse.ArgumentParser, words: argparse.Namespace, tables: 
         sys.exit(f"{parser.prog}: {error}")
 
 
-def measure(parser: argparse.ArgumentParser, run: Callable[[Servers, argparse.Namespace], None]) -> None:
-    """Runs a measurement over the table `measured`, in which one version of the protocol is followed."""
-    parser.add_argument("--proto", type=int, choices=(1, 2), default=2, help="the version of the protocol of pgsub (default: 2)")
+def measure(
+    parser: argparse.ArgumentParser, run: Callable[[Servers, argparse.Namespace], None]
+) -> None:
+    """Runs a measurement over the table `measured`, in which one version of the protocol is
+    followed."""
+    parser.add_argument(
+        "--proto",
+        type=int,
+        choices=(1, 2),
+        default=2,
+        help="the version of the protocol of pgsub (default: 2)",
+    )
     words = parser.parse_args()
     with started(parser, words, plain_table) as servers:
         run(servers, words)

@@ -1,4 +1,5 @@
-"""What the programs of bench/ import, by text: each name has to be in the root of its crate, which the gate doesn't build them over.
+"""What the programs of bench/ import, by text: each name has to be in the root of its crate, which
+the gate doesn't build them over.
 
 Their scripts build them over crates that they list: with each one all that it stands on.
 """
@@ -32,7 +33,10 @@ def exports_of(root: str) -> set[str]:
 def wrong_imports(crates: Path, program: str) -> list[str]:
     """What a program's text names of the repository's crates and isn't there."""
     wrong = []
-    plain = USE.sub("", "\n".join(it for it in program.splitlines() if not it.lstrip().startswith(("//", "ghost"))))
+    plain = USE.sub(
+        "",
+        "\n".join(it for it in program.splitlines() if not it.lstrip().startswith(("//", "ghost"))),
+    )
     for crate, listed in USE.findall(program) + INLINE.findall(plain):
         root = crates / crate / "src/lib.rt"
         if root.is_file():
@@ -57,7 +61,15 @@ def wrong_builds(crates: str, script: str, program: str) -> list[str]:
     libraries = {name: words.split() for name, words in USES.findall(crates)}
     wrong = []
     for listed in (it.split() for it in BUILD.findall(script)):
-        wrong += [f"its list lacks {it}, which others stand on" for it in closure_of(listed, libraries) if it not in listed]
+        wrong += [
+            f"its list lacks {it}, which others stand on"
+            for it in closure_of(listed, libraries)
+            if it not in listed
+        ]
         imported = {crate for crate, _ in USE.findall(program)} - ALWAYS
-        wrong += [f"its list lacks {it}, which the program imports" for it in sorted(imported) if it not in listed]
+        wrong += [
+            f"its list lacks {it}, which the program imports"
+            for it in sorted(imported)
+            if it not in listed
+        ]
     return wrong

@@ -24,7 +24,8 @@ class Library(Protocol):
 
 
 class Proofs:
-    """A command that proves crates: which it has proved so far, and its counts once it has ended."""
+    """A command that proves crates: which it has proved so far, and its counts once it has
+    ended."""
 
     def __init__(self, say: Callable[..., None]) -> None:
         self.say, self.began = say, time.time()
@@ -37,7 +38,13 @@ class Proofs:
         """Runs it to its end, and prints what it prints."""
         last, status = "", 1
         try:
-            with subprocess.Popen(command, stdin=subprocess.DEVNULL, stdout=subprocess.PIPE, text=True, errors="replace") as ran:
+            with subprocess.Popen(
+                command,
+                stdin=subprocess.DEVNULL,
+                stdout=subprocess.PIPE,
+                text=True,
+                errors="replace",
+            ) as ran:
                 assert ran.stdout
                 for line in ran.stdout:
                     last = line.rstrip("\n")
@@ -64,7 +71,8 @@ class Proofs:
             self.changed.notify_all()
 
     def have_proved(self, names: Collection[str]) -> bool:
-        """Waits until all of these are proved, or nothing is to be proved any more, and tells which."""
+        """Waits until all of these are proved, or nothing is to be proved any more, and tells
+        which."""
         with self.changed:
             self.changed.wait_for(lambda: self.has_ended or self.proved.issuperset(names))
             return self.proved.issuperset(names)
@@ -81,7 +89,9 @@ class Beside:
         """Holds one of the places."""
         changed = self.proofs.changed
         with changed:
-            changed.wait_for(lambda: self.running < (self.most_alone if self.proofs.has_ended else self.most))
+            changed.wait_for(
+                lambda: self.running < (self.most_alone if self.proofs.has_ended else self.most)
+            )
             self.running += 1
         try:
             yield
@@ -94,14 +104,19 @@ class Beside:
 def links(libraries: Collection[Library], room: str, began: float) -> dict[str, str]:
     """Links built libraries into a folder of one's own. Returns where each one's folder is then.
 
-    At its end `rt ci` puts back what was built before it, of other sources maybe: over that a mutant could be refused for a wrong reason, so
-    one that is older than the run ends all. (A link has the time of its folder.)"""
+    At its end `rt ci` puts back what was built before it, of other sources maybe: over that a
+    mutant could be refused for a wrong reason, so one that is older than the run ends all. (A link
+    has the time of its folder.)"""
     found = {}
     for it in libraries:
         made = f"{it.folder}/out/rlib"
-        linked = shutil.copytree(f"{made}/{it.name}.rlib", f"{room}/{it.name}/{it.name}.rlib", copy_function=link)
+        linked = shutil.copytree(
+            f"{made}/{it.name}.rlib", f"{room}/{it.name}/{it.name}.rlib", copy_function=link
+        )
         if os.stat(linked).st_mtime < began:
-            sys.exit(f"mutants: `rt ci` ended before {it.name} was linked, and took it away: run this again")
+            sys.exit(
+                f"mutants: `rt ci` ended before {it.name} was linked, and took it away: run this again"
+            )
         found[made] = f"{room}/{it.name}"
     return found
 
@@ -117,5 +132,12 @@ def link(source: str, to: str) -> str:
 def moved(words: list[str], folders: dict[str, str]) -> list[str]:
     """The words of a check, over the libraries in these folders."""
     for made, at in folders.items():
-        words = [it.replace(f"{made}/", f"{at}/") if f"{made}/" in it else at.join(it.rsplit(made, 1)) if it.endswith(made) else it for it in words]
+        words = [
+            it.replace(f"{made}/", f"{at}/")
+            if f"{made}/" in it
+            else at.join(it.rsplit(made, 1))
+            if it.endswith(made)
+            else it
+            for it in words
+        ]
     return words

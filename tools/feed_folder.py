@@ -1,4 +1,5 @@
-"""The folder of a feed in memory, to the byte: what each run over a store leaves there, by docs/FORMATS.md, and what differs in another one."""
+"""The folder of a feed in memory, to the byte: what each run over a store leaves there, by
+docs/FORMATS.md, and what differs in another one."""
 
 from __future__ import annotations
 
@@ -7,7 +8,15 @@ from dataclasses import dataclass
 from itertools import zip_longest
 from pathlib import Path
 
-from feed_text import SEGMENT_SIZE, About, Line, closing_line, entry_text, segment_head, segment_name
+from feed_text import (
+    SEGMENT_SIZE,
+    About,
+    Line,
+    closing_line,
+    entry_text,
+    segment_head,
+    segment_name,
+)
 
 SEGMENT_BYTES = 67108864
 LAST_LSN = (1 << 64) - 1
@@ -24,7 +33,8 @@ class NotOpened(Exception):
 
 @dataclass(frozen=True)
 class Asked:
-    """What a run is asked to keep: what the feed is of, how many bytes a segment may have, and how many seconds it is open, 0 for any number."""
+    """What a run is asked to keep: what the feed is of, how many bytes a segment may have, and how
+    many seconds it is open, 0 for any number."""
 
     system: str = ""
     database: str = ""
@@ -41,7 +51,8 @@ class Asked:
 
 
 class Segment:
-    """A segment: its bytes, and of each of its commits the LSN at which it ends and the length up to there."""
+    """A segment: its bytes, and of each of its commits the LSN at which it ends and the length up
+    to there."""
 
     def __init__(self, head: bytes) -> None:
         self.text, self.ends = head, dict[int, int]()
@@ -57,7 +68,8 @@ class Segment:
 
 
 class Folder:
-    """The segments by their bases. A run opens it at the position of its store, and each commit is added to the last one."""
+    """The segments by their bases. A run opens it at the position of its store, and each commit is
+    added to the last one."""
 
     def __init__(self) -> None:
         self.segments = dict[int, Segment]()
@@ -114,7 +126,12 @@ class Folder:
 
     def is_late(self, about: About | None) -> bool:
         seconds = self.asked.segment_seconds
-        return bool(seconds) and about is not None and self.first is not None and about.time - self.first >= seconds * SECOND
+        return (
+            bool(seconds)
+            and about is not None
+            and self.first is not None
+            and about.time - self.first >= seconds * SECOND
+        )
 
     def files(self) -> dict[str, bytes]:
         return {segment_name(base): segment.text for base, segment in self.segments.items()}
@@ -130,10 +147,17 @@ def shown(line: bytes, at: int) -> str:
 
 def first_difference(found: bytes, wanted: bytes) -> str:
     """The first line in which two segments differ."""
-    for number, (ours, theirs) in enumerate(zip_longest(found.split(b"\n"), wanted.split(b"\n"), fillvalue=b""), 1):
+    for number, (ours, theirs) in enumerate(
+        zip_longest(found.split(b"\n"), wanted.split(b"\n"), fillvalue=b""), 1
+    ):
         if ours != theirs:
-            at = next((place for place, pair in enumerate(zip(ours, theirs)) if pair[0] != pair[1]), min(len(ours), len(theirs)))
-            return f"line {number} from byte {at}: {shown(ours, at)}\n   and not {shown(theirs, at)}"
+            at = next(
+                (place for place, pair in enumerate(zip(ours, theirs)) if pair[0] != pair[1]),
+                min(len(ours), len(theirs)),
+            )
+            return (
+                f"line {number} from byte {at}: {shown(ours, at)}\n   and not {shown(theirs, at)}"
+            )
     # (an empty line at the end is no line)
     return f"{len(found)} bytes and not {len(wanted)}"
 
@@ -153,13 +177,20 @@ def differences(found: Mapping[str, bytes], wanted: Mapping[str, bytes]) -> list
 
 def wrong_modes(folder: Path) -> list[str]:
     """The folder and the segments that others than their owner may read."""
-    paths = {it: FILE_MODE for it in sorted(folder.iterdir()) if len(it.name) == len(segment_name(0))}
+    paths = {
+        it: FILE_MODE for it in sorted(folder.iterdir()) if len(it.name) == len(segment_name(0))
+    }
     modes = {it: it.stat().st_mode & 0o777 for it in (folder, *paths)}
-    return [f"{it.name} has the mode {mode:o}" for it, mode in modes.items() if mode != paths.get(it, FOLDER_MODE)]
+    return [
+        f"{it.name} has the mode {mode:o}"
+        for it, mode in modes.items()
+        if mode != paths.get(it, FOLDER_MODE)
+    ]
 
 
 def findings(folder: Path, wanted: Mapping[str, bytes]) -> list[str]:
-    """What is wrong with a folder on the disk; nothing where it has the files that are wanted. Where that are none, it may not be there."""
+    """What is wrong with a folder on the disk; nothing where it has the files that are wanted.
+    Where that are none, it may not be there."""
     if not folder.exists():
         return differences({}, wanted)
     found = {it.name: it.read_bytes() for it in folder.iterdir() if it.is_file()}

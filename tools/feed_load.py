@@ -1,4 +1,5 @@
-"""A feed of changes of every kind, at random, by the writer that readers are tried on (tools/feed_text.py)."""
+"""A feed of changes of every kind, at random, by the writer that readers are tried on
+(tools/feed_text.py)."""
 
 from __future__ import annotations
 
@@ -20,7 +21,8 @@ def definition(oid: int, name: str, columns: list[Column], letter: str = "d") ->
 
 
 class Load:
-    """Tables with rows. Three have a key, get other shapes and each other's names; one, the last, has none. `lines` makes changes."""
+    """Tables with rows. Three have a key, get other shapes and each other's names; one, the last,
+    has none. `lines` makes changes."""
 
     def __init__(self, rng: random.Random) -> None:
         self.rng, self.count = rng, 0
@@ -30,7 +32,8 @@ class Load:
         self.bag, self.copies = definition(BAG, "bag", [ID, NAME], "f"), list[list[Cell]]()
 
     def alter(self, oid: int) -> list[Line]:
-        """Gives a table another shape, in which rows are carried by the names of the columns. A row tells it."""
+        """Gives a table another shape, in which rows are carried by the names of the columns. A row
+        tells it."""
         old, columns = self.tables[oid], self.rng.choice(SHAPES)
         self.tables[oid] = definition(oid, self.names[oid], columns)
         for key, row in self.rows[oid].items():
@@ -48,7 +51,14 @@ class Load:
     def row(self, of: Definition, id: str) -> list[Cell]:
         self.count += 1
         values = (f"v{self.count}", f"v:{self.count}", "é", f"%{self.count}")
-        return [id if it.name == "id" else None if not it.key and self.rng.random() < 0.2 else self.rng.choice(values) for it in of.columns]
+        return [
+            id
+            if it.name == "id"
+            else None
+            if not it.key and self.rng.random() < 0.2
+            else self.rng.choice(values)
+            for it in of.columns
+        ]
 
     def insert(self, oid: int, id: str) -> list[Line]:
         of, rows = self.tables[oid], self.rows[oid]

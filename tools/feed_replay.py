@@ -1,7 +1,9 @@
-"""Replays a feed by what its format says and nothing else: the rows of each table, as the server prints them.
+"""Replays a feed by what its format says and nothing else: the rows of each table, as the server
+prints them.
 
-It shares no code with the connector's readers. Each commit has to go on where the one before it ends, its lines have to be as many
-bytes and changes as it says, and the row before each change has to be there.
+It shares no code with the connector's readers. Each commit has to go on where the one before it
+ends, its lines have to be as many bytes and changes as it says, and the row before each change has
+to be there.
 """
 
 from __future__ import annotations
@@ -35,7 +37,8 @@ def need(is_so: bool, what: str) -> None:
 
 
 class Replay:
-    """The rows at an LSN. `definitions` and `rows` are by OID; a row is there as often as it is counted."""
+    """The rows at an LSN. `definitions` and `rows` are by OID; a row is there as often as it is
+    counted."""
 
     def __init__(self, at: int = 0) -> None:
         self.at = at
@@ -48,10 +51,13 @@ class Replay:
         self.definitions[definition["oid"]], self.rows[definition["oid"]] = definition, rows
 
     def describe(self, definition: dict[str, Any]) -> None:
-        """A definition: the rows of another shape are carried by the names of the columns, and a new one is null."""
+        """A definition: the rows of another shape are carried by the names of the columns, and a
+        new one is null."""
         oid = definition["oid"]
         old, rows = self.definitions.get(oid, definition), self.rows.get(oid, Counter())
-        if [name for name, _, _ in old["columns"]] == [name for name, _, _ in definition["columns"]]:
+        if [name for name, _, _ in old["columns"]] == [
+            name for name, _, _ in definition["columns"]
+        ]:
             # (each segment tells all definitions once more)
             self.begin(definition, rows)
             return
@@ -70,7 +76,11 @@ class Replay:
             self.missed += 1
         else:
             before, after = change["before"], change["after"]
-            need((before is not None, after is not None) == {"c": (False, True), "u": (True, True), "d": (True, False)}[op], f"{change}")
+            need(
+                (before is not None, after is not None)
+                == {"c": (False, True), "u": (True, True), "d": (True, False)}[op],
+                f"{change}",
+            )
             if before is not None:
                 need(rows[row_of(before)] > 0, f"the row before isn't there: {change}")
                 rows[row_of(before)] -= 1
@@ -78,7 +88,8 @@ class Replay:
                 rows[row_of(after)] += 1
 
     def commit(self, commit: dict[str, Any], body: bytes) -> None:
-        """A commit that isn't above the LSN is passed over; the first one that is has to be the next."""
+        """A commit that isn't above the LSN is passed over; the first one that is has to be the
+        next."""
         end = lsn_of(commit["end"])
         if end <= self.at:
             return

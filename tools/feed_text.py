@@ -50,7 +50,8 @@ class Definition:
 
 @dataclass(frozen=True)
 class Line:
-    """A change: `op` is c, u, d or t, or x of one that found no row, which has what was sent: a kind, K or O, with the old tuple."""
+    """A change: `op` is c, u, d or t, or x of one that found no row, which has what was sent: a
+    kind, K or O, with the old tuple."""
 
     definition: Definition
     op: str
@@ -128,12 +129,15 @@ def change_line(n: int, it: Line) -> bytes:
     if it.op == "x":
         old = None if it.kind is None else [it.kind, [cell_value(cell) for cell in it.before or ()]]
         sent = "d" if it.after is None else "u"
-        return f'{front}"sent":"{sent}","old":{compact(old)},"new":{row_text(it.after)}}}\n'.encode()
+        return (
+            f'{front}"sent":"{sent}","old":{compact(old)},"new":{row_text(it.after)}}}\n'.encode()
+        )
     return f'{front}"before":{row_text(it.before)},"after":{row_text(it.after)}}}\n'.encode()
 
 
 def body_text(lines: Sequence[Line]) -> bytes:
-    """The lines of a commit: before the first change of a relation its definition, and once more where that changes."""
+    """The lines of a commit: before the first change of a relation its definition, and once more
+    where that changes."""
     told = dict[int, Definition]()
     parts = []
     for n, line in enumerate(lines):
@@ -150,9 +154,16 @@ def entry_text(prev: int, end: int, lines: Sequence[Line], about: About | None =
 
 
 class Writer:
-    """Writes a feed's folder. A segment ends before the commit that would pass `most` bytes, unless it has none yet."""
+    """Writes a feed's folder. A segment ends before the commit that would pass `most` bytes, unless
+    it has none yet."""
 
-    def __init__(self, folder: Path, base: int = 0, most: int = 1 << 30, named: tuple[str, str, str] = ("7", "shop", "pgsub")) -> None:
+    def __init__(
+        self,
+        folder: Path,
+        base: int = 0,
+        most: int = 1 << 30,
+        named: tuple[str, str, str] = ("7", "shop", "pgsub"),
+    ) -> None:
         self.folder, self.at, self.most, self.named = folder, base, most, named
         self.begin()
 

@@ -42,16 +42,25 @@ def escaped(text: str) -> str:
 def ask(command: Path, words: list[str]) -> Help:
     environment = {**os.environ, "COLUMNS": "100", "PYTHONDONTWRITEBYTECODE": "1"}
     try:
-        ran = subprocess.run([command, *words, "--help"], capture_output=True, text=True, env=environment, stdin=subprocess.DEVNULL)
+        ran = subprocess.run(
+            [command, *words, "--help"],
+            capture_output=True,
+            text=True,
+            env=environment,
+            stdin=subprocess.DEVNULL,
+        )
     except OSError as error:
         raise Unreadable(f"{command}: {error.strerror}") from None
     if ran.returncode or not ran.stdout.strip():
-        raise Unreadable(f"{command} {' '.join(words)} --help: status {ran.returncode}: {ran.stderr.strip()}")
+        raise Unreadable(
+            f"{command} {' '.join(words)} --help: status {ran.returncode}: {ran.stderr.strip()}"
+        )
     return Help(words, ran.stdout)
 
 
 def subcommands(text: str) -> list[str]:
-    """The commands that a help lists below `Commands:`, or below `COMMAND`, in the order in which they stand."""
+    """The commands that a help lists below `Commands:`, or below `COMMAND`, in the order in which
+    they stand."""
     found, inside = [], False
     for line in text.splitlines():
         if re.match(r"^(Commands:|\s*COMMAND)$", line):
@@ -98,10 +107,22 @@ def abouts_of(text: str, commands: Iterable[str]) -> dict[str, str]:
     return {it: found.get(it, "") for it in commands}
 
 
-def page_of(title: str, help: Help, about: str, others: Iterable[str], date: str, version: str) -> str:
-    """A manual page, which names others. Raises Unreadable where an option of the help isn't in it."""
-    lines = [f'.TH {title.upper()} 1 "{date}" "{version}"', ".SH NAME", rf"{escaped(title)} \- {escaped(about)}"]
-    lines += [".SH DESCRIPTION", *roff_of(help.text), ".SH SEE ALSO", ", ".join(rf"\fB{escaped(it)}\fR(1)" for it in others)]
+def page_of(
+    title: str, help: Help, about: str, others: Iterable[str], date: str, version: str
+) -> str:
+    """A manual page, which names others. Raises Unreadable where an option of the help isn't in
+    it."""
+    lines = [
+        f'.TH {title.upper()} 1 "{date}" "{version}"',
+        ".SH NAME",
+        rf"{escaped(title)} \- {escaped(about)}",
+    ]
+    lines += [
+        ".SH DESCRIPTION",
+        *roff_of(help.text),
+        ".SH SEE ALSO",
+        ", ".join(rf"\fB{escaped(it)}\fR(1)" for it in others),
+    ]
     text = "\n".join(lines) + "\n"
     plain = text.replace(r"\-", "-").replace(r"\fB", "")
     if missing := set(OPTION.findall(help.text)) - set(OPTION.findall(plain)):
@@ -110,7 +131,8 @@ def page_of(title: str, help: Help, about: str, others: Iterable[str], date: str
 
 
 def helps_of(command: Path) -> dict[str, Help]:
-    """What a command prints for --help: its own by the word "", and that of each of its commands."""
+    """What a command prints for --help: its own by the word "", and that of each of its
+    commands."""
     first = ask(command, [])
     names = subcommands(first.text)
     with ThreadPoolExecutor() as pool:
@@ -123,6 +145,9 @@ def make(helps: dict[str, Help], name: str, date: str, version: str) -> dict[str
     titles = {word: f"{name}-{word}" if word else name for word in helps}
     made = {}
     for word, it in helps.items():
-        others = [*(title for other, title in titles.items() if other != word), *(other for other in ABOUT if other != name)]
+        others = [
+            *(title for other, title in titles.items() if other != word),
+            *(other for other in ABOUT if other != name),
+        ]
         made[titles[word]] = page_of(titles[word], it, abouts[word], others, date, version)
     return made

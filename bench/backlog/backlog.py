@@ -1,9 +1,11 @@
-"""How fast followers take a backlog of transactions, each beginning from a slot made before it, one after the other in each turn.
+"""How fast followers take a backlog of transactions, each beginning from a slot made before it, one
+after the other in each turn.
 
-The backlog is of pgbench's own script, at tables of pgbench's that have their rows in each copy from the start, or of inserts. Time
-counts from when the server's process that sends has begun until the follower has told that all is applied, and that all is on its disk.
-A subscription with synchronous_commit = off, the default, tells the second some time after the first. At the end of each run the rows
-are compared with the server's.
+The backlog is of pgbench's own script, at tables of pgbench's that have their rows in each copy
+from the start, or of inserts. Time counts from when the server's process that sends has begun until
+the follower has told that all is applied, and that all is on its disk. A subscription with
+synchronous_commit = off, the default, tells the second some time after the first. At the end of
+each run the rows are compared with the server's.
 """
 
 from __future__ import annotations
@@ -58,7 +60,9 @@ class Script:
 
     def make(self, servers: Servers, transactions: int) -> int:
         cluster, each = servers.publisher, -(-transactions // CLIENTS)
-        cluster.call("pgbench", "-n", "-c", str(CLIENTS), "-j", "2", "-t", str(each), *place(cluster))
+        cluster.call(
+            "pgbench", "-n", "-c", str(CLIENTS), "-j", "2", "-t", str(each), *place(cluster)
+        )
         return CLIENTS * each
 
 
@@ -88,7 +92,8 @@ class Inserts:
 
 @dataclass
 class Run:
-    """Seconds until a follower had applied all, until all was on its disk, and of a processor by process until the first."""
+    """Seconds until a follower had applied all, until all was on its disk, and of a processor by
+    process until the first."""
 
     applied: float
     durable: float
@@ -135,7 +140,8 @@ connector, and of the server's process that sends. Medians; the ratios of two ra
 
 
 def ratios(runs: list[Run], others: list[Run]) -> str:
-    """How many times the rate of another follower's one has, turn by turn: what else the machine does differs less within a turn."""
+    """How many times the rate of another follower's one has, turn by turn: what else the machine
+    does differs less within a turn."""
     found = [other.applied / it.applied for it, other in zip(runs, others)]
     return f"{statistics.median(found):.2f}: {', '.join(f'{it:.2f}' for it in found)}"
 
@@ -151,7 +157,9 @@ def line(runs: list[Run], transactions: int, subscriptions: list[list[Run]]) -> 
         found = [sum(it.processor.get(part, 0) for part in parts) for it in runs]
         return f"{statistics.median(found):.2f}" if any(found) else ""
 
-    processor_of = f"{processor('worker', 'filter')} | {processor('connector')} | {processor('walsender')}"
+    processor_of = (
+        f"{processor('worker', 'filter')} | {processor('connector')} | {processor('walsender')}"
+    )
     return f"{applied:.2f} | {durable:.2f} | {transactions / applied:,.0f} | {turns} | {beside} | {processor_of}"
 
 
@@ -168,7 +176,9 @@ def run(servers: Servers, load: Load, words: argparse.Namespace) -> None:
             runs.setdefault(it.name, []).append(measured(servers, it, end))
             print(f"{it.slot}: {runs[it.name][-1]}", file=sys.stderr, flush=True)
     version = servers.session.value("SHOW server_version")
-    print(f"{transactions:,} transactions of {load.name}; PostgreSQL {version}; turns: {words.turns}.\n{HEAD}")
+    print(
+        f"{transactions:,} transactions of {load.name}; PostgreSQL {version}; turns: {words.turns}.\n{HEAD}"
+    )
     for name, taken in runs.items():
         print(f"| {name} | {line(taken, transactions, list(runs.values())[:2])} |")
 
@@ -176,10 +186,33 @@ def run(servers: Servers, load: Load, words: argparse.Namespace) -> None:
 def main() -> None:
     parser = parser_of(__doc__)
     add = parser.add_argument
-    add("--transactions", type=int, default=20000, metavar="N", help="how many transactions the backlog has (default: 20000)")
-    add("--turns", type=int, default=3, metavar="N", help="how often each follower takes it (default: 3)")
-    add("--scale", type=int, default=1, metavar="N", help="pgbench's scale, 100000 accounts each (default: 1)")
-    add("--inserts", type=int, metavar="SIZE", help="inserts of SIZE rows a transaction in place of pgbench's script")
+    add(
+        "--transactions",
+        type=int,
+        default=20000,
+        metavar="N",
+        help="how many transactions the backlog has (default: 20000)",
+    )
+    add(
+        "--turns",
+        type=int,
+        default=3,
+        metavar="N",
+        help="how often each follower takes it (default: 3)",
+    )
+    add(
+        "--scale",
+        type=int,
+        default=1,
+        metavar="N",
+        help="pgbench's scale, 100000 accounts each (default: 1)",
+    )
+    add(
+        "--inserts",
+        type=int,
+        metavar="SIZE",
+        help="inserts of SIZE rows a transaction in place of pgbench's script",
+    )
     words = parser.parse_args()
     load: Load = Script(words.scale)
     if words.inserts:

@@ -1,8 +1,9 @@
 """How long the first copy of tables takes, one way after the other in each turn.
 
-COPY to a file and pg_dump only read the rows and write them as text. A subscription and `pgsub-connect follow --create` also make a slot,
-and go on from it; theirs is the time until each table is copied and the stream begins. At the end of each the rows are compared with the
-server's. Of pgsub the most memory is told that connector and programs had, looked at ten times a second.
+COPY to a file and pg_dump only read the rows and write them as text. A subscription and
+`pgsub-connect follow --create` also make a slot, and go on from it; theirs is the time until each
+table is copied and the stream begins. At the end of each the rows are compared with the server's.
+Of pgsub the most memory is told that connector and programs had, looked at ten times a second.
 """
 
 from __future__ import annotations
@@ -25,7 +26,8 @@ LOOK = 0.1
 
 
 class Run(NamedTuple):
-    """The seconds of a copy, and of pgsub's the most bytes of memory of the connector and of the program."""
+    """The seconds of a copy, and of pgsub's the most bytes of memory of the connector and of the
+    program."""
 
     seconds: float
     connector: int = 0
@@ -39,7 +41,13 @@ class Tables:
         self.names, self.rows = [f"copied_{it}" for it in range(1, count + 1)], rows
 
     def make(self, cluster: Cluster, database: str) -> None:
-        cluster.run(*(f"CREATE TABLE {it} (id bigint PRIMARY KEY, a text, b text, c text)" for it in self.names), database=database)
+        cluster.run(
+            *(
+                f"CREATE TABLE {it} (id bigint PRIMARY KEY, a text, b text, c text)"
+                for it in self.names
+            ),
+            database=database,
+        )
 
     def fill(self, servers: Servers) -> None:
         for it in self.names:
@@ -52,7 +60,9 @@ class Tables:
     def bytes(self, servers: Servers) -> int:
         """What COPY writes of them: three tabs and a line feed a row, too."""
         lengths = " + ".join(f"length({it}::text)" for it in ("id", "a", "b", "c")) + " + 4"
-        return sum(int(servers.session.value(f"SELECT sum({lengths}) FROM {it}")) for it in self.names)
+        return sum(
+            int(servers.session.value(f"SELECT sum({lengths}) FROM {it}")) for it in self.names
+        )
 
 
 def peak(pid: int) -> int:
@@ -93,7 +103,9 @@ def copy_to_files(servers: Servers, tables: Tables, turn: int) -> Run:
     cluster = servers.publisher
     began = time.monotonic()
     for it in tables.names:
-        servers.session.run(f"COPY {it} TO '{cluster.installed.inside(cluster.folder)}/{it}_{turn}.txt'")
+        servers.session.run(
+            f"COPY {it} TO '{cluster.installed.inside(cluster.folder)}/{it}_{turn}.txt'"
+        )
     return Run(time.monotonic() - began)
 
 
@@ -101,7 +113,13 @@ def dump(servers: Servers, tables: Tables, turn: int) -> Run:
     """pg_dump of the tables' rows."""
     cluster = servers.publisher
     began = time.monotonic()
-    cluster.call("pg_dump", "-a", "-f", f"{cluster.installed.inside(cluster.folder)}/dump_{turn}.sql", *place(cluster))
+    cluster.call(
+        "pg_dump",
+        "-a",
+        "-f",
+        f"{cluster.installed.inside(cluster.folder)}/dump_{turn}.sql",
+        *place(cluster),
+    )
     return Run(time.monotonic() - began)
 
 
@@ -119,7 +137,10 @@ def pgsub(servers: Servers, tables: Tables, turn: int) -> Run:
 
 
 WAYS: dict[str, Callable[[Servers, Tables, int], Run]] = {
-    "COPY to files": copy_to_files, "pg_dump": dump, "subscription": subscription, "pgsub": pgsub,
+    "COPY to files": copy_to_files,
+    "pg_dump": dump,
+    "subscription": subscription,
+    "pgsub": pgsub,
 }
 
 
@@ -153,7 +174,13 @@ def run(servers: Servers, tables: Tables, words: argparse.Namespace) -> None:
 def main() -> None:
     parser = parser_of(__doc__)
     add = parser.add_argument
-    add("--rows", type=int, default=500000, metavar="N", help="how many rows each table has (default: 500000)")
+    add(
+        "--rows",
+        type=int,
+        default=500000,
+        metavar="N",
+        help="how many rows each table has (default: 500000)",
+    )
     add("--tables", type=int, default=4, metavar="N", help="how many tables there are (default: 4)")
     add("--turns", type=int, default=3, metavar="N", help="how often each takes them (default: 3)")
     words = parser.parse_args()

@@ -1,7 +1,8 @@
-"""How far behind each follower is while four writers write, all followers at once: inserts and updates, ten changes a transaction.
+"""How far behind each follower is while four writers write, all followers at once: inserts and
+updates, ten changes a transaction.
 
-The lag is what the server has in its log beyond what the follower has told to be on its disk. At the end the rows of each are compared
-with the server's.
+The lag is what the server has in its log beyond what the follower has told to be on its disk. At
+the end the rows of each are compared with the server's.
 """
 
 from __future__ import annotations
@@ -49,12 +50,16 @@ class Writer(threading.Thread):
 
 def lags(servers: Servers, followers: list[Follower]) -> dict[str, int]:
     """The bytes that each is behind."""
-    rows = servers.session.rows("SELECT slot_name, pg_current_wal_flush_lsn() - confirmed_flush_lsn FROM pg_replication_slots")
+    rows = servers.session.rows(
+        "SELECT slot_name, pg_current_wal_flush_lsn() - confirmed_flush_lsn FROM pg_replication_slots"
+    )
     names = {it.slot for it in followers}
     return {slot: max(int(lag or 0), 0) for slot, lag in rows if slot in names}
 
 
-def measured(servers: Servers, followers: list[Follower], writers: list[Writer], seconds: float) -> list[str]:
+def measured(
+    servers: Servers, followers: list[Follower], writers: list[Writer], seconds: float
+) -> list[str]:
     """Lets writers write, and then the followers catch up. Returns lines of the table."""
     servers.rest()
     found: dict[str, list[int]] = {it.slot: [] for it in followers}
@@ -70,7 +75,10 @@ def measured(servers: Servers, followers: list[Follower], writers: list[Writer],
     for writer in writers:
         writer.join()
     rate = sum(it.changes for it in writers) / (time.monotonic() - began)
-    end, began = servers.last_commit(f"INSERT INTO measured VALUES ({-writers[0].first}, 'a', 'b', 'c')"), time.monotonic()
+    end, began = (
+        servers.last_commit(f"INSERT INTO measured VALUES ({-writers[0].first}, 'a', 'b', 'c')"),
+        time.monotonic(),
+    )
     lines = []
     for it in followers:
         servers.wait_for(it, "flush_lsn", end)
@@ -82,13 +90,19 @@ def measured(servers: Servers, followers: list[Follower], writers: list[Writer],
 
 def run(servers: Servers, words: argparse.Namespace) -> None:
     followers: list[Follower] = [
-        Program(servers, f"version_{words.proto}", words.proto), Subscription(servers, "synchronous", synchronous=True),
+        Program(servers, f"version_{words.proto}", words.proto),
+        Subscription(servers, "synchronous", synchronous=True),
     ]
     version = servers.session.value("SHOW server_version")
     for it in followers:
         it.start()
-    print(f"{WRITERS} writers for {words.seconds:.0f} seconds; PostgreSQL {version}. Seconds to catch up once they have ended.\n")
-    print("| Changes a second | Follower | kB behind, mean | greatest | s to catch up |\n|---|---|---|---|---|", flush=True)
+    print(
+        f"{WRITERS} writers for {words.seconds:.0f} seconds; PostgreSQL {version}. Seconds to catch up once they have ended.\n"
+    )
+    print(
+        "| Changes a second | Follower | kB behind, mean | greatest | s to catch up |\n|---|---|---|---|---|",
+        flush=True,
+    )
     for number, pause in enumerate(PAUSES):
         writers = [Writer(servers, WRITERS * number + it, pause) for it in range(WRITERS)]
         for line in measured(servers, followers, writers, words.seconds):
@@ -100,7 +114,13 @@ def run(servers: Servers, words: argparse.Namespace) -> None:
 
 def main() -> None:
     parser = parser_of(__doc__)
-    parser.add_argument("--seconds", type=float, default=15, metavar="N", help="how long is written each time (default: 15)")
+    parser.add_argument(
+        "--seconds",
+        type=float,
+        default=15,
+        metavar="N",
+        help="how long is written each time (default: 15)",
+    )
     measure(parser, run)
 
 

@@ -1,13 +1,16 @@
 #!/usr/bin/python3
-"""Applies the same changes by `pgsub apply --store`, by the baseline over a database in a file, and by PostgreSQL's own apply worker, in turn.
+"""Applies the same changes by `pgsub apply --store`, by the baseline over a database in a file, and
+by PostgreSQL's own apply worker, in turn.
 
 `bench/run replica` builds the baseline and calls this.
 
-The changes are made in a PostgreSQL server, and recorded from a slot. What is timed is up to the last commit: of the two programs from their
-start until they have read the session (it ends in keepalives, so that its last commit isn't among the bytes that they read last), of the worker
-from when its subscription is enabled until its progress is the end of the last commit. The worker is fed by a server that decodes its log meanwhile, on
-another processor, and the sessions of the two programs are in a file; their rows are printed after the time that is told, and compared. All
-three sync each commit. Seconds are medians.
+The changes are made in a PostgreSQL server, and recorded from a slot. What is timed is up to the
+last commit: of the two programs from their start until they have read the session (it ends in
+keepalives, so that its last commit isn't among the bytes that they read last), of the worker from
+when its subscription is enabled until its progress is the end of the last commit. The worker is fed
+by a server that decodes its log meanwhile, on another processor, and the sessions of the two
+programs are in a file; their rows are printed after the time that is told, and compared. All three
+sync each commit. Seconds are medians.
 """
 
 import argparse
@@ -30,7 +33,8 @@ KEEPALIVE = b"d" + struct.pack(">i", 22) + b"k" + struct.pack(">QqB", 0, 0, 0)
 # more than either program reads at once
 PADDING = KEEPALIVE * 4000
 
-# what the table says of a session, the kind of its changes, their number, and how many are in a transaction
+# what the table says of a session, the kind of its changes, their number, and how many are in a
+# transaction
 SESSIONS = (
     ("Inserts, 1 a transaction", "inserts", 5000, 1),
     ("Inserts, 100 a transaction", "inserts", 100000, 100),
@@ -45,7 +49,8 @@ SESSIONS = (
 
 
 class Run:
-    """What applying took: seconds by the clock and of a processor, the latter also up to the end of the program, and megabytes."""
+    """What applying took: seconds by the clock and of a processor, the latter also up to the end of
+    the program, and megabytes."""
 
     def __init__(self, wall, processor, whole=0.0, megabytes=0.0):
         self.wall, self.processor, self.whole, self.megabytes = wall, processor, whole, megabytes
@@ -103,7 +108,8 @@ def remove_store(store):
 
 
 def run_worker(publisher, subscriber, slot, position):
-    """Lets the apply worker take what is in a slot, and returns what it took, and what the process took that decodes and sends."""
+    """Lets the apply worker take what is in a slot, and returns what it took, and what the process
+    took that decodes and sends."""
     subscription = servers.Subscription(publisher, subscriber, slot)
     began = time.monotonic()
     worker, sender = subscription.start()
@@ -126,7 +132,12 @@ def compare_rows(publisher, subscriber):
 
 
 def median(runs):
-    return Run(*(statistics.median(getattr(run, name) for run in runs) for name in ("wall", "processor", "whole", "megabytes")))
+    return Run(
+        *(
+            statistics.median(getattr(run, name) for run in runs)
+            for name in ("wall", "processor", "whole", "megabytes")
+        )
+    )
 
 
 def take_turns(options, publisher, subscriber, session, slots):
@@ -137,7 +148,11 @@ def take_turns(options, publisher, subscriber, session, slots):
     for slot in slots:
         for it in (store, database):
             remove_store(it)
-        runs[0].append(run_program([options.program, "apply", "--raw", "--store", store, session], session, printed))
+        runs[0].append(
+            run_program(
+                [options.program, "apply", "--raw", "--store", store, session], session, printed
+            )
+        )
         runs[1].append(run_program([options.baseline, session, database], session, expected))
         if not filecmp.cmp(printed, expected, shallow=False):
             sys.exit("measure: the rows or the position differ")
@@ -178,9 +193,20 @@ to its end, with reading and printing all rows, and megabytes; of PostgreSQL als
 
 
 def traced(command, calls, pid=None):
-    """Runs a command under strace, or waits for it beside a process that is traced, and returns how often each call came."""
+    """Runs a command under strace, or waits for it beside a process that is traced, and returns how
+    often each call came."""
     with tempfile.NamedTemporaryFile("r") as counts:
-        strace = ["strace", "-f", "-c", "-U", "calls,name", "-e", "trace=" + ",".join(calls), "-o", counts.name]
+        strace = [
+            "strace",
+            "-f",
+            "-c",
+            "-U",
+            "calls,name",
+            "-e",
+            "trace=" + ",".join(calls),
+            "-o",
+            counts.name,
+        ]
         if pid is None:
             subprocess.run([*strace, *command], check=True, stdout=subprocess.DEVNULL)
         else:
@@ -190,7 +216,11 @@ def traced(command, calls, pid=None):
             tracer.send_signal(signal.SIGINT)
             tracer.wait()
         rows = [row.split() for row in Path(counts.name).read_text().splitlines()]
-    return {row[1]: int(row[0]) for row in rows if len(row) == 2 and row[0].isdigit() and row[1] in calls}
+    return {
+        row[1]: int(row[0])
+        for row in rows
+        if len(row) == 2 and row[0].isdigit() and row[1] in calls
+    }
 
 
 def count_syncs(options, publisher, subscriber):
@@ -223,14 +253,31 @@ def count_syncs(options, publisher, subscriber):
 
 
 def arguments():
-    parser = argparse.ArgumentParser(description=__doc__, formatter_class=argparse.RawDescriptionHelpFormatter)
+    parser = argparse.ArgumentParser(
+        description=__doc__, formatter_class=argparse.RawDescriptionHelpFormatter
+    )
     parser.add_argument("baseline", type=Path, help="the built baseline")
     add_program(parser)
-    parser.add_argument("--folder", type=Path, metavar="PATH", help="a folder on the disk that is measured (default: a temporary one)")
-    parser.add_argument("--port", type=int, default=54340, metavar="N", help="the first of two free ports (default: 54340)")
-    parser.add_argument("--turns", type=int, default=5, metavar="N", help="how often each runs (default: 5)")
+    parser.add_argument(
+        "--folder",
+        type=Path,
+        metavar="PATH",
+        help="a folder on the disk that is measured (default: a temporary one)",
+    )
+    parser.add_argument(
+        "--port",
+        type=int,
+        default=54340,
+        metavar="N",
+        help="the first of two free ports (default: 54340)",
+    )
+    parser.add_argument(
+        "--turns", type=int, default=5, metavar="N", help="how often each runs (default: 5)"
+    )
     parser.add_argument("--quick", action="store_true", help="a tenth of the changes")
-    parser.add_argument("--only", default="", metavar="WORD", help="only sessions whose name has this word")
+    parser.add_argument(
+        "--only", default="", metavar="WORD", help="only sessions whose name has this word"
+    )
     options = parser.parse_args()
     options.program = check_program(parser, options.program)
     return options
@@ -249,7 +296,9 @@ def main():
                 if options.only not in name:
                     continue
                 changes = changes // 10 if options.quick else changes
-                medians = measured(options, publisher, subscriber, kind, changes, min(each, changes))
+                medians = measured(
+                    options, publisher, subscriber, kind, changes, min(each, changes)
+                )
                 print(line(name, changes, *medians), flush=True)
             count_syncs(options, publisher, subscriber)
 

@@ -1,4 +1,5 @@
-"""Two PostgreSQL servers on the loopback interface, of which one publishes to the other, each with all its data in a folder."""
+"""Two PostgreSQL servers on the loopback interface, of which one publishes to the other, each with
+all its data in a folder."""
 
 import contextlib
 import os
@@ -11,6 +12,7 @@ from pathlib import Path
 TOP = Path(__file__).resolve().parent.parent.parent
 sys.path[:0] = [str(TOP / "connect"), str(TOP / "tools"), str(TOP / "bench")]
 from histories_model.recording import sessions_of  # noqa: E402
+
 from pgsub_connect.server.connection import Connection  # noqa: E402
 
 SETTINGS = {
@@ -76,7 +78,9 @@ class Server:
             shutil.chown(self.data, "postgres", "postgres")
         self.run("initdb", "--auth=trust", "--username=postgres", "--encoding=UTF8", "--locale=C")
         with (self.data / "postgresql.auto.conf").open("a") as settings:
-            settings.writelines(f"{name} = {value}\n" for name, value in {**SETTINGS, "port": port}.items())
+            settings.writelines(
+                f"{name} = {value}\n" for name, value in {**SETTINGS, "port": port}.items()
+            )
         self.run("pg_ctl", "--wait", f"--log={self.data}/log", "start")
         self.connection = Connection(self.dsn, quiet=True)
 
@@ -113,7 +117,8 @@ def started(folder, port):
 
 
 def make_changes(publisher, kind, changes, each):
-    """Makes the changes, of which a quarter of kind `updates` are the rows that the others update."""
+    """Makes the changes, of which a quarter of kind `updates` are the rows that the others
+    update."""
     if kind == "inserts":
         publisher.ask(f"CALL put({changes}, {each})")
         return
@@ -125,8 +130,23 @@ def make_changes(publisher, kind, changes, each):
 def record(publisher, slot, file):
     """Records what is in a slot as the plain bytes of a session, and returns them."""
     recording = file.with_suffix(".pgx")
-    words = ["--dsn", publisher.dsn, "--slot", slot, "--publication", "p", "--until", "now", "--bytes", str(1 << 40), "--record", recording]
-    subprocess.run([TOP / "connect/pgsub-connect", "record", *words], check=True, stderr=subprocess.DEVNULL)
+    words = [
+        "--dsn",
+        publisher.dsn,
+        "--slot",
+        slot,
+        "--publication",
+        "p",
+        "--until",
+        "now",
+        "--bytes",
+        str(1 << 40),
+        "--record",
+        recording,
+    ]
+    subprocess.run(
+        [TOP / "connect/pgsub-connect", "record", *words], check=True, stderr=subprocess.DEVNULL
+    )
     with file.open("wb") as out:
         out.writelines(chunk for chunks in sessions_of(recording.read_bytes()) for chunk in chunks)
     recording.unlink()
@@ -151,10 +171,17 @@ class Subscription:
         return self.subscriber.ask("SELECT max(pid) FROM pg_stat_subscription WHERE subname = 's'")
 
     def sender(self):
-        return self.publisher.ask(f"SELECT active_pid FROM pg_replication_slots WHERE slot_name = '{self.slot}'")
+        return self.publisher.ask(
+            f"SELECT active_pid FROM pg_replication_slots WHERE slot_name = '{self.slot}'"
+        )
 
     def is_at(self, position):
-        return self.subscriber.ask(f"SELECT pg_replication_origin_progress('{self.origin}', false) >= '{position}'") == "t"
+        return (
+            self.subscriber.ask(
+                f"SELECT pg_replication_origin_progress('{self.origin}', false) >= '{position}'"
+            )
+            == "t"
+        )
 
     def start(self):
         """Starts the worker, and returns the process that applies and the one that sends."""

@@ -1,4 +1,5 @@
-"""Whether the tables of a follower keep up with pgbench's full rate, and how long it takes from a commit of the server to a SELECT."""
+"""Whether the tables of a follower keep up with pgbench's full rate, and how long it takes from a
+commit of the server to a SELECT."""
 
 from __future__ import annotations
 
@@ -43,7 +44,9 @@ class WithTables(Program):
         wait_until(self.path.exists, f"{self.slot}: making the tables", LIMIT, self.check)
 
     def position(self) -> int:
-        with contextlib.closing(sqlite3.connect(f"file:{self.path}?mode=ro", uri=True, timeout=30)) as base:
+        with contextlib.closing(
+            sqlite3.connect(f"file:{self.path}?mode=ro", uri=True, timeout=30)
+        ) as base:
             return lsn_of(base.execute("SELECT lsn FROM pgsub_position").fetchone()[0])
 
 
@@ -58,7 +61,14 @@ class PgBench:
     def __init__(self, servers: Servers, seconds: int) -> None:
         more = ["-n", "-c", str(CLIENTS), "-j", "2", "-M", "prepared", "-T", str(seconds)]
         words = servers.publisher.installed.words("pgbench", *more, *place(servers.publisher))
-        self.process = subprocess.Popen(words, cwd="/", stdin=subprocess.DEVNULL, stdout=subprocess.PIPE, stderr=subprocess.STDOUT, text=True)
+        self.process = subprocess.Popen(
+            words,
+            cwd="/",
+            stdin=subprocess.DEVNULL,
+            stdout=subprocess.PIPE,
+            stderr=subprocess.STDOUT,
+            text=True,
+        )
 
     def rate(self) -> float:
         said, _ = self.process.communicate()
@@ -72,7 +82,9 @@ def reached(servers: Servers, follower: Program) -> int:
     """The LSN up to which a follower has all: its store, or its tables."""
     if isinstance(follower, WithTables):
         return follower.position()
-    query = f"SELECT confirmed_flush_lsn FROM pg_replication_slots WHERE slot_name = '{follower.slot}'"
+    query = (
+        f"SELECT confirmed_flush_lsn FROM pg_replication_slots WHERE slot_name = '{follower.slot}'"
+    )
     return lsn_of(servers.session.value(query))
 
 
@@ -87,15 +99,26 @@ def under_load(servers: Servers, follower: Program, seconds: int) -> str:
         end = lsn_of(servers.session.value("SELECT pg_current_wal_flush_lsn()"))
         behind.append(max(end - reached(servers, follower), 0))
     rate = load.rate()
-    last, began = servers.last_commit(f"INSERT INTO measured VALUES ({time.time_ns()}, 'a', 'b', 'c')"), time.monotonic()
-    wait_until(lambda: reached(servers, follower) > lsn_of(last), f"{follower.slot}: reaching {last}", LIMIT, follower.check, STEP)
+    last, began = (
+        servers.last_commit(f"INSERT INTO measured VALUES ({time.time_ns()}, 'a', 'b', 'c')"),
+        time.monotonic(),
+    )
+    wait_until(
+        lambda: reached(servers, follower) > lsn_of(last),
+        f"{follower.slot}: reaching {last}",
+        LIMIT,
+        follower.check,
+        STEP,
+    )
     took = time.monotonic() - began
     return f"| {follower.name} | {rate:,.0f} | {statistics.mean(behind) / 1000:,.0f} | {max(behind) / 1000:,.0f} | {took:.2f} |"
 
 
 def lags(servers: Servers, follower: WithTables, pause: float) -> list[float]:
     """The seconds from each commit of a row until a SELECT sees it."""
-    with contextlib.closing(sqlite3.connect(follower.path, timeout=30, isolation_level=None)) as base:
+    with contextlib.closing(
+        sqlite3.connect(follower.path, timeout=30, isolation_level=None)
+    ) as base:
         return [lag(servers, base, pause) for _ in range(COMMITS)]
 
 
@@ -110,16 +133,28 @@ def lag(servers: Servers, base: sqlite3.Connection, pause: float) -> float:
 
 
 def run(servers: Servers, words: argparse.Namespace) -> None:
-    print(f"pgbench, scale {SCALE}, {CLIENTS} clients, {words.seconds} seconds; PostgreSQL {servers.session.value('SHOW server_version')}.\n")
-    print("| Follower | Transactions a second | kB behind, mean | greatest | s to catch up |\n|---|---|---|---|---|", flush=True)
-    store, tables = Program(servers, "store", words.proto), WithTables(servers, "tables", words.proto)
+    print(
+        f"pgbench, scale {SCALE}, {CLIENTS} clients, {words.seconds} seconds; PostgreSQL {servers.session.value('SHOW server_version')}.\n"
+    )
+    print(
+        "| Follower | Transactions a second | kB behind, mean | greatest | s to catch up |\n|---|---|---|---|---|",
+        flush=True,
+    )
+    store, tables = Program(servers, "store", words.proto), WithTables(
+        servers, "tables", words.proto
+    )
     print(under_load(servers, store, words.seconds), flush=True)
     store.stop()
     print(under_load(servers, tables, words.seconds), flush=True)
-    print("\n| A commit each | Until a SELECT sees it, ms: median | Of 20 one takes longer than |\n|---|---|---|")
+    print(
+        "\n| A commit each | Until a SELECT sees it, ms: median | Of 20 one takes longer than |\n|---|---|---|"
+    )
     for pause in PAUSES:
         found = sorted(lags(servers, tables, pause))
-        print(f"| {1000 * pause:.0f} ms | {1000 * statistics.median(found):.1f} | {1000 * found[-len(found) // 20]:.1f} |", flush=True)
+        print(
+            f"| {1000 * pause:.0f} ms | {1000 * statistics.median(found):.1f} | {1000 * found[-len(found) // 20]:.1f} |",
+            flush=True,
+        )
     tables.stop()
     servers.compare(tables)
     compare_tables(servers.publisher, tables.path, "pgsub")
@@ -127,8 +162,20 @@ def run(servers: Servers, words: argparse.Namespace) -> None:
 
 def main() -> None:
     parser = parser_of(__doc__ or "")
-    parser.add_argument("--seconds", type=int, default=30, metavar="N", help="how long pgbench runs each time (default: 30)")
-    parser.add_argument("--proto", type=int, choices=(1, 2), default=2, help="the version of the protocol of pgsub (default: 2)")
+    parser.add_argument(
+        "--seconds",
+        type=int,
+        default=30,
+        metavar="N",
+        help="how long pgbench runs each time (default: 30)",
+    )
+    parser.add_argument(
+        "--proto",
+        type=int,
+        choices=(1, 2),
+        default=2,
+        help="the version of the protocol of pgsub (default: 2)",
+    )
     words = parser.parse_args()
     with started(parser, words, tables_of_pgbench) as servers:
         run(servers, words)

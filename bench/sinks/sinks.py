@@ -1,4 +1,5 @@
-"""How fast `pgsub-connect sink` takes a feed into Redis and NATS, beside `pgsub-connect tables` into SQLite."""
+"""How fast `pgsub-connect sink` takes a feed into Redis and NATS, beside `pgsub-connect tables`
+into SQLite."""
 
 from __future__ import annotations
 
@@ -14,7 +15,9 @@ from tables import COMMAND, processor, words, write
 
 # (a log of commands that is synced each second, which is what a sink can go on from after a crash)
 SINKS: tuple[tuple[str, type[Engine], tuple[str, ...]], ...] = (
-    ("Redis, hashes", RedisServer, ()), ("Redis, streams", RedisServer, ("--as", "streams")), ("NATS", NatsServer, ()),
+    ("Redis, hashes", RedisServer, ()),
+    ("Redis, streams", RedisServer, ("--as", "streams")),
+    ("NATS", NatsServer, ()),
 )
 
 
@@ -33,7 +36,15 @@ def runs(folder: Path) -> Iterator[tuple[str, list[str], Engine | None]]:
         engine = kind(folder / f"engine{number}")
         engine.start()
         try:
-            yield name, [str(COMMAND), "sink", engine.url(), "--feed", str(folder / "feed"), "--once", *more], engine
+            yield name, [
+                str(COMMAND),
+                "sink",
+                engine.url(),
+                "--feed",
+                str(folder / "feed"),
+                "--once",
+                *more,
+            ], engine
         finally:
             engine.kill()
 
@@ -43,7 +54,9 @@ def main() -> None:
     parser.add_argument("--changes", type=int, default=400000)
     parser.add_argument("--folder")
     options = parser.parse_args()
-    print("| Changes | In a commit | Into | In a second | Processor of the reader, µs each |\n|---|---|---|---|---|")
+    print(
+        "| Changes | In a commit | Into | In a second | Processor of the reader, µs each |\n|---|---|---|---|---|"
+    )
     for are_inserts in (True, False):
         for each in (1, 100):
             count = options.changes // (10 if each == 1 else 1)
@@ -52,7 +65,10 @@ def main() -> None:
                 write(folder / "feed", count, each, are_inserts)
                 for into, what, _ in runs(folder):
                     rate, used = timed(what, count)
-                    print(f"| {'inserts' if are_inserts else 'updates'} | {each} | {into} | {rate:,.0f} | {used:.1f} |", flush=True)
+                    print(
+                        f"| {'inserts' if are_inserts else 'updates'} | {each} | {into} | {rate:,.0f} | {used:.1f} |",
+                        flush=True,
+                    )
 
 
 if __name__ == "__main__":

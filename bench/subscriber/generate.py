@@ -1,14 +1,18 @@
 #!/usr/bin/env python3
-"""Writes a session for measurements: generate.py KIND FILE [--changes N] [--each N] [--open N] [--block N] [--seed N] [--recording]
+"""Writes a session for measurements: generate.py KIND FILE [--changes N] [--each N] [--open N]
+[--block N] [--seed N] [--recording]
 
 The table has four text columns of 10 bytes, the first of which is its key. The kinds:
   inserts      N inserts in transactions of --each changes
   updates      a quarter as many inserts, in order, and updates of rows chosen at random for the rest
-  interleaved  N inserts in streamed transactions, --open of them at once, in stream blocks of --block changes that alternate; they commit
+  interleaved  N inserts in streamed transactions, --open of them at once, in stream blocks of
+  --block changes that alternate; they commit
                in an order chosen at random
-  rolled-back  N inserts in one streamed transaction, of which only the first of each --block changes stays: the others are made by a
+  rolled-back  N inserts in one streamed transaction, of which only the first of each --block
+  changes stays: the others are made by a
                subtransaction, which is rolled back after its stream block
-The file holds the plain bytes, or with --recording a recording with a frame a line. The same arguments always make the same bytes.
+The file holds the plain bytes, or with --recording a recording with a frame a line. The same
+arguments always make the same bytes.
 """
 
 import argparse
@@ -20,7 +24,13 @@ sys.path.insert(0, str(Path(__file__).resolve().parents[2] / "tools"))
 from histories_model import wire  # noqa: E402
 
 CELLS = 4
-TABLE = wire.Definition(16384, b"public", b"t", b"d", [wire.Column(int(n == 0), b"c%d" % n, 25, -1) for n in range(CELLS)])
+TABLE = wire.Definition(
+    16384,
+    b"public",
+    b"t",
+    b"d",
+    [wire.Column(int(n == 0), b"c%d" % n, 25, -1) for n in range(CELLS)],
+)
 
 
 def row(key, turn):
@@ -94,7 +104,10 @@ def send_interleaved(session, options):
     for start in range(0, options.changes, per_round):
         for n, xid in enumerate(xids):
             first = start + n * options.block
-            made = [insert(key, key, xid) for key in range(first, min(first + options.block, options.changes))]
+            made = [
+                insert(key, key, xid)
+                for key in range(first, min(first + options.block, options.changes))
+            ]
             send_block(session, xid, start == 0, [relation(xid)] * (start == 0) + made)
     random.Random(options.seed).shuffle(xids)
     for xid in xids:
@@ -106,7 +119,10 @@ def send_rolled_back(session, options):
     for first in range(0, options.changes, options.block):
         subxid = 1001 + first // options.block
         head = [relation(top)] if first == 0 else []
-        made = [insert(key, key, subxid) for key in range(first + 1, min(first + options.block, options.changes))]
+        made = [
+            insert(key, key, subxid)
+            for key in range(first + 1, min(first + options.block, options.changes))
+        ]
         send_block(session, top, first == 0, [*head, insert(first, first, top), *made])
         session.send(wire.stream_abort(top, subxid))
     session.send_stream_commit(top)
@@ -121,7 +137,9 @@ KINDS = {
 
 
 def main():
-    parser = argparse.ArgumentParser(description=__doc__, formatter_class=argparse.RawDescriptionHelpFormatter)
+    parser = argparse.ArgumentParser(
+        description=__doc__, formatter_class=argparse.RawDescriptionHelpFormatter
+    )
     parser.add_argument("kind", choices=KINDS)
     parser.add_argument("file")
     parser.add_argument("--changes", type=int, default=100000)

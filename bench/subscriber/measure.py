@@ -1,10 +1,11 @@
 #!/usr/bin/env python3
-"""Runs the program and the baseline in turn on sessions of some kinds, and prints a table of what they take.
+"""Runs the program and the baseline in turn on sessions of some kinds, and prints a table of what
+they take.
 
 `bench/run subscriber` builds the baseline and calls this.
 
-Seconds are of a processor (user and system), the quickest run of each; memory is the most that was resident, in MB, of that run. The
-status is 1 where the two print other rows or another position.
+Seconds are of a processor (user and system), the quickest run of each; memory is the most that was
+resident, in MB, of that run. The status is 1 where the two print other rows or another position.
 """
 
 import argparse
@@ -26,7 +27,11 @@ SESSIONS = (
     ("Inserts, 10,000 a transaction", ["inserts", "--each", "10000"], False),
     ("Inserts, 100 a transaction, as a recording", ["inserts", "--each", "100"], True),
     ("Updates at random, 100 a transaction", ["updates", "--each", "100"], False),
-    ("1,000 open transactions in blocks of 5", ["interleaved", "--open", "1000", "--block", "5"], False),
+    (
+        "1,000 open transactions in blocks of 5",
+        ["interleaved", "--open", "1000", "--block", "5"],
+        False,
+    ),
     ("a rolled-back subtransaction of 4 in 5", ["rolled-back", "--block", "5"], False),
 )
 
@@ -37,7 +42,9 @@ class Run:
     def __init__(self, command, output):
         most = output.with_suffix(".most")
         with output.open("wb") as out:
-            child = subprocess.Popen(["/usr/bin/time", "-o", most, "-f", "%M", *command], stdout=out)
+            child = subprocess.Popen(
+                ["/usr/bin/time", "-o", most, "-f", "%M", *command], stdout=out
+            )
             _, status, usage = os.wait4(child.pid, 0)
         child.returncode = os.waitstatus_to_exitcode(status)
         if child.returncode != 0:
@@ -64,10 +71,14 @@ def measured(options, session, changes, is_recording):
     printed, expected = options.folder / "program.out", options.folder / "baseline.out"
     program_runs, baseline_runs = [], []
     for _ in range(options.turns):
-        program_runs.append(Run([options.program, "apply", *["--raw"] * (not is_recording), given], printed))
+        program_runs.append(
+            Run([options.program, "apply", *["--raw"] * (not is_recording), given], printed)
+        )
         baseline_runs.append(Run([options.baseline, raw], expected))
         if not filecmp.cmp(printed, expected, shallow=False):
-            sys.exit(f"measure: the rows or the position differ: {' '.join(session)}, {changes} changes")
+            sys.exit(
+                f"measure: the rows or the position differ: {' '.join(session)}, {changes} changes"
+            )
     return quickest(program_runs), quickest(baseline_runs)
 
 
@@ -79,15 +90,28 @@ def line(name, changes, here, there):
 
 
 def main():
-    parser = argparse.ArgumentParser(description=__doc__, formatter_class=argparse.RawDescriptionHelpFormatter)
+    parser = argparse.ArgumentParser(
+        description=__doc__, formatter_class=argparse.RawDescriptionHelpFormatter
+    )
     parser.add_argument("baseline", type=Path, help="the built baseline")
     parser.add_argument("folder", type=Path, help="a folder for sessions and outputs")
     add_program(parser)
-    parser.add_argument("--changes", type=int, nargs="+", default=[50000, 200000], metavar="N", help="the sizes of the sessions in changes (default: 50000 200000)")
-    parser.add_argument("--turns", type=int, default=3, metavar="N", help="how often each runs (default: 3)")
+    parser.add_argument(
+        "--changes",
+        type=int,
+        nargs="+",
+        default=[50000, 200000],
+        metavar="N",
+        help="the sizes of the sessions in changes (default: 50000 200000)",
+    )
+    parser.add_argument(
+        "--turns", type=int, default=3, metavar="N", help="how often each runs (default: 3)"
+    )
     options = parser.parse_args()
     options.program = check_program(parser, options.program)
-    print("| Session | Changes | Here | changes/s | Memory | C | changes/s | Memory | Ratio of the times |")
+    print(
+        "| Session | Changes | Here | changes/s | Memory | C | changes/s | Memory | Ratio of the times |"
+    )
     print("|---|---|---|---|---|---|---|---|---|")
     for (name, session, is_recording), changes in itertools.product(SESSIONS, options.changes):
         print(line(name, changes, *measured(options, session, changes, is_recording)), flush=True)

@@ -1,4 +1,5 @@
-"""How fast `pgsub-connect tables` takes a feed into SQLite, and how long it takes from a commit in the feed to a SELECT."""
+"""How fast `pgsub-connect tables` takes a feed into SQLite, and how long it takes from a commit in
+the feed to a SELECT."""
 
 from __future__ import annotations
 
@@ -18,14 +19,27 @@ from built import TOP
 from feed_text import Column, Definition, Line, Writer, lsn_text
 
 COMMAND = TOP / "connect/pgsub-connect"
-STOCK = Definition(16384, "public", "stock", "d", (Column("id", 23, -1, True), Column("v", 25), Column("w", 25), Column("n", 23)))
+STOCK = Definition(
+    16384,
+    "public",
+    "stock",
+    "d",
+    (Column("id", 23, -1, True), Column("v", 25), Column("w", 25), Column("n", 23)),
+)
 
 
 def changes(count: int, are_inserts: bool, rng: random.Random) -> Iterator[Line]:
     rows: list[list[str]] = []
     for number in range(count):
         if are_inserts or number < count // 4:
-            rows.append([str(number), f"{rng.randrange(10**9):010}", f"{rng.randrange(10**9):010}", str(number % 100)])
+            rows.append(
+                [
+                    str(number),
+                    f"{rng.randrange(10**9):010}",
+                    f"{rng.randrange(10**9):010}",
+                    str(number % 100),
+                ]
+            )
             yield Line(STOCK, "c", None, rows[-1])
         else:
             at = rng.randrange(len(rows))
@@ -46,7 +60,15 @@ def write(folder: Path, count: int, each: int, are_inserts: bool) -> None:
 
 
 def words(folder: Path, *more: str) -> list[str]:
-    return [str(COMMAND), "tables", "--feed", str(folder / "feed"), "--into", str(folder / "rows.db"), *more]
+    return [
+        str(COMMAND),
+        "tables",
+        "--feed",
+        str(folder / "feed"),
+        "--into",
+        str(folder / "rows.db"),
+        *more,
+    ]
 
 
 def processor() -> float:
@@ -78,7 +100,9 @@ def lags(folder: Path, count: int, pause: float) -> list[float]:
     try:
         while not (folder / "rows.db").exists():
             time.sleep(0.01)
-        with contextlib.closing(sqlite3.connect(folder / "rows.db", timeout=10, isolation_level=None)) as base:
+        with contextlib.closing(
+            sqlite3.connect(folder / "rows.db", timeout=10, isolation_level=None)
+        ) as base:
             return [lag(base, writer, number, pause) for number in range(count)]
     finally:
         process.terminate()
@@ -99,16 +123,28 @@ def main() -> None:
     parser.add_argument("--changes", type=int, default=400000)
     parser.add_argument("--folder")
     options = parser.parse_args()
-    print("| Changes | In a commit | In a second | Processor, µs each | With digests | Processor, µs each |\n|---|---|---|---|---|---|")
+    print(
+        "| Changes | In a commit | In a second | Processor, µs each | With digests | Processor, µs each |\n|---|---|---|---|---|---|"
+    )
     for are_inserts in (True, False):
         for each in (1, 100, 10000):
             with tempfile.TemporaryDirectory(dir=options.folder) as folder:
-                print(measure(Path(folder), options.changes // (10 if each == 1 else 1), each, are_inserts), flush=True)
-    print("\n| A commit each | Until a SELECT sees it, ms: median | Of 20 one takes longer than |\n|---|---|---|")
+                print(
+                    measure(
+                        Path(folder), options.changes // (10 if each == 1 else 1), each, are_inserts
+                    ),
+                    flush=True,
+                )
+    print(
+        "\n| A commit each | Until a SELECT sees it, ms: median | Of 20 one takes longer than |\n|---|---|---|"
+    )
     for pause in (0.005, 0.2):
         with tempfile.TemporaryDirectory(dir=options.folder) as folder:
             found = sorted(lags(Path(folder), 100, pause))
-        print(f"| {1000 * pause:.0f} ms | {1000 * statistics.median(found):.1f} | {1000 * found[-len(found) // 20]:.1f} |", flush=True)
+        print(
+            f"| {1000 * pause:.0f} ms | {1000 * statistics.median(found):.1f} | {1000 * found[-len(found) // 20]:.1f} |",
+            flush=True,
+        )
 
 
 if __name__ == "__main__":

@@ -28,12 +28,26 @@ WHOLE = 17500
 # folders that no commit has, or that have no document's paths
 SKIPPED = {".git", "out", "__pycache__", "differences"}
 # a name with one of these at its end is a file of the tree, wherever it lies
-KINDS = (".md", ".rt", ".antt", ".py", ".svg", ".txt", ".edit", ".toml", ".service", ".rattle", ".sh")
+KINDS = (
+    ".md",
+    ".rt",
+    ".antt",
+    ".py",
+    ".svg",
+    ".txt",
+    ".edit",
+    ".toml",
+    ".service",
+    ".rattle",
+    ".sh",
+)
 GROUP = re.compile(r"^- \*\*(\w+)\*\*")
 PATH = re.compile(r"(?<![\w/.:~$-])\.?[\w.*{}-]+(?:/[\w.*{}-]+)*/?")
 URL = re.compile(r"\b[a-z]+://[^\s)>`]+")
 # each of these words stands for any name
-PLACEHOLDER = re.compile(r"(?<![A-Z_])(?:NAME|CRATE|MODULE|FUNCTION|KIND|M|F|WHAT|WHAT_IT_DOES)(?![A-Z_])")
+PLACEHOLDER = re.compile(
+    r"(?<![A-Z_])(?:NAME|CRATE|MODULE|FUNCTION|KIND|M|F|WHAT|WHAT_IT_DOES)(?![A-Z_])"
+)
 PARTS = ("src", "specs", "proofs", "must-fail", "mutants")
 OPTION = re.compile(r"(?<![\w-])--[a-z][a-z0-9-]*")
 LONG = re.compile(r"\.long\(\s*\"([a-z0-9-]+)\"")
@@ -59,7 +73,22 @@ CLAUSES = (
     "pgruns::dump_file.unopened",
 )
 # commands whose options aren't ours
-FOREIGN = ("rt", "psql", "git", "apt", "apt-get", "systemctl", "createdb", "journalctl", "pip", "sqlite3", "docker", "mypy", "python3", "sudo")
+FOREIGN = (
+    "rt",
+    "psql",
+    "git",
+    "apt",
+    "apt-get",
+    "systemctl",
+    "createdb",
+    "journalctl",
+    "pip",
+    "sqlite3",
+    "docker",
+    "mypy",
+    "python3",
+    "sudo",
+)
 
 
 @dataclass(frozen=True)
@@ -90,15 +119,21 @@ class Tree:
 
     @cached_property
     def crates(self) -> set[str]:
-        return {it.split("/")[1] for it in self.files if it.startswith("crates/") and it.count("/") > 1}
+        return {
+            it.split("/")[1] for it in self.files if it.startswith("crates/") and it.count("/") > 1
+        }
 
     def has(self, pattern: str) -> bool:
         pattern = pattern.rstrip("/")
-        return pattern in self.paths or ("*" in pattern and any(fnmatch(it, pattern) for it in self.paths))
+        return pattern in self.paths or (
+            "*" in pattern and any(fnmatch(it, pattern) for it in self.paths)
+        )
 
     def documents(self) -> list[str]:
         """The texts that are checked."""
-        return [it for it in self.files if it.endswith(".md") and not it.startswith("bench/results/")]
+        return [
+            it for it in self.files if it.endswith(".md") and not it.startswith("bench/results/")
+        ]
 
     def text(self, file: str) -> str:
         return (self.top / file).read_text(encoding="utf-8")
@@ -157,7 +192,9 @@ def patterns_of(tree: Tree, token: str) -> list[str] | None:
     if rest and token.split("/")[0] in tops:
         return [pattern]
     if rest and first in tree.crates:
-        return [f"crates/{pattern}{end}" for end in ("", ".antt", ".rt")] + [f"crates/{first}/specs/{rest}.antt"]
+        return [f"crates/{pattern}{end}" for end in ("", ".antt", ".rt")] + [
+            f"crates/{first}/specs/{rest}.antt"
+        ]
     if rest and first in PARTS:
         return [f"crates/*/{pattern}"]
     if not rest and token.endswith(KINDS) and "*" not in token and not token.startswith("."):
@@ -181,7 +218,12 @@ def sources_of(tree: Tree, command: str) -> list[str] | None:
     if name == "pgsub":
         return [it for it in tree.files if it.startswith("crates/pgcommand/src/") or it == "pgsub"]
     if name in ("pgsub-connect", "pgsub-feed"):
-        return [it for it in tree.files if it.startswith(("connect/pgsub_connect/", "connect/pgsub_feed/")) or Path(it).name == name]
+        return [
+            it
+            for it in tree.files
+            if it.startswith(("connect/pgsub_connect/", "connect/pgsub_feed/"))
+            or Path(it).name == name
+        ]
     if command.startswith("bench/"):
         return [it for it in tree.files if it.startswith("bench/") and not it.endswith(".md")]
     if name == "install" and "install" in tree.files:
@@ -189,7 +231,15 @@ def sources_of(tree: Tree, command: str) -> list[str] | None:
     if not command.startswith("tools/") or command not in tree.files:
         return None
     modules = re.findall(r"^\s*(?:from|import) (\w+)", tree.text(command), re.M)
-    return [command, *(it for it in tree.files for module in modules if it == f"tools/{module}.py" or it.startswith(f"tools/{module}/"))]
+    return [
+        command,
+        *(
+            it
+            for it in tree.files
+            for module in modules
+            if it == f"tools/{module}.py" or it.startswith(f"tools/{module}/")
+        ),
+    ]
 
 
 def options_in(tree: Tree, files: list[str]) -> set[str]:
@@ -216,7 +266,14 @@ def commands_in(line: texts.Line) -> Iterator[tuple[str, str]]:
 def all_options(tree: Tree) -> set[str]:
     ours = ("tools/", "bench/", "connect/", "crates/pgcommand/src/")
     readable = ("", ".py", ".sh", ".rt", ".toml", ".service")
-    return options_in(tree, [it for it in tree.files if (it.startswith(ours) or it in ("pgsub", "install")) and Path(it).suffix in readable])
+    return options_in(
+        tree,
+        [
+            it
+            for it in tree.files
+            if (it.startswith(ours) or it in ("pgsub", "install")) and Path(it).suffix in readable
+        ],
+    )
 
 
 def check_options(tree: Tree, file: str) -> list[str]:
@@ -227,14 +284,20 @@ def check_options(tree: Tree, file: str) -> list[str]:
             known = everything if sources is None else options_in(tree, sources)
             if command in FOREIGN:
                 continue
-            wrong += [f"{file}:{line.number}: {command or 'nothing'} has an option {it}" for it in OPTION.findall(text) if it not in known]
+            wrong += [
+                f"{file}:{line.number}: {command or 'nothing'} has an option {it}"
+                for it in OPTION.findall(text)
+                if it not in known
+            ]
     return wrong
 
 
 def statement_of(tree: Tree, clauses: Sequence[str]) -> str:
     """What tools/statement prints of these clauses."""
     words = [it for clause in clauses for it in ("--clause", clause)]
-    return subprocess.run([tree.top / "tools/statement", *words], capture_output=True, text=True, check=True).stdout
+    return subprocess.run(
+        [tree.top / "tools/statement", *words], capture_output=True, text=True, check=True
+    ).stdout
 
 
 def section_of(text: str, heading: str) -> str:
@@ -249,20 +312,26 @@ def is_module(tree: Tree, name: str) -> bool:
 
 
 def check_statement(tree: Tree) -> list[str]:
-    """PROOFS lists just the modules of the definitions that its clauses stand on, and says how many the theorem itself has."""
+    """PROOFS lists just the modules of the definitions that its clauses stand on, and says how many
+    the theorem itself has."""
     told = section_of(tree.text("docs/PROOFS.md"), "Reading the statement")
     try:
         all_of_them, theorem = statement_of(tree, CLAUSES), statement_of(tree, [THEOREM])
     except subprocess.CalledProcessError as error:
         return [str(error.stderr).strip()]
-    modules = [it.replace(".specs.", "/").replace(".", "/") for it in re.findall(r"^(\w+\.specs\.[\w.]+): \d", all_of_them, re.M)]
+    modules = [
+        it.replace(".specs.", "/").replace(".", "/")
+        for it in re.findall(r"^(\w+\.specs\.[\w.]+): \d", all_of_them, re.M)
+    ]
     named = {span for line in texts.lines_of(told) for span in texts.spans_of(line.text)}
     wrong = [f"docs/PROOFS.md doesn't name {it}" for it in modules if it not in named]
     more = sorted(it for it in named.difference(modules) if is_module(tree, it))
     wrong += [f"docs/PROOFS.md names {it}, on which none of its clauses stands" for it in more]
     count = re.search(r"^(\d+) definitions, (\d+) lines", theorem, re.M)
     if not count or f"{count[1]} definitions in {count[2]} lines" not in told:
-        wrong.append(f"docs/PROOFS.md doesn't say that the theorem stands on {count[0] if count else 'nothing'}")
+        wrong.append(
+            f"docs/PROOFS.md doesn't say that the theorem stands on {count[0] if count else 'nothing'}"
+        )
     return wrong
 
 
@@ -280,7 +349,8 @@ def groups_of(crates: str) -> dict[str, list[str]]:
 
 
 def check_groups(tree: Tree) -> list[str]:
-    """ARCHITECTURE's list repeats the groups of crates.txt, in their order; `tests_..` stands for the crates of tests."""
+    """ARCHITECTURE's list repeats the groups of crates.txt, in their order; `tests_..` stands for
+    the crates of tests."""
     file, told = "docs/ARCHITECTURE.md", {}
     groups = groups_of(tree.text("crates.txt"))
     known = {crate for crates in groups.values() for crate in crates}
@@ -288,14 +358,28 @@ def check_groups(tree: Tree) -> list[str]:
         found = GROUP.match(line.text)
         if found and found[1].lower() in groups:
             told[found[1].lower()] = [it for it in texts.spans_of(line.text) if it in known]
-    grouped = {name: [it for it in crates if not it.startswith("tests_")] for name, crates in groups.items()}
-    wrong = [f"{file}: the group {name} has {told.get(name)}, and in crates.txt {crates}" for name, crates in grouped.items() if told.get(name) != crates]
-    return wrong or ([] if [*told] == [*groups] else [f"{file}: the groups come in another order than in crates.txt"])
+    grouped = {
+        name: [it for it in crates if not it.startswith("tests_")]
+        for name, crates in groups.items()
+    }
+    wrong = [
+        f"{file}: the group {name} has {told.get(name)}, and in crates.txt {crates}"
+        for name, crates in grouped.items()
+        if told.get(name) != crates
+    ]
+    return wrong or (
+        []
+        if [*told] == [*groups]
+        else [f"{file}: the groups come in another order than in crates.txt"]
+    )
 
 
 def check_copies(tree: Tree) -> list[str]:
     """The recording at the top is the one that rt runs the program on, which may be no link."""
     copy = "crates/pgsub/data/first.pgx"
-    if copy in tree.files and (tree.top / copy).read_bytes() == (tree.top / "first.pgx").read_bytes():
+    if (
+        copy in tree.files
+        and (tree.top / copy).read_bytes() == (tree.top / "first.pgx").read_bytes()
+    ):
         return []
     return [f"{copy}: it differs from first.pgx"]

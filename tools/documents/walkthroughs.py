@@ -1,6 +1,7 @@
 """The walkthroughs of a document: commands as a reader types them, with what they print.
 
-A fenced block that has a line `$ COMMAND` belongs to a walkthrough. A comment in the line before it says what it is run with:
+A fenced block that has a line `$ COMMAND` belongs to a walkthrough. A comment in the line before it
+says what it is run with:
 
     <!--run:program-->         the built program, in a folder with the examples of the repository
     <!--run:server-->          a PostgreSQL server, which the variables of libpq name, the program and the connector
@@ -9,9 +10,10 @@ A fenced block that has a line `$ COMMAND` belongs to a walkthrough. A comment i
     <!--run:package-->         an installed package
     <!--run:hand-->            nothing: a person has to look
 
-The blocks of one kind are run from top to bottom in one folder. A command is a line `$ ..` with the lines after it that begin with `> `,
-and what it prints are the lines up to the next command, on standard output and standard error in the order in which they come. A line
-`..` stands for any lines. Where there is a server, an LSN may be another one, and so may a time.
+The blocks of one kind are run from top to bottom in one folder. A command is a line `$ ..` with the
+lines after it that begin with `> `, and what it prints are the lines up to the next command, on
+standard output and standard error in the order in which they come. A line `..` stands for any
+lines. Where there is a server, an LSN may be another one, and so may a time.
 """
 
 import os
@@ -31,7 +33,8 @@ FENCE = re.compile(r"^```")
 LSN = re.compile(r"\b[0-9A-F]{1,8}/[0-9A-F]{1,8}\b")
 TIME = re.compile(r"\b\d{4}-\d\d-\d\d[T ]\d\d:\d\d:\d\d(?:\.\d+)?Z?")
 ANY = ".."
-# how long a command may take, and what a reader takes from one block to the next while something goes on
+# how long a command may take, and what a reader takes from one block to the next while something
+# goes on
 SECONDS = 120.0
 PAUSE = 3.0
 
@@ -51,7 +54,8 @@ class Command:
 
 @dataclass(frozen=True)
 class Block:
-    """A block of commands: what it is run with, and whether its last command stays or what stays is stopped first."""
+    """A block of commands: what it is run with, and whether its last command stays or what stays is
+    stopped first."""
 
     kind: str
     words: frozenset[str]
@@ -60,7 +64,8 @@ class Block:
 
 
 def fenced(text: str) -> Iterable[tuple[int, str, list[str]]]:
-    """Gives each fenced block: the number of its first line inside, the last line of text before its fence, and its lines."""
+    """Gives each fenced block: the number of its first line inside, the last line of text before
+    its fence, and its lines."""
     before, first = "", 0
     inside: list[str] | None = None
     for number, line in enumerate(text.splitlines(), 1):
@@ -87,18 +92,23 @@ def commands_in(first: int, lines: Sequence[str]) -> tuple[Command, ...]:
             commands[-1][0].append(line[2:])
         else:
             commands[-1][1].append(line)
-    return tuple(Command("\n".join(text), tuple(expected), number) for text, expected, number in commands)
+    return tuple(
+        Command("\n".join(text), tuple(expected), number) for text, expected, number in commands
+    )
 
 
 def blocks_of(text: str) -> list[Block]:
-    """Returns the blocks of commands of a document. Malformed tells of one that has no mark, or a wrong one."""
+    """Returns the blocks of commands of a document. Malformed tells of one that has no mark, or a
+    wrong one."""
     blocks = []
     for first, before, lines in fenced(text):
         if not any(line.startswith("$ ") for line in lines):
             continue
         mark = MARK.match(before)
         if not mark:
-            raise Malformed(f"line {first}: commands without a comment <!--run:KIND--> in the line before")
+            raise Malformed(
+                f"line {first}: commands without a comment <!--run:KIND--> in the line before"
+            )
         words = frozenset(it.strip() for it in mark[2].split(",") if it.strip())
         if mark[1] not in KINDS or words - WORDS:
             raise Malformed(f"line {first}: there is no such mark: {before}")
@@ -116,12 +126,19 @@ def is_printed(expected: Sequence[str], printed: Sequence[str], is_whole: bool) 
     if not expected:
         return not printed or not is_whole
     if expected[0] == ANY:
-        return any(is_printed(expected[1:], printed[at:], is_whole) for at in range(len(printed) + 1))
-    return bool(printed) and printed[0] == expected[0] and is_printed(expected[1:], printed[1:], is_whole)
+        return any(
+            is_printed(expected[1:], printed[at:], is_whole) for at in range(len(printed) + 1)
+        )
+    return (
+        bool(printed)
+        and printed[0] == expected[0]
+        and is_printed(expected[1:], printed[1:], is_whole)
+    )
 
 
 def hear_interrupts() -> None:
-    """Has a command hear Ctrl-C, which it wouldn't where this was started in the background of a script."""
+    """Has a command hear Ctrl-C, which it wouldn't where this was started in the background of a
+    script."""
     signal.signal(signal.SIGINT, signal.SIG_DFL)
 
 
@@ -134,8 +151,14 @@ class Running:
         self.out = Path(name)
         with open(descriptor, "wb") as out:
             self.process = subprocess.Popen(
-                ["bash", "-c", command.text], cwd=folder, env=dict(environment), stdin=subprocess.DEVNULL, stdout=out,
-                stderr=subprocess.STDOUT, start_new_session=True, preexec_fn=hear_interrupts,
+                ["bash", "-c", command.text],
+                cwd=folder,
+                env=dict(environment),
+                stdin=subprocess.DEVNULL,
+                stdout=out,
+                stderr=subprocess.STDOUT,
+                start_new_session=True,
+                preexec_fn=hear_interrupts,
             )
 
     def printed(self) -> list[str]:
@@ -170,7 +193,9 @@ class Running:
 class Walk:
     """Runs blocks in one folder, one after the other."""
 
-    def __init__(self, folder: Path, environment: Mapping[str, str], varies: bool, pause: float = PAUSE) -> None:
+    def __init__(
+        self, folder: Path, environment: Mapping[str, str], varies: bool, pause: float = PAUSE
+    ) -> None:
         self.folder, self.environment, self.varies, self.pause = folder, environment, varies, pause
         self.going: list[Running] = []
 
@@ -190,13 +215,20 @@ class Walk:
             if running.difference(self.varies, False) is None:
                 return None
             if running.wait(0.1):
-                return running.difference(self.varies, True) or f"line {command.line}: `{command.text}` ended"
+                return (
+                    running.difference(self.varies, True)
+                    or f"line {command.line}: `{command.text}` ended"
+                )
         return running.difference(self.varies, False)
 
     def stop_going(self) -> list[str]:
         stopped = [(it.command, it.stop()) for it in self.going]
         self.going = []
-        return [f"line {command.line}: `{command.text}` didn't end by Ctrl-C" for command, ended in stopped if not ended]
+        return [
+            f"line {command.line}: `{command.text}` didn't end by Ctrl-C"
+            for command, ended in stopped
+            if not ended
+        ]
 
     def run_block(self, block: Block) -> list[str]:
         if self.going:
@@ -207,8 +239,11 @@ class Walk:
         return found + [it for it in told if it]
 
 
-def run_kind(text: str, kind: str, folder: Path, environment: Mapping[str, str], pause: float = PAUSE) -> list[tuple[Block, list[str]]]:
-    """Runs the blocks of one kind in a folder, and keeps what they print in files beside it. Returns each with what differs."""
+def run_kind(
+    text: str, kind: str, folder: Path, environment: Mapping[str, str], pause: float = PAUSE
+) -> list[tuple[Block, list[str]]]:
+    """Runs the blocks of one kind in a folder, and keeps what they print in files beside it.
+    Returns each with what differs."""
     walk = Walk(folder, environment, kind in ("server", "package"), pause)
     try:
         return [(block, walk.run_block(block)) for block in blocks_of(text) if block.kind == kind]

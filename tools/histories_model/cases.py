@@ -8,11 +8,10 @@ from .damage import byte_damage, damaged_tail, frame_damage, frames_of
 from .followed import Followed, exit_status, without_clocks
 from .history import Maker
 from .reader import MAX_BYTES, MAX_FRAME, Reader
-from .shown import Shown
 from .recording import LONGEST, BadLine, damaged_text, recording, sessions_of
+from .shown import Shown
 from .stream import Delivery
 from .wire import Change, Column, Definition, lsn_text
-
 
 # more bytes than this aren't run
 ENOUGH = 30000000
@@ -23,7 +22,8 @@ class Difference(Exception):
 
 
 def compare(what, program, words, status, out, err, given=None, memory=None):
-    """Runs the program and compares what it does; with a given file on standard input, the clocks of statuses aside."""
+    """Runs the program and compares what it does; with a given file on standard input, the clocks
+    of statuses aside."""
     within = {} if memory is None else {"memory": memory}
     got = program.run(*words, given=given, **within) if given else program.run(*words)
     if given:
@@ -31,8 +31,11 @@ def compare(what, program, words, status, out, err, given=None, memory=None):
     wanted = (status, out, err)
     if got != wanted:
         names = ("status", "standard output", "standard error")
-        told = [f"{name}: {show(one)}\n   the model: {show(other)}"
-                for name, one, other in zip(names, got, wanted) if one != other]
+        told = [
+            f"{name}: {show(one)}\n   the model: {show(other)}"
+            for name, one, other in zip(names, got, wanted)
+            if one != other
+        ]
         raise Difference(f"{what}: pgsub {' '.join(words)}\n   " + "\n   ".join(told))
 
 
@@ -48,10 +51,13 @@ def stop_line(fault):
 
 
 def compare_followed(what, program, words, followed, file, memory=None):
-    """Compares a `follow` over this file, within so much memory if that is given, with what the model has followed."""
+    """Compares a `follow` over this file, within so much memory if that is given, with what the
+    model has followed."""
     read = followed.reader
     line = followed.told + stop_line(read.fault)
-    compare(what, program, ["follow", *words], exit_status(read), followed.written, line, file, memory)
+    compare(
+        what, program, ["follow", *words], exit_status(read), followed.written, line, file, memory
+    )
 
 
 def version_words(rng, version):
@@ -97,7 +103,14 @@ def well_formed(case, program):
 def resumed(program, read, file):
     """What `resume` prints: the position, and what may be confirmed."""
     out = f"position {lsn_text(read.position)}\nconfirmed {lsn_text(read.confirmed)}\n".encode()
-    compare("what may be confirmed", program, ["resume", file], int(read.fault is not None), out, stop_line(read.fault))
+    compare(
+        "what may be confirmed",
+        program,
+        ["resume", file],
+        int(read.fault is not None),
+        out,
+        stop_line(read.fault),
+    )
 
 
 def cache_words(number):
@@ -113,27 +126,48 @@ def check_store(program, store, read):
 
 
 def stored(program, sessions, version, words, ends=None):
-    """A run for each session over a store in a file, up to the first fault; the last one ends so, where that is known."""
+    """A run for each session over a store in a file, up to the first fault; the last one ends so,
+    where that is known."""
     store = program.path_of("copy.db")
     read = Reader(version)
     for number, content in enumerate(sessions):
         read = read.restarted().follow([content])
-        status, rows, line = int(read.fault is not None), model.dump(read.tables, read.position), stop_line(read.fault)
+        status, rows, line = (
+            int(read.fault is not None),
+            model.dump(read.tables, read.position),
+            stop_line(read.fault),
+        )
         if ends and (read.fault or number == len(sessions) - 1) and ends != (status, rows, line):
             raise AssertionError(f"two models differ: {(status, rows, line)} and {ends}")
         file = program.file(f"session.{number}.raw", content)
-        compare("a store in a file", program, ["apply", "--store", store, *cache_words(number), "--raw", *words, file], status, rows, line)
+        compare(
+            "a store in a file",
+            program,
+            ["apply", "--store", store, *cache_words(number), "--raw", *words, file],
+            status,
+            rows,
+            line,
+        )
         check_store(program, store, read)
         if read.fault:
             break
     words = ["dump", "--store", program.copied_alone(store)]
-    compare("what the file alone holds", program, words, 0, model.dump(read.tables, read.position), b"")
+    compare(
+        "what the file alone holds", program, words, 0, model.dump(read.tables, read.position), b""
+    )
 
 
 def shown(program, sessions, version, words, file):
     """The lines of `show`."""
     read = Shown(version).follow(sessions)
-    compare("messages", program, ["show", *words, file], int(read.fault is not None), read.text(), stop_line(read.fault))
+    compare(
+        "messages",
+        program,
+        ["show", *words, file],
+        int(read.fault is not None),
+        read.text(),
+        stop_line(read.fault),
+    )
 
 
 def same(rng, program, maker, history, left, words):
@@ -152,14 +186,18 @@ def same(rng, program, maker, history, left, words):
     elif left[0].position == right.position:
         out, status = f"same {lsn_text(right.position)}\n".encode(), 0
     else:
-        out, status = f"positions {lsn_text(left[0].position)} {lsn_text(right.position)}\n".encode(), 4
+        out, status = (
+            f"positions {lsn_text(left[0].position)} {lsn_text(right.position)}\n".encode(),
+            4,
+        )
     compare("two deliveries", program, ["same", *words, left[1], file], status, out, line)
 
 
 def damaged(case, program):
     """Sessions of a random history with damage, read by the model to the first fault.
 
-    In half of the cases the damage comes after the last commit. Rows and position are then those of the history, too.
+    In half of the cases the damage comes after the last commit. Rows and position are then those of
+    the history, too.
     """
     rng = random.Random(case)
     if rng.random() < 0.0005:
@@ -202,7 +240,8 @@ def damaged(case, program):
 
 
 def damage(rng, delivery):
-    """Damaged sessions, and whether they lead to the rows and position that the delivery was then set to."""
+    """Damaged sessions, and whether they lead to the rows and position that the delivery was then
+    set to."""
     sessions = list(delivery.sessions)
     at = rng.randrange(len(sessions))
     frames = delivery.frames[at]
@@ -230,7 +269,8 @@ def limit_words(rng, read):
 
 
 def followed(case, program):
-    """A history that comes to `follow` on standard input: the statuses that it writes, and what its file then holds."""
+    """A history that comes to `follow` on standard input: the statuses that it writes, and what its
+    file then holds."""
     rng = random.Random(case)
     maker = Maker(rng)
     version = rng.choice((1, 2, 2))
@@ -239,7 +279,9 @@ def followed(case, program):
         sessions, _ = damage(rng, delivery)
     else:
         sessions = delivery.sessions
-    whole = [b"".join(frame for frame, _ in frames) + wire.COPY_DONE for frames in delivery.frames[:-1]]
+    whole = [
+        b"".join(frame for frame, _ in frames) + wire.COPY_DONE for frames in delivery.frames[:-1]
+    ]
     content = b"".join(whole) + sessions[-1]
     if len(content) > ENOUGH:
         return
@@ -248,13 +290,22 @@ def followed(case, program):
     if rng.random() < 0.2:
         words += limit_words(rng, read)
     at = rng.randint(0, len(content)) if rng.random() < 0.3 else len(content)
-    for number, part in enumerate((content[:at], content[at:]) if at < len(content) else (content,)):
+    for number, part in enumerate(
+        (content[:at], content[at:]) if at < len(content) else (content,)
+    ):
         read = read.restarted()
         after = Followed(read).follow(part)
         file = program.file(f"input.{number}", part)
         compare_followed("following", program, [*words, *cache_words(number)], after, file)
         check_store(program, store, read)
-    compare("what the file holds", program, ["dump", "--store", store], 0, model.dump(read.tables, read.position), b"")
+    compare(
+        "what the file holds",
+        program,
+        ["dump", "--store", store],
+        0,
+        model.dump(read.tables, read.position),
+        b"",
+    )
 
 
 def recorded(paths, case, program):
@@ -275,7 +326,11 @@ def recorded(paths, case, program):
     version = rng.choice((1, 2, 2, 2))
     words = version_words(rng, version)
     read = Reader(version).follow(sessions)
-    ends = int(read.fault is not None), model.dump(read.tables, read.position), stop_line(read.fault)
+    ends = (
+        int(read.fault is not None),
+        model.dump(read.tables, read.position),
+        stop_line(read.fault),
+    )
     if rng.random() < 0.2:
         stored(program, sessions, version, words, ends)
         return
@@ -286,12 +341,20 @@ def recorded(paths, case, program):
 
 
 def at_a_limit(rng, program):
-    """Items of open transactions that cost as much as they may together, one byte less or one more; and a longest frame."""
+    """Items of open transactions that cost as much as they may together, one byte less or one more;
+    and a longest frame."""
     if rng.random() < 0.2:
         over = rng.randint(0, 1)
         file = program.file("recording.pgx", b"#" * (LONGEST + over))
         line = stop_line("capture too long") if over else b""
-        compare("a long recording", program, ["apply", file], 3 * over, b"" if over else b"position 0/0\n", line)
+        compare(
+            "a long recording",
+            program,
+            ["apply", file],
+            3 * over,
+            b"" if over else b"position 0/0\n",
+            line,
+        )
         return
     version = rng.choice((1, 2))
     definition = Definition(16386, b"public", b"f", b"f", [Column(1, b"v", 25, -1)])
@@ -300,27 +363,46 @@ def at_a_limit(rng, program):
     least = 9 + len(empty)
     most = 8 + MAX_FRAME - 25 - (0 if label is None else 4)
     left = MAX_BYTES + rng.choice((-1, 0, 1)) - 9 - len(definition.rest)
-    bodies = [wire.begin(0x100, 0, 700) if version == 1 else wire.stream_start(700, 1), wire.item(b"R", definition.rest, label)]
+    bodies = [
+        wire.begin(0x100, 0, 700) if version == 1 else wire.stream_start(700, 1),
+        wire.item(b"R", definition.rest, label),
+    ]
     while left:
         cost = left if left <= most else min(most, left - least)
         left -= cost
         change = Change(b"I", [definition], new=[wire.binary(bytes(cost - least))])
         bodies.append(wire.item(b"I", change.rest(), label))
-    content = wire.message_rest(0, 0, b"", bytes(MAX_FRAME - 25 - 15 - (0 if label is None else 4) + rng.randint(0, 1)))
+    content = wire.message_rest(
+        0, 0, b"", bytes(MAX_FRAME - 25 - 15 - (0 if label is None else 4) + rng.randint(0, 1))
+    )
     bodies.append(wire.item(b"M", content, label))
     if version == 2:
         small = Change(b"I", [definition], new=[wire.text(b"x")])
-        bodies += [b"E", wire.stream_abort(700, rng.choice((700, 701))), wire.begin(0x200, 0, 702),
-                   wire.item(b"R", definition.rest), wire.item(b"I", small.rest()), wire.commit(0x200, 0x230, 0)]
+        bodies += [
+            b"E",
+            wire.stream_abort(700, rng.choice((700, 701))),
+            wire.begin(0x200, 0, 702),
+            wire.item(b"R", definition.rest),
+            wire.item(b"I", small.rest()),
+            wire.commit(0x200, 0x230, 0),
+        ]
     session = b"".join(wire.xlog_data(0, 0, 0, body) for body in bodies)
     read = Reader(version).follow([session])
     file = program.file("session.raw", session)
     rows, status = model.dump(read.tables, read.position), int(read.fault is not None)
-    compare("at a limit", program, ["apply", "--raw", "--proto", str(version), file], status, rows, stop_line(read.fault))
+    compare(
+        "at a limit",
+        program,
+        ["apply", "--raw", "--proto", str(version), file],
+        status,
+        rows,
+        stop_line(read.fault),
+    )
 
 
 def text_damaged(rng, program):
-    """A recording whose text is damaged: nothing is applied where a line is no line of a recording."""
+    """A recording whose text is damaged: nothing is applied where a line is no line of a
+    recording."""
     maker = Maker(rng)
     delivery = Delivery(rng, maker.values, maker.history(), maker.oids, 2)
     text = damaged_text(rng, recording(rng, delivery.sessions))
@@ -328,7 +410,14 @@ def text_damaged(rng, program):
     try:
         sessions = [b"".join(chunks) for chunks in sessions_of(text)]
     except BadLine as bad:
-        compare("a damaged text", program, ["apply", file], 3, b"", stop_line(f"capture line {bad}: not hexadecimal"))
+        compare(
+            "a damaged text",
+            program,
+            ["apply", file],
+            3,
+            b"",
+            stop_line(f"capture line {bad}: not hexadecimal"),
+        )
         return
     read = Reader(2).follow(sessions)
     rows, status = model.dump(read.tables, read.position), int(read.fault is not None)

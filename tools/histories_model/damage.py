@@ -1,9 +1,29 @@
-"""Damage to sessions: bytes changed, removed and put in, counts that claim much, frames out of order."""
+"""Damage to sessions: bytes changed, removed and put in, counts that claim much, frames out of
+order."""
 
 import struct
 
-COUNTS = (0, 1, 2, 3, 4, 5, 0x641, 0x640, 0xFF, 0xFFFF, 0x10000, 0x01000004, 0x01000005, 0x40000000, 0x7FFFFFFE, 0x7FFFFFFF,
-          0x80000000, 0xFFFFFFFE, 0xFFFFFFFF)
+COUNTS = (
+    0,
+    1,
+    2,
+    3,
+    4,
+    5,
+    0x641,
+    0x640,
+    0xFF,
+    0xFFFF,
+    0x10000,
+    0x01000004,
+    0x01000005,
+    0x40000000,
+    0x7FFFFFFE,
+    0x7FFFFFFF,
+    0x80000000,
+    0xFFFFFFFE,
+    0xFFFFFFFF,
+)
 LETTERS = b"BCORYIUDTMSEcAdwkKONnutbfi\0\1\2\xff"
 
 
@@ -94,8 +114,11 @@ def frame_damage(rng, frames):
 
 
 def damaged_tail(rng, frames):
-    """Sessions' frames with damage behind the last commit alone: what comes before it, and the damaged rest without commits."""
-    commits = [place for place, (_, effect) in enumerate(frames) if effect and effect[0] == "commit"]
+    """Sessions' frames with damage behind the last commit alone: what comes before it, and the
+    damaged rest without commits."""
+    commits = [
+        place for place, (_, effect) in enumerate(frames) if effect and effect[0] == "commit"
+    ]
     keep = rng.choice(commits) + 1 if commits and rng.random() < 0.9 else 0
     rest = [frame for frame, _ in frames[keep:] if not is_commit(frame)]
     rest = rest[: rng.randint(1, 30)]

@@ -1,4 +1,5 @@
-"""Random feeds: histories in the bytes of a feed, with the rows after each commit, and what a file of tables has of these."""
+"""Random feeds: histories in the bytes of a feed, with the rows after each commit, and what a file
+of tables has of these."""
 
 import sqlite3
 from collections import Counter
@@ -20,7 +21,8 @@ NAMES = [it for it in history.NAMES if it not in (b"", b"A")]
 
 
 class Values(history.Values):
-    """What a server can have: the columns of a table have different names, and a cell is a value of its type.
+    """What a server can have: the columns of a table have different names, and a cell is a value of
+    its type.
 
     In half of the histories all columns are texts, and in the others each cell is a number.
     """
@@ -31,7 +33,11 @@ class Values(history.Values):
 
     def cell(self):
         if self.types == NUMBERS:
-            return NULL if self.rng.random() < 0.1 else text(b"%d" % self.rng.choice((0, 1, 7, -5, 32767, self.rng.randint(-99, 99))))
+            return (
+                NULL
+                if self.rng.random() < 0.1
+                else text(b"%d" % self.rng.choice((0, 1, 7, -5, 32767, self.rng.randint(-99, 99))))
+            )
         cell = super().cell()
         # (binary values of these types are text)
         return text(cell[5:].hex().encode()) if cell[:1] == b"b" else cell
@@ -42,7 +48,12 @@ class Values(history.Values):
 
     def column(self, letter, place):
         names = [it for it in history.NAMES if it]
-        return Column(self.flag(letter, place), self.rng.choice(names), self.rng.choice(self.types), self.rng.choice((-1, -1, 4)))
+        return Column(
+            self.flag(letter, place),
+            self.rng.choice(names),
+            self.rng.choice(self.types),
+            self.rng.choice((-1, -1, 4)),
+        )
 
     def definition(self, oid):
         return self.distinct(super().definition(oid))
@@ -89,8 +100,13 @@ def row_of(cells):
 
 
 def definition_of(it):
-    columns = tuple(feed_text.Column(column.name.decode(), column.type_oid, column.modifier, bool(column.flag)) for column in it.columns)
-    return feed_text.Definition(it.oid, it.namespace.decode(), it.name.decode(), it.letter.decode(), columns)
+    columns = tuple(
+        feed_text.Column(column.name.decode(), column.type_oid, column.modifier, bool(column.flag))
+        for column in it.columns
+    )
+    return feed_text.Definition(
+        it.oid, it.namespace.decode(), it.name.decode(), it.letter.decode(), columns
+    )
 
 
 def lines_of(tables, change):
@@ -102,7 +118,9 @@ def lines_of(tables, change):
     definition = change.definitions[0]
     found = None
     if change.letter != b"I":
-        found = model.rows_under(tables, definition).get(model.searched_identity(change, definition), (None,))[0]
+        found = model.rows_under(tables, definition).get(
+            model.searched_identity(change, definition), (None,)
+        )[0]
     model.apply_change(tables, change)
     if change.letter == b"I":
         return [feed_text.Line(definitions[0], "c", None, row_of(change.new))]
@@ -111,7 +129,9 @@ def lines_of(tables, change):
         return [feed_text.Line(definitions[0], "x", row_of(change.old), row_of(change.new), kind)]
     if change.letter == b"D":
         return [feed_text.Line(definitions[0], "d", row_of(found), None)]
-    return [feed_text.Line(definitions[0], "u", row_of(found), row_of(model.resolve(change.new, found)))]
+    return [
+        feed_text.Line(definitions[0], "u", row_of(found), row_of(model.resolve(change.new, found)))
+    ]
 
 
 class Fed:
@@ -126,7 +146,11 @@ class Fed:
             if transaction.end <= at:
                 continue
             lines = [line for change in transaction.changes for line in lines_of(tables, change)]
-            about = feed_text.About(transaction.lsn, transaction.xid, rng.getrandbits(50)) if rng.random() < 0.9 else None
+            about = (
+                feed_text.About(transaction.lsn, transaction.xid, rng.getrandbits(50))
+                if rng.random() < 0.9
+                else None
+            )
             self.commits.append((transaction.end, lines, about))
             at = transaction.end
             self.rows[at] = rows_in(tables)
@@ -145,7 +169,10 @@ def write_store(path, contents):
     base = sqlite3.connect(path)
     make_tables(base)
     for oid, it in contents.relations.items():
-        base.execute("INSERT INTO rel VALUES (?, ?, ?, ?, ?)", (oid, it.namespace, it.name, it.letter, it.columns))
+        base.execute(
+            "INSERT INTO rel VALUES (?, ?, ?, ?, ?)",
+            (oid, it.namespace, it.name, it.letter, it.columns),
+        )
     for (oid, identity), row in contents.rows.items():
         base.execute("INSERT INTO held VALUES (?, ?, ?, ?)", (oid, identity, row.body, row.copies))
     base.execute("UPDATE pos SET lsn = ?", (contents.position.to_bytes(8, "big"),))
@@ -170,7 +197,9 @@ class Feeding(Reader):
 
     def step(self, letter, fields, length):
         if letter in b"Cc":
-            self.about = feed_text.About(fields[1], self.top if letter == b"C" else fields[0], fields[3])
+            self.about = feed_text.About(
+                fields[1], self.top if letter == b"C" else fields[0], fields[3]
+            )
         super().step(letter, fields, length)
 
     def commit(self, xid, end):
@@ -201,7 +230,10 @@ def rows_in(tables):
     for oid, (definition, rows) in tables.items():
         counted = Counter()
         for cells, copies in rows.values():
-            values = [value_of(column.type_oid, cell_of(cell)) for column, cell in zip(definition.columns, cells)]
+            values = [
+                value_of(column.type_oid, cell_of(cell))
+                for column, cell in zip(definition.columns, cells)
+            ]
             counted[tuple(values) or (None,)] += copies
         found[oid] = counted
     return found
@@ -225,8 +257,13 @@ def read_file(path):
     try:
         base.execute("BEGIN")
         high, low = base.execute("SELECT lsn FROM pgsub_position").fetchone()[0].split("/")
-        names = base.execute("SELECT oid, name FROM pgsub_relations WHERE name IS NOT NULL").fetchall()
-        rows = {oid: Counter(base.execute('SELECT * FROM "%s"' % name.replace('"', '""'))) for oid, name in names}
+        names = base.execute(
+            "SELECT oid, name FROM pgsub_relations WHERE name IS NOT NULL"
+        ).fetchall()
+        rows = {
+            oid: Counter(base.execute('SELECT * FROM "%s"' % name.replace('"', '""')))
+            for oid, name in names
+        }
         return (int(high, 16) << 32) + int(low, 16), rows
     finally:
         base.close()

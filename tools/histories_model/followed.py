@@ -1,4 +1,5 @@
-"""What `follow` writes while it reads: a status at once, and after each piece the replies and what has been confirmed since.
+"""What `follow` writes while it reads: a status at once, and after each piece the replies and what
+has been confirmed since.
 
 Where changes of a piece found no row, a line tells how many have by then.
 """
@@ -16,7 +17,12 @@ STATUS = struct.Struct(">cIcQQQqB")
 
 # The exit status of each fault that isn't the stream's.
 STATUSES = {
-    "spool 1 SpoolFull": 10, "wire 3 TooLarge": 11, "store 8 Refused": 13, "store 10 NotAStore": 13, "memory": 14, "read": 15,
+    "spool 1 SpoolFull": 10,
+    "wire 3 TooLarge": 11,
+    "store 8 Refused": 13,
+    "store 10 NotAStore": 13,
+    "memory": 14,
+    "read": 15,
 }
 
 

@@ -1,14 +1,54 @@
-"""Random histories of a server: transactions with their changes, subtransactions and rolled-back parts, in commit order."""
+"""Random histories of a server: transactions with their changes, subtransactions and rolled-back
+parts, in commit order."""
 
 from . import tables as model
 from .wire import NULL, UNSENT, Change, Column, Definition, binary, text
 
-NAMES = (b"a", b"b", b"c", b"id", b"v", b"w", b"x", b"y", b"long name", b'quote"', b"back\\slash", "größe".encode(),
-         "表".encode(), b"", b"tab\there", b"A")
+NAMES = (
+    b"a",
+    b"b",
+    b"c",
+    b"id",
+    b"v",
+    b"w",
+    b"x",
+    b"y",
+    b"long name",
+    b'quote"',
+    b"back\\slash",
+    "größe".encode(),
+    "表".encode(),
+    b"",
+    b"tab\there",
+    b"A",
+)
 NAMESPACES = (b"public", b"public", b"public", b"", b"pg_catalog", b"other", "schéma".encode())
 LETTERS = (b"d",) * 9 + (b"i",) * 4 + (b"f",) * 6 + (b"n",) * 2
-SHORT = (b"", b"a", b"b", b"c", b"1", b"2", b"3", b"0", b"\0", b"\n", b'"', b"\\", b"\x01\x1f\x7f", b"null", b"\b\f\r\t")
-RANGES = ((0x20, 0x7E), (0, 0x1F), (0x7F, 0x7FF), (0x800, 0xD7FF), (0xE000, 0xFFFF), (0x10000, 0x10FFFF))
+SHORT = (
+    b"",
+    b"a",
+    b"b",
+    b"c",
+    b"1",
+    b"2",
+    b"3",
+    b"0",
+    b"\0",
+    b"\n",
+    b'"',
+    b"\\",
+    b"\x01\x1f\x7f",
+    b"null",
+    b"\b\f\r\t",
+)
+RANGES = (
+    (0x20, 0x7E),
+    (0, 0x1F),
+    (0x7F, 0x7FF),
+    (0x800, 0xD7FF),
+    (0xE000, 0xFFFF),
+    (0x10000, 0x10FFFF),
+)
 MOST_LSN = 2**64 - 1
 
 
@@ -88,7 +128,11 @@ class Values:
         return 2**bits - 1 if luck < 0.5 else self.rng.getrandbits(bits)
 
     def signed(self, bits):
-        return self.number(bits) - 2 ** (bits - 1) if self.rng.random() < 0.5 else self.rng.randint(-1, 1000)
+        return (
+            self.number(bits) - 2 ** (bits - 1)
+            if self.rng.random() < 0.5
+            else self.rng.randint(-1, 1000)
+        )
 
     def flag(self, letter, place):
         if letter == b"f":
@@ -98,8 +142,12 @@ class Values:
         return int(self.rng.random() < (0.93 if place == 0 else 0.15))
 
     def column(self, letter, place):
-        return Column(self.flag(letter, place), self.rng.choice(NAMES), self.rng.choice((23, 25, 17, 2**32 - 1)),
-                      self.rng.choice((-1, -1, 4, -(2**31))))
+        return Column(
+            self.flag(letter, place),
+            self.rng.choice(NAMES),
+            self.rng.choice((23, 25, 17, 2**32 - 1)),
+            self.rng.choice((-1, -1, 4, -(2**31))),
+        )
 
     def width(self):
         rng = self.rng
@@ -153,7 +201,8 @@ class Values:
 
 
 class Maker:
-    """Makes the transactions of one history, and follows the tables meanwhile so that most changes meet a row."""
+    """Makes the transactions of one history, and follows the tables meanwhile so that most changes
+    meet a row."""
 
     # a table that has more rows gets fewer Inserts
     few = 3
@@ -169,7 +218,10 @@ class Maker:
         self.values = self.make_values()
         self.tables = {}
         self.definitions = {}
-        oids = [rng.choice((16384, 1, 0, 2**31, 2**31 - 1, 2**32 - 1, rng.getrandbits(32))) + step for step in range(1, 9)]
+        oids = [
+            rng.choice((16384, 1, 0, 2**31, 2**31 - 1, 2**32 - 1, rng.getrandbits(32))) + step
+            for step in range(1, 9)
+        ]
         self.oids = [oid % 2**32 for oid in oids[: rng.choice((1, 2, 2, 3, 5))]]
         for oid in self.oids:
             self.definitions[oid] = self.values.definition(oid)
@@ -181,18 +233,41 @@ class Maker:
         """How many transactions a history has."""
         rng = self.rng
         luck = rng.random()
-        return rng.randint(0, 3) if luck < 0.3 else rng.randint(2, 9) if luck < 0.95 else rng.randint(10, 40)
+        return (
+            rng.randint(0, 3)
+            if luck < 0.3
+            else rng.randint(2, 9)
+            if luck < 0.95
+            else rng.randint(10, 40)
+        )
 
     def sizes(self):
         """About how many changes a transaction has, at least and at most."""
         luck = self.rng.random()
-        return (0, 0) if luck < 0.08 else (1, 6) if luck < 0.85 else (5, 30) if luck < 0.99 else (50, 400)
+        return (
+            (0, 0)
+            if luck < 0.08
+            else (1, 6)
+            if luck < 0.85
+            else (5, 30)
+            if luck < 0.99
+            else (50, 400)
+        )
 
     def history(self):
         rng = self.rng
         count = self.count()
         bad_at = rng.randrange(count) if count and rng.random() < self.bad_share else None
-        lsn = rng.choice((0, 1, 0x100, 2**32 - 40, rng.getrandbits(40), MOST_LSN - 2**20 - rng.getrandbits(40)))
+        lsn = rng.choice(
+            (
+                0,
+                1,
+                0x100,
+                2**32 - 40,
+                rng.getrandbits(40),
+                MOST_LSN - 2**20 - rng.getrandbits(40),
+            )
+        )
         history = []
         for place in range(count):
             lsn += rng.choice((0, 0, 1, 100))
@@ -204,7 +279,11 @@ class Maker:
 
     def transaction(self, lsn, end, bad):
         rng = self.rng
-        self.free = rng.sample(range(690, 760), 40) if rng.random() < 0.9 else [rng.getrandbits(32) for _ in range(40)]
+        self.free = (
+            rng.sample(range(690, 760), 40)
+            if rng.random() < 0.9
+            else [rng.getrandbits(32) for _ in range(40)]
+        )
         if len(set(self.free)) < 40:
             self.free = list(range(690, 730))
         before = model.copied(self.tables) if bad else None
@@ -239,7 +318,8 @@ class Maker:
         return parts
 
     def change(self):
-        """A change that the tables take, or once in a bad transaction one that they don't; None where none is found."""
+        """A change that the tables take, or once in a bad transaction one that they don't; None
+        where none is found."""
         rng = self.rng
         if self.bad and rng.random() < 0.4:
             for _ in range(12):
@@ -275,7 +355,10 @@ class Maker:
             rows = {}
         luck = rng.random()
         if luck < self.truncates:
-            named = [self.definitions[other] for other in rng.choices(self.oids, k=rng.choice((0, 1, 1, 2, 3)))]
+            named = [
+                self.definitions[other]
+                for other in rng.choices(self.oids, k=rng.choice((0, 1, 1, 2, 3)))
+            ]
             return Change(b"T", named, options=rng.randint(0, 3))
         if luck < (0.3 if len(rows) > self.few else 0.75):
             return Change(b"I", [definition], new=self.insert_row(definition, rows, careless))
@@ -283,7 +366,9 @@ class Maker:
 
     def row(self, definition):
         values = self.values
-        return [values.key_cell() if column.flag else values.cell() for column in definition.columns]
+        return [
+            values.key_cell() if column.flag else values.cell() for column in definition.columns
+        ]
 
     def insert_row(self, definition, rows, careless):
         rng = self.rng
@@ -303,7 +388,11 @@ class Maker:
     def change_of_row(self, definition, rows, careless, luck):
         """An Update or Delete, mostly of a row that is stored."""
         rng = self.rng
-        found = list(rng.choice(list(rows.values()))[0]) if rows and rng.random() < 0.92 else self.row(definition)
+        found = (
+            list(rng.choice(list(rows.values()))[0])
+            if rows and rng.random() < 0.92
+            else self.row(definition)
+        )
         is_delete = luck > self.deletes_from
         old_kind, old = self.old_tuple(definition, found, is_delete)
         if is_delete:
@@ -318,7 +407,9 @@ class Maker:
                 elif chance < 0.5:
                     new[place] = UNSENT if chance < 0.25 else self.values.cell()
             change = Change(b"U", [definition], old_kind, old, new)
-        if careless and not (definition.keyed and rng.random() < 0.4 and self.aim_at_other(change, rows)):
+        if careless and not (
+            definition.keyed and rng.random() < 0.4 and self.aim_at_other(change, rows)
+        ):
             self.spoil(change)
             while rng.random() < 0.3:
                 self.spoil(change)
@@ -343,9 +434,14 @@ class Maker:
             return b"O", found
         if luck < 0.65 and not is_delete:
             return None, None
-        cells = [cell if column.flag or rng.random() < 0.1 else NULL for cell, column in zip(found, definition.columns)]
-        return b"K", [UNSENT if cell == NULL and not column.flag and rng.random() < 0.02 else cell
-                      for cell, column in zip(cells, definition.columns)]
+        cells = [
+            cell if column.flag or rng.random() < 0.1 else NULL
+            for cell, column in zip(found, definition.columns)
+        ]
+        return b"K", [
+            UNSENT if cell == NULL and not column.flag and rng.random() < 0.02 else cell
+            for cell, column in zip(cells, definition.columns)
+        ]
 
     def spoil(self, change):
         """Gives an Update or Delete something for which it has to be rejected, mostly."""
@@ -356,7 +452,9 @@ class Maker:
         if luck < 0.3 and cells:
             cells = list(cells)
             # it may have lost a cell already
-            cells[(definition.key[0] if definition.keyed else rng.randrange(len(cells))) % len(cells)] = UNSENT
+            cells[
+                (definition.key[0] if definition.keyed else rng.randrange(len(cells))) % len(cells)
+            ] = UNSENT
             if change.old is not None:
                 change.old = cells
             else:
@@ -367,6 +465,8 @@ class Maker:
             elif change.new is not None:
                 change.new = other_width(change.new, rng)
         elif luck < 0.7 and change.letter == b"U":
-            change.old_kind, change.old = (None, None) if rng.random() < 0.5 else (b"K", change.old or change.new)
+            change.old_kind, change.old = (
+                (None, None) if rng.random() < 0.5 else (b"K", change.old or change.new)
+            )
         elif luck < 0.8 and change.letter == b"D":
             change.old_kind = b"K" if change.old_kind == b"O" else b"O"

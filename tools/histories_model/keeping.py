@@ -1,6 +1,8 @@
-"""Runs that keep a feed beside a store: after each of them its folder has to be the model's to the byte.
+"""Runs that keep a feed beside a store: after each of them its folder has to be the model's to the
+byte.
 
-So each commit has its final LSN, its xid and its time, and each change the rows before and after it.
+So each commit has its final LSN, its xid and its time, and each change the rows before and after
+it.
 """
 
 import random
@@ -14,13 +16,35 @@ from feed_text import SEGMENT_SIZE, closing_line, entry_text, segment_name
 
 from . import history
 from . import tables as model
-from .cases import ENOUGH, Difference, cache_words, check_store, compare, compare_followed, damage, stop_line, version_words
+from .cases import (
+    ENOUGH,
+    Difference,
+    cache_words,
+    check_store,
+    compare,
+    compare_followed,
+    damage,
+    stop_line,
+    version_words,
+)
 from .fed import Feeding
 from .followed import Followed
 from .recording import BadLine, recording, sessions_of
 from .stream import Delivery
 
-TEXTS = ("", "7", "7530000000000000001", "shop", "pgsub", 'a "quoted" name', "back\\slash", "größe 表", "a\tb\n", "\x01\x7f", "-")
+TEXTS = (
+    "",
+    "7",
+    "7530000000000000001",
+    "shop",
+    "pgsub",
+    'a "quoted" name',
+    "back\\slash",
+    "größe 表",
+    "a\tb\n",
+    "\x01\x7f",
+    "-",
+)
 SIZES = (SEGMENT_BYTES, SEGMENT_BYTES, SEGMENT_BYTES, LAST_LSN, 0, 1, 1024, 1500, 3000, 20000)
 AGES = (1, 1, 1, 2, 2**32 - 1)
 
@@ -73,7 +97,13 @@ class Runs:
     """Runs over one store that keep its feed, and what the model has of both."""
 
     def __init__(self, rng, program, version, asked, name="copy"):
-        self.rng, self.program, self.version, self.asked, self.name = rng, program, version, asked, name
+        self.rng, self.program, self.version, self.asked, self.name = (
+            rng,
+            program,
+            version,
+            asked,
+            name,
+        )
         self.store = program.path_of(f"{name}.db")
         self.read, self.number = Feeding(version), 0
         # after some runs what the model had read, and the store's files
@@ -96,7 +126,12 @@ class Runs:
         except NotOpened as unopened:
             why = str(unopened)
         read.writer = folder if keeps else None
-        words = ["--store", self.store, *cache_words(self.number), *version_words(self.rng, self.version)]
+        words = [
+            "--store",
+            self.store,
+            *cache_words(self.number),
+            *version_words(self.rng, self.version),
+        ]
         words += feed_words(self.rng, self.feed, self.asked) if keeps else []
         self.compare(sessions, way, words, why)
         read.writer = folder
@@ -107,13 +142,18 @@ class Runs:
         return why is None
 
     def compare(self, sessions, way, words, why):
-        """Compares what a run prints; `why`: it ends at once, since the folder has no feed of this store."""
+        """Compares what a run prints; `why`: it ends at once, since the folder has no feed of this
+        store."""
         read, what, is_live = self.read, f"run {self.number}", way == "followed"
         if way == "recording":
             file = self.program.file(f"run.{self.number}.pgx", recording(self.rng, sessions))
         else:
             file = self.program.file(f"run.{self.number}.raw", *sessions)
-        whole = ["follow", *words] if is_live else ["apply", *words, *(["--raw"] if way == "raw" else []), file]
+        whole = (
+            ["follow", *words]
+            if is_live
+            else ["apply", *words, *(["--raw"] if way == "raw" else []), file]
+        )
         if why:
             compare(what, self.program, whole, 3, b"", stop_line(why), file if is_live else None)
         elif is_live:
@@ -140,8 +180,14 @@ class Runs:
         if luck < 0.2:
             self.choose_size(sessions)
         elif luck < 0.35:
-            self.asked = replace(self.asked, segment_bytes=SEGMENT_BYTES, segment_seconds=rng.choice(AGES))
-        way = "recording" if len(sessions) > 1 else rng.choice(("recording", "raw", "followed", "followed"))
+            self.asked = replace(
+                self.asked, segment_bytes=SEGMENT_BYTES, segment_seconds=rng.choice(AGES)
+            )
+        way = (
+            "recording"
+            if len(sessions) > 1
+            else rng.choice(("recording", "raw", "followed", "followed"))
+        )
         if not self.run(sessions, way, rng.random() < 0.95):
             self.asked = asked_of(rng)
             self.begin_feed()
@@ -154,15 +200,20 @@ class Runs:
         """Has a segment end just before or just behind one of the next commits."""
         trial = deepcopy(self.read.restarted())
         try:
-            trial.writer.open(trial.position, replace(self.asked, segment_bytes=LAST_LSN, segment_seconds=0))
+            trial.writer.open(
+                trial.position, replace(self.asked, segment_bytes=LAST_LSN, segment_seconds=0)
+            )
         except NotOpened:
             return
         lengths = [*trial.follow(sessions).writer.last().ends.values()]
         if lengths:
-            self.asked = replace(self.asked, segment_bytes=self.rng.choice(lengths) + self.rng.choice((-1, 0, 0, 1)))
+            self.asked = replace(
+                self.asked, segment_bytes=self.rng.choice(lengths) + self.rng.choice((-1, 0, 0, 1))
+            )
 
     def crash(self):
-        """What a crash may leave: a store that lacks the feed's last commits, a rest behind these, or a part of a head alone."""
+        """What a crash may leave: a store that lacks the feed's last commits, a rest behind these,
+        or a part of a head alone."""
         rng, folder = self.rng, self.read.writer
         if self.saved and rng.random() < 0.6:
             self.read, files = rng.choice(self.saved)
@@ -171,7 +222,14 @@ class Runs:
         if folder.segments and rng.random() < 0.6:
             segment = folder.last()
             if segment.ends or rng.random() < 0.5:
-                rest = rng.choice((rng.randbytes(300), closing_line(folder.at), entry_text(folder.at, folder.at + 9, ()), b"{"))
+                rest = rng.choice(
+                    (
+                        rng.randbytes(300),
+                        closing_line(folder.at),
+                        entry_text(folder.at, folder.at + 9, ()),
+                        b"{",
+                    )
+                )
                 segment.text += rest[: rng.randint(1, len(rest))]
             else:
                 segment.text = segment.text[: rng.randrange(SEGMENT_SIZE)]
@@ -187,7 +245,9 @@ def fed(case, program):
     rng = random.Random(case)
     maker = Maker(rng)
     version = rng.choice((1, 2, 2))
-    delivery = Delivery(rng, maker.values, maker.history(), maker.oids, version, rng.choice((1, 2, 2, 3, 5)))
+    delivery = Delivery(
+        rng, maker.values, maker.history(), maker.oids, version, rng.choice((1, 2, 2, 3, 5))
+    )
     sessions = damage(rng, delivery)[0] if rng.random() < 0.2 else delivery.sessions
     if sum(map(len, sessions)) > ENOUGH:
         return
@@ -202,7 +262,8 @@ def fed(case, program):
 
 
 def recorded(path, version, program):
-    """A recording in one run; in one for each session, with a segment for each commit; and each session followed."""
+    """A recording in one run; in one for each session, with a segment for each commit; and each
+    session followed."""
     rng = random.Random(f"{path.parent.name} {path.name} {version}")
     content = path.read_bytes()
     try:
@@ -222,7 +283,14 @@ def recorded(path, version, program):
 def unreadable(program, content, line):
     """A recording that can't be read: nothing is made."""
     store, feed = program.path_of("copy.db"), program.path_of("copy.feed")
-    compare("an unreadable recording", program, ["apply", "--store", store, "--feed", feed, program.file("in.pgx", content)], 3, b"", line)
+    compare(
+        "an unreadable recording",
+        program,
+        ["apply", "--store", store, "--feed", feed, program.file("in.pgx", content)],
+        3,
+        b"",
+        line,
+    )
     if program.saved(store) or program.feed_findings(feed, {}):
         raise Difference("something was made")
 
@@ -231,4 +299,6 @@ def recordings():
     """Those of the examples."""
     for path in sorted((TOP / "examples").glob("*/*.pgx")):
         for version in (1, 2):
-            yield f"{path.parent.name}/{path.name}, version {version}", partial(recorded, path, version)
+            yield f"{path.parent.name}/{path.name}, version {version}", partial(
+                recorded, path, version
+            )

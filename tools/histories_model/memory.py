@@ -30,8 +30,9 @@ def in_pair(bodies):
 
 def in_blocks(bodies):
     """The same as a transaction that is streamed, for bodies with its xid."""
-    return frames(wire.stream_start(XID, 1), *bodies, worked.STOP,
-                  worked.stream_commit(XID, 0x100, 0x130))
+    return frames(
+        wire.stream_start(XID, 1), *bodies, worked.STOP, worked.stream_commit(XID, 0x100, 0x130)
+    )
 
 
 def truncate(oids, xid):
@@ -83,15 +84,22 @@ def opened():
 
 def aborted():
     """Transactions of which each is rolled back before the next."""
-    return b"".join(frames(wire.stream_start(xid, 1), worked.STOP, wire.stream_abort(xid, xid))
-                    for xid in range(MANY))
+    return b"".join(
+        frames(wire.stream_start(xid, 1), worked.STOP, wire.stream_abort(xid, xid))
+        for xid in range(MANY)
+    )
 
 
 def subtransactions():
     """A transaction with a row of each of many subtransactions, which is rolled back."""
     rows = (worked.insert([str(number), "a"], 100 + number) for number in range(MANY))
-    return frames(wire.stream_start(XID, 1), worked.describe(T, XID), *rows, worked.STOP,
-                  wire.stream_abort(XID, XID))
+    return frames(
+        wire.stream_start(XID, 1),
+        worked.describe(T, XID),
+        *rows,
+        worked.STOP,
+        wire.stream_abort(XID, XID),
+    )
 
 
 # for each kind of message a stream of many, and how much of memory each of its bytes may take
@@ -107,7 +115,8 @@ MESSAGES = (
     ("keepalive", lambda: wire.keepalive(5, 0, 1) * MANY, 1),
     ("Stream Start", opened, 6),
     ("Stream Abort", aborted, 0),
-    ("subtransaction", subtransactions, 3))
+    ("subtransaction", subtransactions, 3),
+)
 
 
 def bounded(made, taken, program):

@@ -1,4 +1,5 @@
-"""Planted bugs: subscribers that each do one thing wrong, to see after how many cases the difference is found.
+"""Planted bugs: subscribers that each do one thing wrong, to see after how many cases the
+difference is found.
 
 They are the model's reader with a bug, in place of the program.
 """
@@ -116,7 +117,9 @@ class NullForUnsent(Reader):
     layer = "store"
 
     def apply(self, tables, change):
-        if change.letter == b"U" and UNSENT not in (change.new if change.old is None else change.old):
+        if change.letter == b"U" and UNSENT not in (
+            change.new if change.old is None else change.old
+        ):
             new = [NULL if cell == UNSENT else cell for cell in change.new]
             change = Change(change.letter, change.definitions, change.old_kind, change.old, new)
         super().apply(tables, change)
@@ -147,7 +150,9 @@ class KeepsOldIdentities(Reader):
             if rows and was.shape != definition.shape:
                 kept = {}
                 for identity, row in rows.items():
-                    kept[identity] = next(iter(model.carry(was, definition, {identity: (row[0], 1)}).values()))
+                    kept[identity] = next(
+                        iter(model.carry(was, definition, {identity: (row[0], 1)}).values())
+                    )
                 tables[definition.oid] = (definition, kept)
         super().apply(tables, change)
 
@@ -159,7 +164,12 @@ class Overwrites(Reader):
 
     def apply(self, tables, change):
         definition = change.definitions[0] if change.definitions else None
-        if change.letter == b"I" and definition.keyed and len(change.new) == definition.width and definition.oid in tables:
+        if (
+            change.letter == b"I"
+            and definition.keyed
+            and len(change.new) == definition.width
+            and definition.oid in tables
+        ):
             tables[definition.oid][1].pop(definition.identity(change.new), None)
         super().apply(tables, change)
 
@@ -235,9 +245,26 @@ class DropsTruncatedHeader(Reader):
         return content
 
 
-PLANTED = (DropsTruncatedHeader, SwapsLsns, TakesAnySegment, TakesAnyCommit, KeepsRolledBack, CutsAtLast, KeepsSpools, SkipsRelations,
-           CachesEarly, KeepsOldIdentities, SearchesByNew, IgnoresTruncate, NullForUnsent, LosesCopy, Overwrites, AppliesTwice,
-           ConfirmsInside, EndsWell)
+PLANTED = (
+    DropsTruncatedHeader,
+    SwapsLsns,
+    TakesAnySegment,
+    TakesAnyCommit,
+    KeepsRolledBack,
+    CutsAtLast,
+    KeepsSpools,
+    SkipsRelations,
+    CachesEarly,
+    KeepsOldIdentities,
+    SearchesByNew,
+    IgnoresTruncate,
+    NullForUnsent,
+    LosesCopy,
+    Overwrites,
+    AppliesTwice,
+    ConfirmsInside,
+    EndsWell,
+)
 
 
 class Planted:
@@ -285,19 +312,33 @@ class Planted:
 
     def open_feed(self, reader, words):
         """Opens the feed that a command keeps."""
-        told = dict(it[len("--feed") :].split("=", 1) for it in words if it.startswith("--feed") and "=" in it)
-        path = told.pop("") if "" in told else words[words.index("--feed") + 1] if "--feed" in words else None
+        told = dict(
+            it[len("--feed") :].split("=", 1)
+            for it in words
+            if it.startswith("--feed") and "=" in it
+        )
+        path = (
+            told.pop("")
+            if "" in told
+            else words[words.index("--feed") + 1]
+            if "--feed" in words
+            else None
+        )
         reader.writer = None
         if path:
             numbers = {name: int(told.pop(name)) for name in [*told] if name.startswith("-segment")}
-            asked = {name[1:].replace("-", "_"): value for name, value in {**told, **numbers}.items()}
+            asked = {
+                name[1:].replace("-", "_"): value for name, value in {**told, **numbers}.items()
+            }
             folder = self.feeds.get(path) or reader.folder()
             folder.open(reader.position, feed_folder.Asked(**asked))
             self.feeds[path] = reader.writer = folder
 
     def reader_for(self, words):
         """The reader that a command begins with: over its store, if it names one."""
-        reader = (Shown if words[0] == "show" else self.reader)(1 if "1" in words or "--proto=1" in words else 2)
+        reader = (Shown if words[0] == "show" else self.reader)(
+            1 if "1" in words or "--proto=1" in words else 2
+        )
         if "--store" in words:
             store = words[words.index("--store") + 1]
             reader = self.stores[store].restarted() if store in self.stores else reader
@@ -309,7 +350,11 @@ class Planted:
         if words[0] == "dump":
             return reader
         content = self.files[name]
-        sessions = [content] if "--raw" in words else [reader.joined(chunks) for chunks in sessions_of(content)]
+        sessions = (
+            [content]
+            if "--raw" in words
+            else [reader.joined(chunks) for chunks in sessions_of(content)]
+        )
         self.open_feed(reader, words)
         return reader.follow(sessions)
 
@@ -326,7 +371,13 @@ class Planted:
     def run(self, *words, given=None):
         if words[0] == "follow":
             return self.follow(words, self.files[given])
-        recordings = words[-2:] if words[0] == "same" else words[-1:] if "--raw" not in words and words[0] != "dump" else ()
+        recordings = (
+            words[-2:]
+            if words[0] == "same"
+            else words[-1:]
+            if "--raw" not in words and words[0] != "dump"
+            else ()
+        )
         if any(len(self.files[name]) > LONGEST for name in recordings):
             return 3, b"", b"pgsub: capture too long\n"
         if words[0] == "same":

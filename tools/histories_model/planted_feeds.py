@@ -1,4 +1,5 @@
-"""Planted bugs of a feed: subscribers that store what they should, and tell or keep one thing of it wrong.
+"""Planted bugs of a feed: subscribers that store what they should, and tell or keep one thing of it
+wrong.
 
 They are the model's with a bug, in place of the program.
 """
@@ -126,7 +127,9 @@ class TellsNewAsSent(Feeding):
     def apply(self, tables, it):
         super().apply(tables, it)
         if it.letter == b"U" and self.lines[-1].op == "u":
-            self.lines[-1] = replace(self.lines[-1], after=[None if cell is UNSENT else cell for cell in row_of(it.new)])
+            self.lines[-1] = replace(
+                self.lines[-1], after=[None if cell is UNSENT else cell for cell in row_of(it.new)]
+            )
 
 
 class TellsAfterTwice(Feeding):
@@ -147,7 +150,10 @@ class TellsFirstDefinition(Feeding):
 
     def tell(self, end):
         first = {}
-        self.lines = [replace(it, definition=first.setdefault(it.definition.oid, it.definition)) for it in self.lines]
+        self.lines = [
+            replace(it, definition=first.setdefault(it.definition.oid, it.definition))
+            for it in self.lines
+        ]
         super().tell(end)
 
 
@@ -224,6 +230,24 @@ class SwapsNames(Feeding):
     layer, folder = "segments", Named
 
 
-PLANTED_FEEDS = (TellsEnd, TellsLastBlock, TellsFirstTime, TellsOwnEpoch, TellsRepeats, LosesEmpty, LosesLast, LosesMissed, LosesTruncated,
-                 TellsOldAsSent, TellsNewAsSent, TellsAfterTwice, TellsFirstDefinition, KeepsSegments, KeepsRest, EndsFull, EndsUntold,
-                 EndsLate, SwapsNames)
+PLANTED_FEEDS = (
+    TellsEnd,
+    TellsLastBlock,
+    TellsFirstTime,
+    TellsOwnEpoch,
+    TellsRepeats,
+    LosesEmpty,
+    LosesLast,
+    LosesMissed,
+    LosesTruncated,
+    TellsOldAsSent,
+    TellsNewAsSent,
+    TellsAfterTwice,
+    TellsFirstDefinition,
+    KeepsSegments,
+    KeepsRest,
+    EndsFull,
+    EndsUntold,
+    EndsLate,
+    SwapsNames,
+)

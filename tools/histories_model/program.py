@@ -52,19 +52,25 @@ class Program:
         return path
 
     def copied_alone(self, store):
-        """A copy of a store's file without its log, which a run that has ended has put into the file."""
+        """A copy of a store's file without its log, which a run that has ended has put into the
+        file."""
         alone = self.path_of("alone.db")
         if os.path.exists(store):
             shutil.copyfile(store, alone)
         return alone
 
     def store_findings(self, store, wanted):
-        """What SQLite finds wrong with a store's file, after a run that has ended, or other than is wanted."""
+        """What SQLite finds wrong with a store's file, after a run that has ended, or other than is
+        wanted."""
         return sound.findings(Path(store), wanted)
 
     def saved(self, store):
         """The files of a store after a run that has ended, by what follows its name."""
-        return {suffix: Path(store + suffix).read_bytes() for suffix in ("", LOG) if os.path.exists(store + suffix)}
+        return {
+            suffix: Path(store + suffix).read_bytes()
+            for suffix in ("", LOG)
+            if os.path.exists(store + suffix)
+        }
 
     def put_back(self, store, saved):
         """Gives a store the files that it had."""
@@ -83,13 +89,17 @@ class Program:
         return feed_folder.findings(Path(feed), wanted)
 
     def run(self, *words, given="/dev/null", memory=None):
-        """Runs it, within so much memory if that is given: the status, standard output and standard error.
+        """Runs it, within so much memory if that is given: the status, standard output and standard
+        error.
 
         A negative status is that of a signal.
         """
         create = os.O_WRONLY | os.O_CREAT | os.O_TRUNC
-        actions = [(os.POSIX_SPAWN_OPEN, 0, given, os.O_RDONLY, 0), (os.POSIX_SPAWN_OPEN, 1, self.out, create, 0o600),
-                   (os.POSIX_SPAWN_OPEN, 2, self.err, create, 0o600)]
+        actions = [
+            (os.POSIX_SPAWN_OPEN, 0, given, os.O_RDONLY, 0),
+            (os.POSIX_SPAWN_OPEN, 1, self.out, create, 0o600),
+            (os.POSIX_SPAWN_OPEN, 2, self.err, create, 0o600),
+        ]
         command, environment = [self.path, *words], self.environment
         if memory is not None:
             # (large steps would be a large part of it)
@@ -105,7 +115,9 @@ class Program:
             return "no end", b"", b""
         status = os.waitstatus_to_exitcode(ended)
         taken = used.ru_utime + used.ru_stime
-        size = os.path.getsize(given) + (os.path.getsize(words[-1]) if os.path.exists(words[-1]) else 0)
+        size = os.path.getsize(given) + (
+            os.path.getsize(words[-1]) if os.path.exists(words[-1]) else 0
+        )
         if taken > SECONDS + SECONDS_MEGABYTE * size / 1e6:
             status = f"{status} after {taken:.1f} s"
         with open(self.out, "rb") as out, open(self.err, "rb") as err:

@@ -1,4 +1,5 @@
-"""What any bytes at all lead to: sessions read frame by frame up to the first fault, as docs/PROTOCOL.md says."""
+"""What any bytes at all lead to: sessions read frame by frame up to the first fault, as
+docs/PROTOCOL.md says."""
 
 import struct
 
@@ -7,13 +8,40 @@ from .wire import Change, Column, Definition
 
 MAX_FRAME = 16777216
 MAX_BYTES = 67108864
-REASONS = {1: "UnknownMessage", 2: "Short", 3: "Trailing", 4: "BadFlag", 5: "BadLetter", 6: "NotUtf8", 7: "BadCount"}
+REASONS = {
+    1: "UnknownMessage",
+    2: "Short",
+    3: "Trailing",
+    4: "BadFlag",
+    5: "BadLetter",
+    6: "NotUtf8",
+    7: "BadCount",
+}
 TUPLE_REASONS = {1: "Short", 2: "BadKind", 3: "BadLength", 4: "NotUtf8", 5: "TooManyColumns"}
-WIRE = {1: "UnknownFrame", 2: "BadLength", 3: "TooLarge", 4: "AfterDone", 5: "UnknownServerMessage", 6: "Short",
-        7: "Trailing", 8: "BadReplyByte"}
-ORDER = {1: "OutsideTransaction", 2: "NestedBegin", 3: "CommitWithoutBegin", 4: "CommitLsnDiffers", 5: "NestedStart",
-         6: "StopWithoutStart", 7: "FirstFlagOnOpen", 8: "LaterFlagOnUnknown", 9: "CommitOfUnknown",
-         10: "StreamInVersion1", 11: "CommitMisplaced", 12: "AbortMisplaced"}
+WIRE = {
+    1: "UnknownFrame",
+    2: "BadLength",
+    3: "TooLarge",
+    4: "AfterDone",
+    5: "UnknownServerMessage",
+    6: "Short",
+    7: "Trailing",
+    8: "BadReplyByte",
+}
+ORDER = {
+    1: "OutsideTransaction",
+    2: "NestedBegin",
+    3: "CommitWithoutBegin",
+    4: "CommitLsnDiffers",
+    5: "NestedStart",
+    6: "StopWithoutStart",
+    7: "FirstFlagOnOpen",
+    8: "LaterFlagOnUnknown",
+    9: "CommitOfUnknown",
+    10: "StreamInVersion1",
+    11: "CommitMisplaced",
+    12: "AbortMisplaced",
+}
 
 
 class Fault(Exception):
@@ -78,7 +106,8 @@ class Body:
         return self.content[self.at - length : self.at]
 
     def tuple(self):
-        """TupleData. A fault names the offset in the body of the tuple's field that can't be read."""
+        """TupleData. A fault names the offset in the body of the tuple's field that can't be
+        read."""
         content, at = self.content, self.at
 
         def fault(number, field=0):
@@ -140,7 +169,9 @@ def change(letter, body):
     if letter == b"T":
         count = body.count("i")
         options = body.one_of(range(4), 4)
-        return Change(letter, list(struct.unpack(f">{count}I", body.take(4 * count))), options=options)
+        return Change(
+            letter, list(struct.unpack(f">{count}I", body.take(4 * count))), options=options
+        )
     oid = body.number("I")
     old_kind = old = new = None
     if letter == b"I":
@@ -162,7 +193,22 @@ def decode(content, in_block):
     """A message: (letter, fields ..)."""
     body = Body(content)
     letter = bytes([body.number("B")])
-    if letter not in (b"B", b"C", b"O", b"R", b"Y", b"I", b"U", b"D", b"T", b"M", b"S", b"E", b"c", b"A"):
+    if letter not in (
+        b"B",
+        b"C",
+        b"O",
+        b"R",
+        b"Y",
+        b"I",
+        b"U",
+        b"D",
+        b"T",
+        b"M",
+        b"S",
+        b"E",
+        b"c",
+        b"A",
+    ):
         raise body.fault(1, 0)
     label = body.number("I") if in_block and letter in b"RYIUDTM" else None
     if letter == b"B":
@@ -180,7 +226,13 @@ def decode(content, in_block):
     elif letter in b"IUDT":
         fields = (label, change(letter, body))
     elif letter == b"M":
-        fields = (label, body.one_of((0, 1), 4), body.number("Q"), body.string(), body.take(body.count("i")))
+        fields = (
+            label,
+            body.one_of((0, 1), 4),
+            body.number("Q"),
+            body.string(),
+            body.take(body.count("i")),
+        )
     elif letter == b"S":
         fields = (body.number("I"), body.one_of((0, 1), 4))
     elif letter == b"A":
@@ -200,7 +252,8 @@ class Reader:
         self.tables = {}
         self.position = self.confirmed = 0
         self.fault = None
-        # the OID of each change that found no row, and the end of its commit; and those of the commit that is tried
+        # the OID of each change that found no row, and the end of its commit; and those of the
+        # commit that is tried
         self.missed, self.trial_missed = [], []
         self.disconnect()
 

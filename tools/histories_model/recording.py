@@ -1,4 +1,5 @@
-"""Recordings: a line of hexadecimal digits for each chunk, cut anywhere, and `--` between sessions."""
+"""Recordings: a line of hexadecimal digits for each chunk, cut anywhere, and `--` between
+sessions."""
 
 # a recording above this is too long
 LONGEST = 67108864
@@ -12,7 +13,9 @@ def chunks(rng, content):
         return [content[at : at + 1] for at in range(len(content))]
     if luck < 0.35:
         return [content]
-    places = sorted(rng.randint(0, len(content)) for _ in range(rng.choice((1, 3, 10, len(content) // 20 + 1))))
+    places = sorted(
+        rng.randint(0, len(content)) for _ in range(rng.choice((1, 3, 10, len(content) // 20 + 1)))
+    )
     return [content[at:end] for at, end in zip([0] + places, places + [len(content)])]
 
 
@@ -52,6 +55,22 @@ def damaged_text(rng, text):
     text = bytearray(text)
     for _ in range(rng.choice((1, 1, 2, 4))):
         at = rng.randint(0, len(text))
-        text[at : at + rng.choice((0, 1, 1, 2))] = rng.choice((b"", b"0", b"00", b"\n", b"\r", b"\n--\n", b"-", b"#", b" ", b"g", b"\xff",
-                                                               b"\0", b"\n#\xff\n", b"aF"))
+        text[at : at + rng.choice((0, 1, 1, 2))] = rng.choice(
+            (
+                b"",
+                b"0",
+                b"00",
+                b"\n",
+                b"\r",
+                b"\n--\n",
+                b"-",
+                b"#",
+                b" ",
+                b"g",
+                b"\xff",
+                b"\0",
+                b"\n#\xff\n",
+                b"aF",
+            )
+        )
     return bytes(text)

@@ -37,7 +37,8 @@ def run_case(name, call, runner, keep):
 
 
 def work(made, options, folder, worker, queue):
-    """Runs a worker's share of the cases; the queue takes what differs or None of each, and at the end the worker's number."""
+    """Runs a worker's share of the cases; the queue takes what differs or None of each, and at the
+    end the worker's number."""
     signal.signal(signal.SIGTERM, signal.SIG_DFL)
     signal.signal(signal.SIGINT, signal.SIG_IGN)
     program.limit_memory()
@@ -72,7 +73,10 @@ def run_all(made, options, folder):
     began = time.monotonic()
     signal.signal(signal.SIGTERM, signal.default_int_handler)
     queue = multiprocessing.Queue()
-    workers = [multiprocessing.Process(target=work, args=(made, options, folder, worker, queue)) for worker in range(options.jobs)]
+    workers = [
+        multiprocessing.Process(target=work, args=(made, options, folder, worker, queue))
+        for worker in range(options.jobs)
+    ]
     for worker in workers:
         worker.start()
     done = differ = 0
@@ -94,7 +98,9 @@ def run_all(made, options, folder):
                 differ += 1
                 print(told, flush=True)
             if done % 5000 == 0:
-                print(f"{done} cases, {differ} differ, {time.monotonic() - began:.0f} s", flush=True)
+                print(
+                    f"{done} cases, {differ} differ, {time.monotonic() - began:.0f} s", flush=True
+                )
     except KeyboardInterrupt:
         interrupted = True
     for worker in workers:
@@ -107,9 +113,22 @@ def run_all(made, options, folder):
 def add_options(parser):
     """The options that all tools have which run cases."""
     add_program(parser)
-    parser.add_argument("--jobs", type=int, default=1, metavar="N", help="how many run at once (default: 1)")
-    parser.add_argument("--keep", default="differences", metavar="FOLDER", help="where the files of cases that differ go (default: differences)")
-    parser.add_argument("--stop-after", type=int, default=10, metavar="N", help="stop after N differences (default: 10)")
+    parser.add_argument(
+        "--jobs", type=int, default=1, metavar="N", help="how many run at once (default: 1)"
+    )
+    parser.add_argument(
+        "--keep",
+        default="differences",
+        metavar="FOLDER",
+        help="where the files of cases that differ go (default: differences)",
+    )
+    parser.add_argument(
+        "--stop-after",
+        type=int,
+        default=10,
+        metavar="N",
+        help="stop after N differences (default: 10)",
+    )
 
 
 def checked_options(parser, options, runs_program=True):
@@ -121,4 +140,6 @@ def checked_options(parser, options, runs_program=True):
 
 def work_folder():
     """A folder for the files of the cases, in memory where there is one."""
-    return tempfile.TemporaryDirectory(prefix="histories-", dir="/dev/shm" if os.path.isdir("/dev/shm") else None)
+    return tempfile.TemporaryDirectory(
+        prefix="histories-", dir="/dev/shm" if os.path.isdir("/dev/shm") else None
+    )

@@ -1,4 +1,5 @@
-"""What `show` prints of any bytes: a line for each frame, up to the first fault of frames, messages or their order."""
+"""What `show` prints of any bytes: a line for each frame, up to the first fault of frames, messages
+or their order."""
 
 import struct
 
@@ -6,9 +7,22 @@ from .reader import Reader, decode
 from .tables import cell_value, compact
 from .wire import UNSENT, lsn_text
 
-NAMES = {b"B": "Begin", b"C": "Commit", b"O": "Origin", b"R": "Relation", b"Y": "Type", b"I": "Insert", b"U": "Update",
-         b"D": "Delete", b"T": "Truncate", b"M": "Message", b"S": "StreamStart", b"E": "StreamStop", b"c": "StreamCommit",
-         b"A": "StreamAbort"}
+NAMES = {
+    b"B": "Begin",
+    b"C": "Commit",
+    b"O": "Origin",
+    b"R": "Relation",
+    b"Y": "Type",
+    b"I": "Insert",
+    b"U": "Update",
+    b"D": "Delete",
+    b"T": "Truncate",
+    b"M": "Message",
+    b"S": "StreamStart",
+    b"E": "StreamStop",
+    b"c": "StreamCommit",
+    b"A": "StreamAbort",
+}
 
 
 def cells_shown(cells):
@@ -21,7 +35,9 @@ def change_shown(change):
         return [change.options, change.definitions]
     shown = [change.definitions[0]]
     if change.letter != b"I":
-        shown.append([change.old_kind.decode(), cells_shown(change.old)] if change.old_kind else None)
+        shown.append(
+            [change.old_kind.decode(), cells_shown(change.old)] if change.old_kind else None
+        )
     if change.letter != b"D":
         shown.append(cells_shown(change.new))
     return shown
@@ -37,8 +53,18 @@ def fields_shown(letter, fields):
         return [lsn_text(fields[0]), fields[1].decode()]
     if letter == b"R":
         it = fields[1]
-        columns = [[column.flag, column.name.decode(), column.type_oid, column.modifier] for column in it.columns]
-        return [fields[0], it.oid, it.namespace.decode(), it.name.decode(), it.letter.decode(), columns]
+        columns = [
+            [column.flag, column.name.decode(), column.type_oid, column.modifier]
+            for column in it.columns
+        ]
+        return [
+            fields[0],
+            it.oid,
+            it.namespace.decode(),
+            it.name.decode(),
+            it.letter.decode(),
+            columns,
+        ]
     if letter == b"Y":
         return [*fields[:2], fields[2].decode(), fields[3].decode()]
     if letter == b"M":
@@ -67,7 +93,11 @@ class Shown(Reader):
         self.lines.append(compact(["done"]))
 
     def payload(self, payload):
-        self.head = [lsn_text(it) for it in struct.unpack(">QQ", payload[1:17])] if len(payload) >= 25 else None
+        self.head = (
+            [lsn_text(it) for it in struct.unpack(">QQ", payload[1:17])]
+            if len(payload) >= 25
+            else None
+        )
         self.clock = struct.unpack(">q", payload[17:25])[0] if self.head else None
         super().payload(payload)
 
@@ -77,7 +107,11 @@ class Shown(Reader):
     def message(self, content):
         letter, fields = decode(content, self.place == "block")
         self.step(letter, fields, len(content))
-        self.lines.append(compact(["data", *self.head, self.clock, [NAMES[letter], *fields_shown(letter, fields)]]))
+        self.lines.append(
+            compact(
+                ["data", *self.head, self.clock, [NAMES[letter], *fields_shown(letter, fields)]]
+            )
+        )
 
     def hold(self, label, it, cost):
         pass

@@ -1,6 +1,7 @@
 """The sessions that a well-formed server may send of a history, and what they lead to.
 
-A frame is (bytes, effect). The effect is None, ("commit", index of the transaction) or ("keepalive", end, quiet).
+A frame is (bytes, effect). The effect is None, ("commit", index of the transaction) or
+("keepalive", end, quiet).
 """
 
 from . import tables as model
@@ -19,8 +20,11 @@ class Session:
         self.open = set()
         self.owner = {}
         self.place = None
-        self.sent = [index for index, transaction in enumerate(history) if transaction.end > start
-                     and (has_changes(transaction) or rng.random() < 0.6)]
+        self.sent = [
+            index
+            for index, transaction in enumerate(history)
+            if transaction.end > start and (has_changes(transaction) or rng.random() < 0.6)
+        ]
         # those with changes that this session still has to complete
         self.waiting = [index for index in self.sent if has_changes(history[index])]
 
@@ -31,13 +35,18 @@ class Session:
         if rng.random() < 0.7:
             start = end = clock = 0
         else:
-            start, end, clock = self.values.number(64), self.values.number(64), self.values.signed(64)
+            start, end, clock = (
+                self.values.number(64),
+                self.values.number(64),
+                self.values.signed(64),
+            )
         self.frames.append((wire.xlog_data(start, end, clock, body), effect))
         while rng.random() < 0.06:
             self.keepalive()
 
     def keepalive(self):
-        """A keepalive whose end lies below every commit with changes that is still to be completed."""
+        """A keepalive whose end lies below every commit with changes that is still to be
+        completed."""
         rng = self.rng
         bound = self.history[self.waiting[0]].end - 1 if self.waiting else MOST_LSN
         end = rng.choice((bound, max(bound - 1, 0), rng.randint(0, bound), 0))
@@ -50,9 +59,13 @@ class Session:
         while rng.random() < 0.04:
             kind = rng.random()
             if kind < 0.3:
-                self.data(wire.origin(self.values.number(64), self.values.unicode(3).replace(b"\0", b"")))
+                self.data(
+                    wire.origin(self.values.number(64), self.values.unicode(3).replace(b"\0", b""))
+                )
             elif kind < 0.6:
-                self.data(wire.item(b"Y", wire.type_rest(self.values.number(32), b"public", b"mood"), xid))
+                self.data(
+                    wire.item(b"Y", wire.type_rest(self.values.number(32), b"public", b"mood"), xid)
+                )
             else:
                 self.message(xid)
 
@@ -69,7 +82,8 @@ class Session:
             self.described[definition.oid] = definition.rest
 
     def run(self, parts, label, out, streamed):
-        """Appends the labelled items and aborts of some parts: (subxid, letter, rest) and (None, subxid, None)."""
+        """Appends the labelled items and aborts of some parts: (subxid, letter, rest) and (None,
+        subxid, None)."""
         rng = self.rng
         for part in parts:
             if rng.random() < 0.03:
@@ -88,7 +102,8 @@ class Session:
             self.describe(self.values.definition(rng.choice(self.oids)), label, out)
 
     def gone(self, xids, out):
-        """A rolled-back part: any items under its subxids, and an abort of each after its last item."""
+        """A rolled-back part: any items under its subxids, and an abort of each after its last
+        item."""
         rng = self.rng
         unfinished = set()
         for _ in range(rng.choice((0, 1, 2, 3, 6))):
@@ -116,9 +131,19 @@ class Session:
         elif luck < 0.6:
             out.append((label, b"I", wire.Change(b"I", [definition], new=row).rest()))
         elif luck < 0.75:
-            out.append((label, b"U", wire.Change(b"U", [definition], rng.choice((None, b"K", b"O")), row, row).rest()))
+            out.append(
+                (
+                    label,
+                    b"U",
+                    wire.Change(
+                        b"U", [definition], rng.choice((None, b"K", b"O")), row, row
+                    ).rest(),
+                )
+            )
         elif luck < 0.9:
-            out.append((label, b"D", wire.Change(b"D", [definition], rng.choice((b"K", b"O")), row).rest()))
+            out.append(
+                (label, b"D", wire.Change(b"D", [definition], rng.choice((b"K", b"O")), row).rest())
+            )
         else:
             out.append((label, b"T", wire.Change(b"T", [definition] * rng.randint(0, 2)).rest()))
 
@@ -146,7 +171,8 @@ class Session:
     # the order of a session
 
     def make(self, last):
-        """Makes the frames: commits up to the one with the index `last`, and parts of later ones."""
+        """Makes the frames: commits up to the one with the index `last`, and parts of later
+        ones."""
         rng = self.rng
         self.queue = [index for index in self.sent if index <= last]
         later = [index for index in self.sent if index > last]
@@ -190,7 +216,11 @@ class Session:
     def ghost(self):
         """A transaction that isn't of the history, and is aborted."""
         rng = self.rng
-        xid = rng.choice(self.history).xid if self.history and rng.random() < 0.7 else rng.getrandbits(32)
+        xid = (
+            rng.choice(self.history).xid
+            if self.history and rng.random() < 0.7
+            else rng.getrandbits(32)
+        )
         if xid in self.open:
             return
         labelled = []
@@ -213,7 +243,8 @@ class Session:
         self.data(wire.item(b"E", b""))
 
     def unit_of(self, index):
-        """Sends the next block or abort of a streamed transaction; False where there is none left."""
+        """Sends the next block or abort of a streamed transaction; False where there is none
+        left."""
         units, _ = self.plans[index]
         if not units:
             return False
@@ -236,7 +267,9 @@ class Session:
             return False
         if self.owner.get(transaction.xid) != index:
             before = self.ahead[: self.ahead.index(index)]
-            if transaction.xid in self.open or any(self.history[other].xid == transaction.xid for other in before):
+            if transaction.xid in self.open or any(
+                self.history[other].xid == transaction.xid for other in before
+            ):
                 return False
             self.owner[transaction.xid] = index
         return self.unit_of(index)
@@ -259,7 +292,10 @@ class Session:
             if not self.unit_of(index):
                 self.open.discard(transaction.xid)
                 del self.owner[transaction.xid]
-                self.complete(index, wire.stream_commit(transaction.xid, transaction.lsn, transaction.end, time))
+                self.complete(
+                    index,
+                    wire.stream_commit(transaction.xid, transaction.lsn, transaction.end, time),
+                )
 
     def complete(self, index, body):
         self.place = None
@@ -286,9 +322,15 @@ class Delivery:
     def session(self, values, oids, is_last):
         rng, history = self.rng, self.history
         ends = [transaction.end for transaction in history if transaction.end <= self.confirmed]
-        start = rng.choice([self.confirmed, self.confirmed, 0, rng.randint(0, self.confirmed)] + ends[-3:])
+        start = rng.choice(
+            [self.confirmed, self.confirmed, 0, rng.randint(0, self.confirmed)] + ends[-3:]
+        )
         session = Session(rng, values, history, start, self.version, oids)
-        last = len(history) - 1 if rng.random() < (0.8 if is_last else 0.4) else rng.randint(-1, len(history))
+        last = (
+            len(history) - 1
+            if rng.random() < (0.8 if is_last else 0.4)
+            else rng.randint(-1, len(history))
+        )
         frames = session.make(last)
         whole, content = self.cut(frames)
         self.sessions.append(content)

@@ -1,6 +1,7 @@
 """Tables of rows, what a change does to them, and how they are printed.
 
-Tables are a dict from OID to (definition, rows), and rows a dict from encoded identity to (cells, copies).
+Tables are a dict from OID to (definition, rows), and rows a dict from encoded identity to (cells,
+copies).
 """
 
 import json
@@ -10,7 +11,14 @@ from stores.contents import Contents, Relation, Row
 from .wire import NULL, UNSENT, lsn_text, tuple_data
 
 MOST_COPIES = 2147483647
-NAMES = {1: "Clash", 2: "NoIdentity", 3: "UnknownIdentity", 4: "UnchangedInInsert", 5: "Width", 7: "TooManyCopies"}
+NAMES = {
+    1: "Clash",
+    2: "NoIdentity",
+    3: "UnknownIdentity",
+    4: "UnchangedInInsert",
+    5: "Width",
+    7: "TooManyCopies",
+}
 CLASH, NO_IDENTITY, UNKNOWN_IDENTITY, UNCHANGED_IN_INSERT, WIDTH, TOO_MANY = 1, 2, 3, 4, 5, 7
 
 
@@ -48,7 +56,8 @@ def carry(was, definition, rows):
 
 
 def rows_under(tables, definition):
-    """The rows of a table as a change with this definition finds them: the stored dict itself where the shape is the same."""
+    """The rows of a table as a change with this definition finds them: the stored dict itself where
+    the shape is the same."""
     if definition.oid not in tables:
         return {}
     was, rows = tables[definition.oid]
@@ -69,7 +78,8 @@ def searched_identity(change, definition):
 
 
 def add(definition, rows, cells, without=None):
-    """Adds a row, and removes one copy of the row whose identity is `without` first. Rows stay as they are at a fault."""
+    """Adds a row, and removes one copy of the row whose identity is `without` first. Rows stay as
+    they are at a fault."""
     identity = definition.identity(cells)
     copies = rows[identity][1] if identity in rows else 0
     if identity == without:
@@ -97,7 +107,8 @@ def resolve(new, found):
 
 
 def apply_change(tables, change):
-    """Applies one change, and returns whether it found the row that it looked for. At a fault the tables are unchanged."""
+    """Applies one change, and returns whether it found the row that it looked for. At a fault the
+    tables are unchanged."""
     if change.letter == b"T":
         for definition in change.definitions:
             tables[definition.oid] = (definition, {})
@@ -131,7 +142,12 @@ def contents(tables, position):
     """What a store's file holds of these tables."""
     held = Contents(position=position)
     for oid, (definition, rows) in tables.items():
-        held.relations[oid] = Relation(definition.namespace.decode(), definition.name.decode(), definition.letter[0], definition.columns_rest)
+        held.relations[oid] = Relation(
+            definition.namespace.decode(),
+            definition.name.decode(),
+            definition.letter[0],
+            definition.columns_rest,
+        )
         for identity, (cells, copies) in rows.items():
             held.rows[oid, identity] = Row(tuple_data(cells), copies)
     return held

@@ -1,7 +1,8 @@
 """The bytes of frames, messages and tuples.
 
-A cell is its encoding: b"n", b"u", or b"t" or b"b" with a length and the bytes. An item is its letter and the bytes that
-follow the letter outside a block; inside one the xid comes between the two.
+A cell is its encoding: b"n", b"u", or b"t" or b"b" with a length and the bytes. An item is its
+letter and the bytes that follow the letter outside a block; inside one the xid comes between the
+two.
 """
 
 import struct
@@ -33,7 +34,19 @@ class Column:
 class Definition:
     """What a Relation message says of a table."""
 
-    __slots__ = ("oid", "namespace", "name", "letter", "columns", "width", "key", "keyed", "shape", "columns_rest", "rest")
+    __slots__ = (
+        "oid",
+        "namespace",
+        "name",
+        "letter",
+        "columns",
+        "width",
+        "key",
+        "keyed",
+        "shape",
+        "columns_rest",
+        "rest",
+    )
 
     def __init__(self, oid, namespace, name, letter, columns):
         self.oid, self.namespace, self.name, self.letter = oid, namespace, name, letter
@@ -44,9 +57,16 @@ class Definition:
         self.shape = (letter, tuple((column.flag, column.name) for column in self.columns))
         parts = [struct.pack(">H", self.width)]
         for column in self.columns:
-            parts += bytes([column.flag]), column.name, b"\0", struct.pack(">Ii", column.type_oid, column.modifier)
+            parts += (
+                bytes([column.flag]),
+                column.name,
+                b"\0",
+                struct.pack(">Ii", column.type_oid, column.modifier),
+            )
         self.columns_rest = b"".join(parts)
-        self.rest = struct.pack(">I", oid) + namespace + b"\0" + name + b"\0" + letter + self.columns_rest
+        self.rest = (
+            struct.pack(">I", oid) + namespace + b"\0" + name + b"\0" + letter + self.columns_rest
+        )
 
     def identity(self, cells):
         """The encoded identity of a row."""
@@ -66,7 +86,9 @@ class Change:
         """The bytes of the message that follow its letter, outside a block."""
         if self.letter == b"T":
             head = struct.pack(">IB", len(self.definitions), self.options)
-            return head + b"".join(struct.pack(">I", definition.oid) for definition in self.definitions)
+            return head + b"".join(
+                struct.pack(">I", definition.oid) for definition in self.definitions
+            )
         parts = [struct.pack(">I", self.definitions[0].oid)]
         if self.old_kind:
             parts += self.old_kind, tuple_data(self.old)
@@ -108,7 +130,9 @@ def type_rest(oid, namespace, name):
 
 
 def message_rest(flags, lsn, prefix, content):
-    return struct.pack(">BQ", flags, lsn) + prefix + b"\0" + struct.pack(">I", len(content)) + content
+    return (
+        struct.pack(">BQ", flags, lsn) + prefix + b"\0" + struct.pack(">I", len(content)) + content
+    )
 
 
 def xlog_data(start, end, clock, body):

@@ -1,4 +1,5 @@
-"""Histories that the program and SQL text write in turns: each goes on with the file that the other has left."""
+"""Histories that the program and SQL text write in turns: each goes on with the file that the other
+has left."""
 
 import random
 from pathlib import Path
@@ -18,7 +19,11 @@ class ManyValues(Values):
     """Keys of hundreds of rows, and more cells that are longer than the page of a file."""
 
     def key_cell(self):
-        return text(b"%d" % self.rng.randint(0, 500)) if self.rng.random() < 0.9 else super().key_cell()
+        return (
+            text(b"%d" % self.rng.randint(0, 500))
+            if self.rng.random() < 0.9
+            else super().key_cell()
+        )
 
     def cell(self):
         if self.rng.random() < 0.95:
@@ -41,7 +46,9 @@ class LargeMaker(Maker):
         return self.rng.choice(((1, 30), (50, 150), (100, 300)))
 
     def transaction(self, lsn, end, bad):
-        self.few, self.deletes_from = self.rng.choice(((400, 0.95), (400, 0.95), (100, 0.85), (0, 0.4)))
+        self.few, self.deletes_from = self.rng.choice(
+            ((400, 0.95), (400, 0.95), (100, 0.85), (0, 0.4))
+        )
         return super().transaction(lsn, end, bad)
 
 
@@ -70,9 +77,20 @@ class Turns:
 
     def apply(self, content):
         read = self.read.follow([content])
-        status, rows, line = int(read.fault is not None), model.dump(read.tables, read.position), stop_line(read.fault)
+        status, rows, line = (
+            int(read.fault is not None),
+            model.dump(read.tables, read.position),
+            stop_line(read.fault),
+        )
         file = self.program.file(f"session.{self.number}.raw", content)
-        compare("applied after SQL text", self.program, ["apply", *self.words(), "--raw", file], status, rows, line)
+        compare(
+            "applied after SQL text",
+            self.program,
+            ["apply", *self.words(), "--raw", file],
+            status,
+            rows,
+            line,
+        )
 
     def follow(self, content):
         followed = Followed(self.read).follow(content)
@@ -83,7 +101,8 @@ class Turns:
         return [*self.store_words(), *version_words(self.rng, self.version)]
 
     def store_words(self):
-        """The store, and how many of its pages stay in memory: few, since those of a file that SQL text has made may be large."""
+        """The store, and how many of its pages stay in memory: few, since those of a file that SQL
+        text has made may be large."""
         return ["--store", self.store, "--cache", self.rng.choice(("100", "100", "1000"))]
 
     def write(self, before):
@@ -101,11 +120,14 @@ class Turns:
 
     def compare_dump(self):
         rows = model.dump(self.read.tables, self.read.position)
-        compare("the rows after SQL text", self.program, ["dump", *self.store_words()], 0, rows, b"")
+        compare(
+            "the rows after SQL text", self.program, ["dump", *self.store_words()], 0, rows, b""
+        )
 
 
 def sessions_of(rng, maker, history, version, turns):
-    """Makes the next session that a server sends of a history: it begins at the position or before, and mostly ends a little further on."""
+    """Makes the next session that a server sends of a history: it begins at the position or before,
+    and mostly ends a little further on."""
     while not turns.read.fault and turns.number < 12:
         position = turns.read.position
         done = sum(transaction.end <= position for transaction in history)
@@ -119,7 +141,8 @@ def sessions_of(rng, maker, history, version, turns):
 
 
 def in_turns(rng, maker, program, page_size=None):
-    """A history in turns; the file is the program's, or where there is a size for its pages SQL text makes it."""
+    """A history in turns; the file is the program's, or where there is a size for its pages SQL
+    text makes it."""
     version = rng.choice((1, 2, 2))
     history = maker.history()
     turns = Turns(rng, program, version)

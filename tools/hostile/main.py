@@ -15,7 +15,6 @@ from collections.abc import Callable, Iterable
 from pathlib import Path
 
 import psycopg
-
 from built import TOP, add_program, check_program
 from live_server import installed
 from live_server.cluster import Cluster
@@ -134,7 +133,13 @@ def parser_of() -> argparse.ArgumentParser:
         help="whom it runs as where this runs as root (default: postgres)",
     )
     cores = len(os.sched_getaffinity(0))
-    add("--workers", type=int, default=cores, metavar="N", help="how many run at once (default: one for each processor)")
+    add(
+        "--workers",
+        type=int,
+        default=cores,
+        metavar="N",
+        help="how many run at once (default: one for each processor)",
+    )
     add(
         "--patience",
         type=float,

@@ -9,7 +9,6 @@ from collections.abc import Callable
 from pathlib import Path
 
 import psycopg
-
 from live_server.child import Child
 from live_server.follower import wait_until
 

@@ -18,7 +18,8 @@ class Checks:
         self.passed = self.failed = 0
 
     def run(self, name: str, call: Callable[[], str | None]) -> bool:
-        """Runs a check, which may return what else there is to say of it. Returns whether it passed."""
+        """Runs a check, which may return what else there is to say of it. Returns whether it
+        passed."""
         began = time.monotonic()
         try:
             said = call()
@@ -27,7 +28,9 @@ class Checks:
         except Exception:  # noqa: BLE001
             return self.fail(name, traceback.format_exc())
         self.passed += 1
-        print(f"ok {name}{f': {said}' if said else ''} ({time.monotonic() - began:.1f} s)", flush=True)
+        print(
+            f"ok {name}{f': {said}' if said else ''} ({time.monotonic() - began:.1f} s)", flush=True
+        )
         return True
 
     def fail(self, name: str, why: str) -> bool:

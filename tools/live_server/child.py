@@ -17,11 +17,17 @@ from .patience import Patience
 class Child:
     """The process. What it says goes to a file, so that it never waits for a reader."""
 
-    def __init__(self, words: Sequence[str], log: Path, environment: Mapping[str, str] = {}) -> None:
+    def __init__(
+        self, words: Sequence[str], log: Path, environment: Mapping[str, str] = {}
+    ) -> None:
         self.log, self.began = log, log.stat().st_size if log.exists() else 0
         with open(log, "ab") as out:
             self.process = subprocess.Popen(
-                words, stdin=subprocess.DEVNULL, stdout=out, stderr=out, env={**os.environ, **environment}
+                words,
+                stdin=subprocess.DEVNULL,
+                stdout=out,
+                stderr=out,
+                env={**os.environ, **environment},
             )
 
     def said(self) -> str:
@@ -40,7 +46,9 @@ class Child:
     def wait_for(self, text: str, seconds: float = 60) -> None:
         """Waits until it has said something."""
         try:
-            wait_until(lambda: text in self.said(), f"saying {text!r}", seconds, self.check_or(text))
+            wait_until(
+                lambda: text in self.said(), f"saying {text!r}", seconds, self.check_or(text)
+            )
         except Failed as error:
             raise Failed(f"{error}; it said {self.said()}") from None
 
@@ -70,7 +78,9 @@ class Child:
         self.signal(number)
         ended = self.end()
         if ended != status:
-            raise Failed(f"it ended with status {ended} in place of {status} after signal {number}: {self.said()}")
+            raise Failed(
+                f"it ended with status {ended} in place of {status} after signal {number}: {self.said()}"
+            )
         if (took := time.monotonic() - began) > within * Patience.factor:
             raise Failed(f"it ended {took:.1f} seconds after the signal")
         return self.said()

@@ -1,4 +1,5 @@
-"""A PostgreSQL server of its own in a folder, on a unix socket that only its account and root can reach."""
+"""A PostgreSQL server of its own in a folder, on a unix socket that only its account and root can
+reach."""
 
 from __future__ import annotations
 
@@ -14,8 +15,8 @@ from pathlib import Path
 import psycopg
 
 from .errors import Unusable
-from .patience import Patience
 from .installed import Installation
+from .patience import Patience
 from .sessions import Session
 
 SETTINGS = {
@@ -38,24 +39,40 @@ class Cluster:
     """The server. A server doesn't run as root: then it runs as the account of its installation."""
 
     def __init__(
-        self, installed: Installation, folder: Path, settings: Mapping[str, str] = {}, encoding: str = "UTF8",
+        self,
+        installed: Installation,
+        folder: Path,
+        settings: Mapping[str, str] = {},
+        encoding: str = "UTF8",
         files: Path | None = None,
     ) -> None:
         """Makes a new one, or one of another server's files."""
         self.installed, self.port = installed, 5432
         self.folder = Path(tempfile.mkdtemp(prefix="server-", dir=installed.work_folder(folder)))
         self.data, self.log = self.folder / "data", self.folder / "log"
-        self.user = installed.account.name if installed.account else pwd.getpwuid(os.getuid()).pw_name
+        self.user = (
+            installed.account.name if installed.account else pwd.getpwuid(os.getuid()).pw_name
+        )
         if installed.account:
             os.chown(self.folder, installed.account.uid, installed.account.gid)
         if files is None:
             self.prepare({**SETTINGS, **settings}, encoding)
         else:
             subprocess.run(["cp", "-a", files, self.data], check=True)
-            self.configure({"unix_socket_directories": self.installed.inside(self.folder), **settings})
+            self.configure(
+                {"unix_socket_directories": self.installed.inside(self.folder), **settings}
+            )
 
     def prepare(self, settings: Mapping[str, str], encoding: str) -> None:
-        words = ["-A", "trust", "-U", self.user, "-E", encoding, "--locale=C" if encoding != "UTF8" else "--locale=C.UTF-8"]
+        words = [
+            "-A",
+            "trust",
+            "-U",
+            self.user,
+            "-E",
+            encoding,
+            "--locale=C" if encoding != "UTF8" else "--locale=C.UTF-8",
+        ]
         self.call("initdb", "-D", self.installed.inside(self.data), *words, "--no-sync")
         self.configure({"unix_socket_directories": self.installed.inside(self.folder), **settings})
         if self.installed.root != Path("/"):

@@ -10,22 +10,45 @@ from .follower import wait_until
 
 
 class Standby(Cluster):
-    """A standby of a server that runs. It has a slot of its own there, so that it may be off for a while."""
+    """A standby of a server that runs. It has a slot of its own there, so that it may be off for a
+    while."""
 
-    def __init__(self, primary: Cluster, folder: Path, settings: Mapping[str, str] = {}, slot: str = "standby") -> None:
+    def __init__(
+        self,
+        primary: Cluster,
+        folder: Path,
+        settings: Mapping[str, str] = {},
+        slot: str = "standby",
+    ) -> None:
         self.primary, self.slot = primary, slot
         super().__init__(primary.installed, folder, settings)
 
     def prepare(self, settings: Mapping[str, str], encoding: str) -> None:
         """Copies the primary's files. The encoding is the primary's, too."""
         source, inside = self.primary, self.installed.inside
-        source.run(f"SELECT pg_create_physical_replication_slot('{self.slot}', true)", database="postgres")
-        words = ["-h", inside(source.folder), "-p", str(source.port), "-U", source.user, "--checkpoint=fast", "--no-sync"]
+        source.run(
+            f"SELECT pg_create_physical_replication_slot('{self.slot}', true)", database="postgres"
+        )
+        words = [
+            "-h",
+            inside(source.folder),
+            "-p",
+            str(source.port),
+            "-U",
+            source.user,
+            "--checkpoint=fast",
+            "--no-sync",
+        ]
         self.call("pg_basebackup", "-D", inside(self.data), *words)
-        self.configure({
-            "unix_socket_directories": inside(self.folder), "hot_standby_feedback": "on", "primary_slot_name": self.slot,
-            "primary_conninfo": f"host={inside(source.folder)} port={source.port} user={source.user} dbname=postgres", **settings,
-        })
+        self.configure(
+            {
+                "unix_socket_directories": inside(self.folder),
+                "hot_standby_feedback": "on",
+                "primary_slot_name": self.slot,
+                "primary_conninfo": f"host={inside(source.folder)} port={source.port} user={source.user} dbname=postgres",
+                **settings,
+            }
+        )
         (self.data / "standby.signal").touch()
 
     def log_end(self) -> str:

@@ -1,4 +1,5 @@
-"""Engines that sinks write to: a Redis and a NATS server of a test's own, on a free port of this machine, and what they have."""
+"""Engines that sinks write to: a Redis and a NATS server of a test's own, on a free port of this
+machine, and what they have."""
 
 from __future__ import annotations
 
@@ -50,13 +51,17 @@ class Engine(abc.ABC):
 
     def start(self) -> None:
         with open(self.folder / "said", "ab") as said:
-            self.process = subprocess.Popen(self.words(), stdout=said, stderr=said, stdin=subprocess.DEVNULL, cwd=self.folder)
+            self.process = subprocess.Popen(
+                self.words(), stdout=said, stderr=said, stdin=subprocess.DEVNULL, cwd=self.folder
+            )
         self.wait()
 
     def wait(self) -> None:
         end = time.monotonic() + PATIENCE * Patience.factor
         while time.monotonic() < end:
-            with contextlib.suppress(OSError), socket.create_connection(("127.0.0.1", self.port), 1):
+            with contextlib.suppress(OSError), socket.create_connection(
+                ("127.0.0.1", self.port), 1
+            ):
                 return
             time.sleep(0.02)
         raise Failed(f"{self.program} didn't start: {(self.folder / 'said').read_text()}")
@@ -74,7 +79,8 @@ class Engine(abc.ABC):
 
 
 class RedisServer(Engine):
-    """It keeps a log of its commands, which it syncs each second, as it does when it isn't told otherwise; or copies of all."""
+    """It keeps a log of its commands, which it syncs each second, as it does when it isn't told
+    otherwise; or copies of all."""
 
     program, package = "redis-server", "redis-server"
 
@@ -83,7 +89,16 @@ class RedisServer(Engine):
         self.more = more or ("--appendonly", "yes")
 
     def words(self) -> list[str]:
-        return ["redis-server", "--port", str(self.port), "--bind", "127.0.0.1", "--dir", str(self.folder), *self.more]
+        return [
+            "redis-server",
+            "--port",
+            str(self.port),
+            "--bind",
+            "127.0.0.1",
+            "--dir",
+            str(self.folder),
+            *self.more,
+        ]
 
     def url(self) -> str:
         return f"redis://127.0.0.1:{self.port}/0"
@@ -112,7 +127,11 @@ class RedisServer(Engine):
     def hashes(self) -> dict[str, dict[str, str]]:
         """All rows by their keys."""
         client = self.client()
-        return {key: client.hgetall(key) for key in client.scan_iter(count=1000) if not key.startswith("pgsub:")}
+        return {
+            key: client.hgetall(key)
+            for key in client.scan_iter(count=1000)
+            if not key.startswith("pgsub:")
+        }
 
     def entries(self) -> dict[str, list[tuple[str, dict[str, str]]]]:
         """The entries of each stream."""
@@ -167,7 +186,9 @@ class NatsServer(Engine):
             for sequence in range(max(first, state["first_seq"]), state["last_seq"] + 1):
                 it = asker.ask(f"STREAM.MSG.GET.{stream}", {"seq": sequence})["message"]
                 headers = base64.b64decode(it["hdrs"]).decode().split("\r\n")
-                ids = [line.partition(": ")[2] for line in headers if line.startswith("Nats-Msg-Id:")]
+                ids = [
+                    line.partition(": ")[2] for line in headers if line.startswith("Nats-Msg-Id:")
+                ]
                 yield it["subject"], ids[0], json.loads(base64.b64decode(it["data"]))
 
 
@@ -183,7 +204,9 @@ class Asker:
 
     def ask(self, what: str, body: dict[str, Any]) -> dict[str, Any]:
         payload = json.dumps(body).encode()
-        self.socket.sendall(f"PUB $JS.API.{what} answers {len(payload)}\r\n".encode() + payload + b"\r\n")
+        self.socket.sendall(
+            f"PUB $JS.API.{what} answers {len(payload)}\r\n".encode() + payload + b"\r\n"
+        )
         while line := self.file.readline():
             if line.startswith(b"PING"):
                 self.socket.sendall(b"PONG\r\n")

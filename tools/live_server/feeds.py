@@ -1,7 +1,8 @@
-"""The feed of a follower, and the tables that follow it, compared with the publisher. Nothing of the connector is used.
+"""The feed of a follower, and the tables that follow it, compared with the publisher. Nothing of
+the connector is used.
 
-What triggers on the publisher log of each change, as OLD and NEW, is published too: so each commit of the feed has the rows before and
-after by the program, and by the publisher.
+What triggers on the publisher log of each change, as OLD and NEW, is published too: so each commit
+of the feed has the rows before and after by the program, and by the publisher.
 """
 
 from __future__ import annotations
@@ -32,15 +33,28 @@ def number(text: str) -> Value:
     return text if text in FLOATS else float(text)
 
 
-# By the name of a type that of a column in a table of SQLite, and what that has of a value which is printed so; any other is its text.
+# By the name of a type that of a column in a table of SQLite, and what that has of a value which is
+# printed so; any other is its text.
 HAS: Dict[str, Tuple[str, Callable[[str], Value]]] = {
-    "smallint": ("INTEGER", int), "integer": ("INTEGER", int), "bigint": ("INTEGER", int),
-    "boolean": ("INTEGER", lambda it: int(it == "t")), "bytea": ("BLOB", lambda it: bytes.fromhex(it[2:])),
-    "real": ("ANY", number), "double precision": ("ANY", number),
+    "smallint": ("INTEGER", int),
+    "integer": ("INTEGER", int),
+    "bigint": ("INTEGER", int),
+    "boolean": ("INTEGER", lambda it: int(it == "t")),
+    "bytea": ("BLOB", lambda it: bytes.fromhex(it[2:])),
+    "real": ("ANY", number),
+    "double precision": ("ANY", number),
 }
 TEXT: Tuple[str, Callable[[str], Value]] = ("TEXT", str)
 # The OIDs of these types.
-OIDS = {"smallint": 21, "integer": 23, "bigint": 20, "boolean": 16, "bytea": 17, "real": 700, "double precision": 701}
+OIDS = {
+    "smallint": 21,
+    "integer": 23,
+    "bigint": 20,
+    "boolean": 16,
+    "bytea": 17,
+    "real": 700,
+    "double precision": 701,
+}
 BY_OID = {oid: HAS[name] for name, oid in OIDS.items()}
 LOGGED = "CREATE TABLE logged (id bigserial PRIMARY KEY, tab text, op text, old text[], new text[])"
 LETTERS = {"INSERT": "c", "UPDATE": "u", "DELETE": "d"}
@@ -61,7 +75,9 @@ def log_changes(cluster: Cluster, *tables: str) -> None:
     """Has triggers log each change of these tables."""
     with cluster.connect() as session:
         session.run(LOGGED)
-        settings = " ".join(f"SET {name} = '{value}'" for name, value in SETTINGS.items() if name != "search_path")
+        settings = " ".join(
+            f"SET {name} = '{value}'" for name, value in SETTINGS.items() if name != "search_path"
+        )
         for number, table in enumerate(tables):
             old, new = (listed(session, table, it) for it in ("OLD", "NEW"))
             session.run(
@@ -74,9 +90,12 @@ def log_changes(cluster: Cluster, *tables: str) -> None:
 
 
 def listed(session: Session, table: str, row: str) -> str:
-    """The values of a row as their types print them (which for some isn't what a cast to text gives)."""
+    """The values of a row as their types print them (which for some isn't what a cast to text
+    gives)."""
     cells = [f"{row}.{quoted(name)}" for name, _ in columns_of(session, table)]
-    return ", ".join(f"CASE WHEN {it} IS DISTINCT FROM NULL THEN format('%s', {it}) END" for it in cells)
+    return ", ".join(
+        f"CASE WHEN {it} IS DISTINCT FROM NULL THEN format('%s', {it}) END" for it in cells
+    )
 
 
 def read_array(text: str | None) -> list[str | None] | None:
@@ -119,8 +138,13 @@ class Images:
         for table in self.tables:
             ours, theirs = ([it for it in some if it[0] == table] for some in (changes, logged))
             if ours != theirs:
-                first = next((pair for pair in zip(ours, theirs) if pair[0] != pair[1]), (len(ours), len(theirs)))
-                raise Failed(f"commit {end}, table {table}: the feed has {str(first[0])[:600]}, and the trigger {str(first[1])[:600]}")
+                first = next(
+                    (pair for pair in zip(ours, theirs) if pair[0] != pair[1]),
+                    (len(ours), len(theirs)),
+                )
+                raise Failed(
+                    f"commit {end}, table {table}: the feed has {str(first[0])[:600]}, and the trigger {str(first[1])[:600]}"
+                )
             self.count += len(ours)
 
 
@@ -128,22 +152,32 @@ def segments(feed: Path) -> list[Path]:
     return sorted(it for it in feed.iterdir() if len(it.name) == 16)
 
 
-def base_of(cluster: Cluster, program: Path, snapshot: Path, *publications: str, database: str = "shop") -> Replay:
+def base_of(
+    cluster: Cluster, program: Path, snapshot: Path, *publications: str, database: str = "shop"
+) -> Replay:
     """The rows of a copy of the store, from which a feed is replayed."""
     rows, position = rows_of_store(program, snapshot)
     state = Replay(lsn_of(position))
     with cluster.connect(database) as session:
         for schema, table, _ in list(published(session, publications)):
             name = f"{quoted(schema)}.{quoted(table)}"
-            oid = int(session.value(f"SELECT '{name.replace(chr(39), chr(39) * 2)}'::regclass::oid"))
-            columns = [[it, OIDS.get(kind, 0), -1] for it, kind in columns_of(session, name.replace("'", "''"))]
+            oid = int(
+                session.value(f"SELECT '{name.replace(chr(39), chr(39) * 2)}'::regclass::oid")
+            )
+            columns = [
+                [it, OIDS.get(kind, 0), -1]
+                for it, kind in columns_of(session, name.replace("'", "''"))
+            ]
             definition = {"oid": oid, "schema": schema, "table": table, "columns": columns}
             state.begin(definition, collections.Counter(rows.get((schema, table), {})))
     return state
 
 
-def rows_of_feed(feed: Path, state: Replay | None = None, look: Callable[[Replay], None] = lambda _: None) -> tuple[Rows, Replay]:
-    """The rows to which a feed leads, from its beginning or a base. Fails where a change found no row. `look` is called at each commit."""
+def rows_of_feed(
+    feed: Path, state: Replay | None = None, look: Callable[[Replay], None] = lambda _: None
+) -> tuple[Rows, Replay]:
+    """The rows to which a feed leads, from its beginning or a base. Fails where a change found no
+    row. `look` is called at each commit."""
     state = state or Replay(int(segments(feed)[0].name, 16))
     look(state)
     for path in segments(feed):
@@ -161,7 +195,8 @@ def rows_of_feed(feed: Path, state: Replay | None = None, look: Callable[[Replay
 
 
 def check_images(feed: Path, *tables: str, above: int = 0) -> int:
-    """Compares all images of a feed, of the commits that end above an LSN. Returns how many changes that were."""
+    """Compares all images of a feed, of the commits that end above an LSN. Returns how many changes
+    that were."""
     images = Images(*tables)
     for path in segments(feed):
         for commit, body in commits(path):
@@ -173,13 +208,16 @@ def check_images(feed: Path, *tables: str, above: int = 0) -> int:
 @contextlib.contextmanager
 def reading(path: Path) -> Iterator[sqlite3.Connection]:
     """A file of tables, in one transaction."""
-    with contextlib.closing(sqlite3.connect(f"file:{path}?mode=ro", uri=True, timeout=30, isolation_level=None)) as base:
+    with contextlib.closing(
+        sqlite3.connect(f"file:{path}?mode=ro", uri=True, timeout=30, isolation_level=None)
+    ) as base:
         base.execute("BEGIN")
         yield base
 
 
 class Held(NamedTuple):
-    """What a table has: the types of its columns, and how often it has each row, told so that 1, 1.0 and true are others, and -0 is."""
+    """What a table has: the types of its columns, and how often it has each row, told so that 1,
+    1.0 and true are others, and -0 is."""
 
     kinds: Tuple[str, ...]
     rows: "collections.Counter[str]"
@@ -199,7 +237,9 @@ def tables_of_file(path: Path) -> tuple[Tables, str]:
     with reading(path) as base:
         (lsn,) = base.execute("SELECT lsn FROM pgsub_position").fetchone()
         for name, schema, table, _ in base.execute("SELECT * FROM pgsub_tables").fetchall():
-            kinds = [kind for (kind,) in base.execute("SELECT type FROM pragma_table_info(?)", (name,))]
+            kinds = [
+                kind for (kind,) in base.execute("SELECT type FROM pragma_table_info(?)", (name,))
+            ]
             it = held(kinds, base.execute(f"SELECT * FROM {quoted(name)}"))
             if it.rows:
                 found[schema, table] = it
@@ -213,7 +253,9 @@ def tables_of_session(session: Session, *publications: str) -> Tables:
         name = f"{quoted(schema)}.{quoted(table)}".replace("'", "''")
         kinds = [HAS.get(kind, TEXT) for _, kind in columns_of(session, name)]
         reads = [read for _, read in kinds]
-        it = held((kind for kind, _ in kinds), (valued(reads, row) for row in session.copied(query)))
+        it = held(
+            (kind for kind, _ in kinds), (valued(reads, row) for row in session.copied(query))
+        )
         if it.rows:
             found[schema, table] = it
     return found
@@ -241,19 +283,28 @@ def compare_file(path: Path, theirs: Tables) -> int:
     for table in sorted({*ours, *theirs}):
         here, there = ours.get(table, none), theirs.get(table, none)
         if here.rows != there.rows:
-            lacks, has = list((there.rows - here.rows).items())[:3], list((here.rows - there.rows).items())[:3]
-            raise Failed(f"{path} at {lsn}, {'.'.join(table)}: it lacks {str(lacks)[:600]}, and has {str(has)[:600]} instead")
+            lacks, has = (
+                list((there.rows - here.rows).items())[:3],
+                list((here.rows - there.rows).items())[:3],
+            )
+            raise Failed(
+                f"{path} at {lsn}, {'.'.join(table)}: it lacks {str(lacks)[:600]}, and has {str(has)[:600]} instead"
+            )
         if here.kinds != there.kinds:
-            raise Failed(f"{path} at {lsn}, {'.'.join(table)}: columns of the types {here.kinds} in place of {there.kinds}")
+            raise Failed(
+                f"{path} at {lsn}, {'.'.join(table)}: columns of the types {here.kinds} in place of {there.kinds}"
+            )
     return sum(sum(it.rows.values()) for it in ours.values())
 
 
 def compare_tables(cluster: Cluster, path: Path, *publications: str, database: str = "shop") -> int:
-    """Fails where the tables of a file don't have the server's rows. Returns how many rows there are."""
+    """Fails where the tables of a file don't have the server's rows. Returns how many rows there
+    are."""
     return compare_file(path, tables_of_server(cluster, *publications, database=database))
 
 
-# By schema and name of a table that has rows, a number for these, which is another one for other rows.
+# By schema and name of a table that has rows, a number for these, which is another one for other
+# rows.
 Digests = Dict[Tuple[str, str], int]
 
 
@@ -287,7 +338,8 @@ def digests_of_replay(state: Replay) -> Digests:
 
 
 class Reader(threading.Thread):
-    """Reads a file of tables again and again while it is written, and keeps which rows it had at which LSN."""
+    """Reads a file of tables again and again while it is written, and keeps which rows it had at
+    which LSN."""
 
     def __init__(self, path: Path) -> None:
         super().__init__(daemon=True)
@@ -317,7 +369,9 @@ class Reader(threading.Thread):
         found = self.seen.get(state.at)
         if found is not None and found != (wanted := digests_of_replay(state)):
             names = [".".join(it) for it in {*found, *wanted} if found.get(it) != wanted.get(it)]
-            raise Failed(f"at {state.at:X} a reader saw other rows of {', '.join(sorted(names))} than the feed leads to")
+            raise Failed(
+                f"at {state.at:X} a reader saw other rows of {', '.join(sorted(names))} than the feed leads to"
+            )
 
     def finish(self) -> None:
         self.ended.set()

@@ -19,7 +19,8 @@ from .cluster import Cluster
 from .errors import Failed
 from .patience import Patience
 
-# The statuses after which a supervisor starts the connector again: something is in the way only for now.
+# The statuses after which a supervisor starts the connector again: something is in the way only for
+# now.
 AGAIN = (7,)
 
 
@@ -34,24 +35,31 @@ def nothing() -> None:
 def has_ended(pid: int) -> bool:
     """Whether a process has ended, whoever is still to learn of that."""
     try:
-        return Path(f"/proc/{pid}/stat").read_text(encoding="utf-8").rpartition(")")[2].split()[0] in "ZX"
+        return (
+            Path(f"/proc/{pid}/stat").read_text(encoding="utf-8").rpartition(")")[2].split()[0]
+            in "ZX"
+        )
     except (FileNotFoundError, ProcessLookupError):
         return True
 
 
 def children_of(pid: int, word: str) -> list[int]:
-    """The children that were started with a word. (Those of any thread: the file of one has its own alone.)"""
+    """The children that were started with a word. (Those of any thread: the file of one has its own
+    alone.)"""
     found = []
     with contextlib.suppress(FileNotFoundError, ProcessLookupError):
         for thread in os.listdir(f"/proc/{pid}/task"):
-            for child in Path(f"/proc/{pid}/task/{thread}/children").read_text(encoding="ascii").split():
+            for child in (
+                Path(f"/proc/{pid}/task/{thread}/children").read_text(encoding="ascii").split()
+            ):
                 if f"\0{word}\0".encode() in Path(f"/proc/{child}/cmdline").read_bytes():
                     found.append(int(child))
     return found
 
 
 def filters_of(pid: int) -> list[int]:
-    """The filters that a connector runs. While it starts, it has other children, which look for libpq."""
+    """The filters that a connector runs. While it starts, it has other children, which look for
+    libpq."""
     return children_of(pid, "follow")
 
 
@@ -89,7 +97,9 @@ class Supervisor(threading.Thread):
         while not self.ended.is_set() and not self.failure:
             with self.looking, open(self.log, "ab") as log:
                 self.killed = False
-                self.child = subprocess.Popen(self.words, stdout=log, stderr=log, stdin=subprocess.DEVNULL)
+                self.child = subprocess.Popen(
+                    self.words, stdout=log, stderr=log, stdin=subprocess.DEVNULL
+                )
                 self.starts += 1
                 self.begun.set()
             status = self.child.wait()
@@ -113,19 +123,24 @@ class Supervisor(threading.Thread):
             child.send_signal(signal.SIGCONT)
 
     def kill_connector(self, look: Callable[[], None] = nothing) -> bool:
-        """Kills the connector, and looks at what is left once its filter has ended, too. Returns whether one ran."""
+        """Kills the connector, and looks at what is left once its filter has ended, too. Returns
+        whether one ran."""
         with self.looking:
             if self.killed or self.child.poll() is not None:
                 return False
             self.killed = True
             with self.stopped() as filters:
                 self.child.send_signal(signal.SIGKILL)
-            wait_until(lambda: all(map(has_ended, (self.child.pid, *filters))), "the end of the connector and its filter")
+            wait_until(
+                lambda: all(map(has_ended, (self.child.pid, *filters))),
+                "the end of the connector and its filter",
+            )
             look()
             return True
 
     def kill_filter(self, look: Callable[[], None] = nothing) -> bool:
-        """Kills the filter, and looks at what it has left before the connector starts another. Returns whether one ran."""
+        """Kills the filter, and looks at what it has left before the connector starts another.
+        Returns whether one ran."""
         with self.stopped() as filters:
             killed = kill_all(filters)
             wait_until(lambda: all(map(has_ended, filters)), "the end of the filter")
@@ -148,7 +163,9 @@ class Supervisor(threading.Thread):
             raise Failed("the connector didn't end within 120 seconds of SIGTERM") from None
         self.join(10)
         if status:
-            raise Failed(f"the connector ended with status {status} after SIGTERM: {self.last_said()}")
+            raise Failed(
+                f"the connector ended with status {status} after SIGTERM: {self.last_said()}"
+            )
 
     def kill(self) -> None:
         """Ends what still runs."""
@@ -166,9 +183,14 @@ class Supervisor(threading.Thread):
 
 
 def wait_until(
-    condition: Callable[[], bool], what: str, seconds: float = 60, check: Callable[[], None] = nothing, step: float = 0.05
+    condition: Callable[[], bool],
+    what: str,
+    seconds: float = 60,
+    check: Callable[[], None] = nothing,
+    step: float = 0.05,
 ) -> None:
-    """Waits for a condition, which is looked at every `step` seconds. A server that isn't there meanwhile is no fault."""
+    """Waits for a condition, which is looked at every `step` seconds. A server that isn't there
+    meanwhile is no fault."""
     seconds *= Patience.factor
     until = time.monotonic() + seconds
     while True:
@@ -188,16 +210,24 @@ def is_confirmed(cluster: Cluster, slot: str, lsn: str, database: str = "shop") 
 
 
 def checkpoint_of(store: Path) -> tuple[dict[str, Any], dict[str, Any]]:
-    """What a store's checkpoint knows and has counted, by the line that was written last; nothing where there is none yet."""
+    """What a store's checkpoint knows and has counted, by the line that was written last; nothing
+    where there is none yet."""
     text = Path(f"{store}.connector").read_text(encoding="utf-8")
-    lines = [json.loads(it) for it in text.replace("\0", " ").splitlines() if it.strip().startswith('{"version":')]
+    lines = [
+        json.loads(it)
+        for it in text.replace("\0", " ").splitlines()
+        if it.strip().startswith('{"version":')
+    ]
     last: dict[str, Any] = max(lines, key=lambda it: int(it["number"]), default={})
     return last.get("known") or {}, last.get("counted") or {}
 
 
 def remembered_of(store: Path) -> dict[str, Any]:
-    """What is remembered of a store's tables, but for what messages said since, which stands in further lines."""
-    first: dict[str, Any] = json.loads(Path(f"{store}.tables").read_text(encoding="utf-8").partition("\n")[0])
+    """What is remembered of a store's tables, but for what messages said since, which stands in
+    further lines."""
+    first: dict[str, Any] = json.loads(
+        Path(f"{store}.tables").read_text(encoding="utf-8").partition("\n")[0]
+    )
     return first
 
 

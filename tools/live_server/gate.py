@@ -1,5 +1,5 @@
-"""The short run of the merge gate: a copy of rows, following with a feed and tables, each part killed once, a comparison, and README's
-walkthrough."""
+"""The short run of the merge gate: a copy of rows, following with a feed and tables, each part
+killed once, a comparison, and README's walkthrough."""
 
 from __future__ import annotations
 
@@ -17,7 +17,10 @@ from .walking import walk
 
 def run(options: Options, checks: Checks) -> None:
     # (before version 14 of the server there is no version 2)
-    run, load = mixed(dataclasses.replace(options, workers=2, pause=0.2 * Patience.factor, feed=True), options.proto or 2)
+    run, load = mixed(
+        dataclasses.replace(options, workers=2, pause=0.2 * Patience.factor, feed=True),
+        options.proto or 2,
+    )
     try:
         if checks.run("copies rows while others are written", lambda: copies(run, load)):
             load.truncate(True)

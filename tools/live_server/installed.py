@@ -26,7 +26,8 @@ class Account:
 
 @dataclasses.dataclass(frozen=True)
 class Installation:
-    """Programs of one version. `root`: the folder in which they run by chroot, `/` for none. `bin` is a path in there."""
+    """Programs of one version. `root`: the folder in which they run by chroot, `/` for none. `bin`
+    is a path in there."""
 
     root: Path
     bin: Path
@@ -36,15 +37,25 @@ class Installation:
     def words(self, program: str, *words: str) -> list[str]:
         """The words that run one of the programs, as the server's account."""
         account = self.account
-        changed = ["chroot", f"--userspec={account.uid}:{account.gid}", "--groups=", str(self.root)] if account else []
+        changed = (
+            ["chroot", f"--userspec={account.uid}:{account.gid}", "--groups=", str(self.root)]
+            if account
+            else []
+        )
         return [*changed, str(self.bin / program), *words]
 
     def call(self, program: str, *words: str, log: Path) -> str:
-        """Runs a program to its end, and returns what it said. A server that it starts keeps the log's file open."""
+        """Runs a program to its end, and returns what it said. A server that it starts keeps the
+        log's file open."""
         with open(log, "a+b") as said:
             at = said.seek(0, os.SEEK_END)
             status = subprocess.run(
-                self.words(program, *words), cwd="/", stdin=subprocess.DEVNULL, stdout=said, stderr=said, check=False,
+                self.words(program, *words),
+                cwd="/",
+                stdin=subprocess.DEVNULL,
+                stdout=said,
+                stderr=said,
+                check=False,
                 env={"PATH": "/usr/sbin:/usr/bin:/sbin:/bin", "LC_ALL": "C.UTF-8", "HOME": "/"},
             ).returncode
             said.seek(at)
@@ -64,11 +75,18 @@ class Installation:
 
 def versions_in(root: Path) -> dict[int, Path]:
     """The folders of programs in a root folder, by version."""
-    found = [it for place in PLACES for it in [root / place / "bin/pg_ctl", *root.glob(f"{place}/*/bin/pg_ctl")] if it.exists()]
+    found = [
+        it
+        for place in PLACES
+        for it in [root / place / "bin/pg_ctl", *root.glob(f"{place}/*/bin/pg_ctl")]
+        if it.exists()
+    ]
     in_path = shutil.which("pg_ctl") if root == Path("/") else None
     if in_path:
         found.append(Path(in_path).resolve())
-    return {version: it.parent for it in found if (version := version_of(root, it.parent)) is not None}
+    return {
+        version: it.parent for it in found if (version := version_of(root, it.parent)) is not None
+    }
 
 
 def version_of(root: Path, folder: Path) -> int | None:
@@ -78,7 +96,9 @@ def version_of(root: Path, folder: Path) -> int | None:
         return int(named[1])
     if root != Path("/"):
         return None
-    said = subprocess.run([folder / "postgres", "--version"], capture_output=True, check=False).stdout.decode(errors="replace")
+    said = subprocess.run(
+        [folder / "postgres", "--version"], capture_output=True, check=False
+    ).stdout.decode(errors="replace")
     told = re.search(r"\) (\d+)", said)
     return int(told[1]) if told else None
 
@@ -107,8 +127,14 @@ def find(version: int | None, root: Path | None, user: str) -> Installation:
         raise Unusable("--root needs the rights of root, for chroot")
     found = versions_in(top)
     if not found:
-        raise Unusable(f"there is no PostgreSQL server{f' in {top}' if root else ': apt-get install postgresql'}")
+        raise Unusable(
+            f"there is no PostgreSQL server{f' in {top}' if root else ': apt-get install postgresql'}"
+        )
     wanted = version if version is not None else max(found)
     if wanted not in found:
-        raise Unusable(f"there is no PostgreSQL {wanted}{f' in {top}' if root else ''}, but {', '.join(map(str, sorted(found)))}")
-    return Installation(top, Path("/") / found[wanted].relative_to(top), wanted, account_of(top, user))
+        raise Unusable(
+            f"there is no PostgreSQL {wanted}{f' in {top}' if root else ''}, but {', '.join(map(str, sorted(found)))}"
+        )
+    return Installation(
+        top, Path("/") / found[wanted].relative_to(top), wanted, account_of(top, user)
+    )

@@ -1,4 +1,5 @@
-"""A server under load, and a follower of which parts are killed. At the end the copy has to hold just the publisher's rows.
+"""A server under load, and a follower of which parts are killed. At the end the copy has to hold
+just the publisher's rows.
 
 After each kill of what writes the store SQLite has to find its file sound.
 """
@@ -19,7 +20,15 @@ from feed_replay import Replay
 
 from .cluster import Cluster
 from .errors import Failed
-from .feeds import Reader, base_of, check_images, compare_tables, log_changes, rows_of_feed, segments
+from .feeds import (
+    Reader,
+    base_of,
+    check_images,
+    compare_tables,
+    log_changes,
+    rows_of_feed,
+    segments,
+)
 from .follower import Supervisor, checkpoint_of, is_adding, is_confirmed, wait_until
 from .load import LOGGED, SCHEMA, Mixed
 from .options import Options
@@ -61,7 +70,12 @@ class Run:
         self.load = load(self.cluster)
         self.store = options.folder / f"{self.cluster.folder.name}.db"
         words = options.words(self.cluster.dsn(), self.store, "--create", "--proto", str(proto))
-        words += ["--status-file", f"{self.store}.status", "--jobs", str(self.rng.choice((1, 2, 4)))]
+        words += [
+            "--status-file",
+            f"{self.store}.status",
+            "--jobs",
+            str(self.rng.choice((1, 2, 4))),
+        ]
         self.fed = Fed(self) if options.feed else None
         words += self.fed.words() if self.fed else []
         self.victims = FED_VICTIMS if self.fed else VICTIMS
@@ -99,7 +113,10 @@ class Run:
         """Ends one of the connector's connections. Returns whether one was there."""
         with self.cluster.connect() as session:
             found = session.column(CONNECTIONS)
-            return bool(found) and session.value(f"SELECT pg_terminate_backend({self.rng.choice(found)})") == "t"
+            return (
+                bool(found)
+                and session.value(f"SELECT pg_terminate_backend({self.rng.choice(found)})") == "t"
+            )
 
     def kill_often(self, kills: int) -> None:
         for _ in range(kills):
@@ -109,18 +126,24 @@ class Run:
             wait_until(lambda victim=victim: self.kill(victim), f"finding a {victim} that runs", 60, self.supervisor.check)  # type: ignore[misc]
 
     def kill_copying(self, kills: int, tables: Sequence[str]) -> str:
-        """Kills something so often while rows are copied, and in the midst of each of these tables. Returns where."""
+        """Kills something so often while rows are copied, and in the midst of each of these tables.
+        Returns where."""
         done, hit = 0, collections.Counter[str]()
         while (done < kills or not all(hit[it] for it in tables)) and is_adding(self.store):
             self.supervisor.check()
             with contextlib.suppress(psycopg.Error), self.cluster.connect() as session:
                 done += self.kill_reading(session, [it for it in tables if not hit[it]], hit)
         if not done or not all(hit[it] for it in tables):
-            raise Failed(f"all was copied before something was killed in the midst of each table ({dict(hit)}): there were too few rows")
+            raise Failed(
+                f"all was copied before something was killed in the midst of each table ({dict(hit)}): there were too few rows"
+            )
         return ", ".join(f"{count} in {name}" for name, count in hit.items())
 
-    def kill_reading(self, session: Session, tables: Sequence[str], hit: collections.Counter[str]) -> bool:
-        """Waits until one of some tables is read, or any where none is left, and kills something. Returns whether that was there."""
+    def kill_reading(
+        self, session: Session, tables: Sequence[str], hit: collections.Counter[str]
+    ) -> bool:
+        """Waits until one of some tables is read, or any where none is left, and kills something.
+        Returns whether that was there."""
         while not is_read(session.column(READING), tables):
             self.supervisor.check()
             if not is_adding(self.store):
@@ -140,15 +163,20 @@ class Run:
 
     def wait_copied(self, seconds: float) -> None:
         """Waits until the rows of all tables have come."""
-        wait_until(lambda: not is_adding(self.store), "copying all tables", seconds, self.supervisor.check)
+        wait_until(
+            lambda: not is_adding(self.store), "copying all tables", seconds, self.supervisor.check
+        )
         if self.fed:
             self.fed.take_base()
 
     def wait_for(self, lsn: str, seconds: float, what: str) -> None:
-        wait_until(lambda: is_confirmed(self.cluster, SLOT, lsn), what, seconds, self.supervisor.check)
+        wait_until(
+            lambda: is_confirmed(self.cluster, SLOT, lsn), what, seconds, self.supervisor.check
+        )
 
     def compare(self) -> str:
-        """Waits until everything is confirmed, ends the connector, and compares. Returns what there is to say."""
+        """Waits until everything is confirmed, ends the connector, and compares. Returns what there
+        is to say."""
         end, began = self.cluster.log_end(), time.monotonic()
         self.cluster.run("SELECT pg_logical_emit_message(true, 'live', 'end')")
         self.wait_for(end, 600, f"confirming {end}")
@@ -189,11 +217,20 @@ class Fed:
 
     def words(self) -> list[str]:
         # (the segments that the tables have read stay, too, to be replayed)
-        return ["--tables", str(self.rows), "--feed-segment-bytes", "1000000", "--feed-max-age", "1d"]
+        return [
+            "--tables",
+            str(self.rows),
+            "--feed-segment-bytes",
+            "1000000",
+            "--feed-max-age",
+            "1d",
+        ]
 
     def call(self, *words: str | Path) -> None:
         """Runs a subcommand to its end, which has to be well."""
-        done = subprocess.run([self.run.options.connect, *words], capture_output=True, text=True, check=False)
+        done = subprocess.run(
+            [self.run.options.connect, *words], capture_output=True, text=True, check=False
+        )
         if done.returncode:
             raise Failed(f"{words[0]}: status {done.returncode}: {done.stderr}")
 
@@ -208,16 +245,22 @@ class Fed:
         self.call("wait", end, "--tables", self.rows, "--within", "300")
 
     def compare(self) -> str:
-        """Compares the feed, the tables, and what a reader has seen of them, with the server. Returns what there is to say."""
+        """Compares the feed, the tables, and what a reader has seen of them, with the server.
+        Returns what there is to say."""
         self.reader.finish()
-        # (a table that was truncated while its slot was made is copied by itself, and the commits before that lack its changes)
+        # (a table that was truncated while its slot was made is copied by itself, and the commits
+        # before that lack its changes)
         above = self.base.at if self.base else 0
         seen = {it for it in self.reader.seen if it >= above}
         rows, state = rows_of_feed(self.feed, self.base, self.look)
         compare(rows_of_server(self.run.cluster, "pgsub"), rows)
-        count, images = compare_tables(self.run.cluster, self.rows, "pgsub"), check_images(self.feed, *self.logged, above=above)
+        count, images = compare_tables(self.run.cluster, self.rows, "pgsub"), check_images(
+            self.feed, *self.logged, above=above
+        )
         if left := seen - self.checked or not seen:
-            raise Failed(f"a reader saw {len(seen)} states, and no commit ends where these do: {left}")
+            raise Failed(
+                f"a reader saw {len(seen)} states, and no commit ends where these do: {left}"
+            )
         read = f"{len(seen)} states of them read"
         return f"; a feed of {len(segments(self.feed))} segments, {state.changes} changes replayed, {images} images, {count} rows in tables, {read}"
 
@@ -227,12 +270,14 @@ class Fed:
 
 
 def is_read(found: Sequence[str], tables: Sequence[str]) -> bool:
-    """Whether any of some tables is among those that are read, or any at all where there are none."""
+    """Whether any of some tables is among those that are read, or any at all where there are
+    none."""
     return bool(found) and (not tables or not set(tables).isdisjoint(found))
 
 
 def killed(run: Run, copying: int, tables: Sequence[str], before_kills: Callable[[], None]) -> str:
-    """Starts, kills parts while rows are copied and afterwards, and compares. `tables`: in the copy of each something is killed."""
+    """Starts, kills parts while rows are copied and afterwards, and compares. `tables`: in the copy
+    of each something is killed."""
     try:
         run.begin()
         while_copying = run.kill_copying(copying, tables) if copying else "none"

@@ -35,10 +35,19 @@ SCHEMA = (
     "CREATE TABLE altered (id int PRIMARY KEY, word varchar(80), n int)",
 )
 TABLES = (
-    "keyed", "wide", "indexed", "whole", "inserts", "bare", '"Größe, Maß"."a ""quoted"" name"', "parted", "altered",
+    "keyed",
+    "wide",
+    "indexed",
+    "whole",
+    "inserts",
+    "bare",
+    '"Größe, Maß"."a ""quoted"" name"',
+    "parted",
+    "altered",
 )
 QUOTED = TABLES[6]
-# Those that are published whole and that nobody alters, and each change of which a trigger of theirs sees.
+# Those that are published whole and that nobody alters, and each change of which a trigger of
+# theirs sees.
 LOGGED = ("keyed", "wide", "indexed", "whole", "inserts", "bare", "kept")
 EXTERNAL = "(SELECT string_agg(md5(random()::text || it), '') FROM generate_series(1, {}) it)"
 
@@ -58,7 +67,16 @@ class Mix:
         return self.rng.randint(1, 2000)
 
     def word(self) -> str:
-        words = ("", "it''s", "a\tb", "back\\\\slash", "Ünïcödé 漢字 🐘", "\\\\N", "x" * 200, "line\nbreak")
+        words = (
+            "",
+            "it''s",
+            "a\tb",
+            "back\\\\slash",
+            "Ünïcödé 漢字 🐘",
+            "\\\\N",
+            "x" * 200,
+            "line\nbreak",
+        )
         return self.rng.choice((*words, *(f"word {self.rng.randint(1, 60)}" for _ in words)))
 
     def big(self) -> str:
@@ -67,77 +85,86 @@ class Mix:
     def one(self) -> str:
         """A statement that changes few rows."""
         rng, key, word = self.rng, self.key(), self.word()
-        return rng.choice((
-            f"INSERT INTO keyed VALUES ({key}, '{word}', NULL) ON CONFLICT (id) DO UPDATE SET name = excluded.name",
-            f"INSERT INTO keyed VALUES ({key}, '{word}', '{word}') ON CONFLICT DO NOTHING",
-            f"UPDATE keyed SET note = '{word}' WHERE id BETWEEN {key} AND {key + 20}",
-            f"UPDATE keyed SET id = id + {rng.choice((5000, 10000))} WHERE id = {key}",
-            f"DELETE FROM keyed WHERE id BETWEEN {key} AND {key + 5}",
-            f"INSERT INTO wide VALUES ({key}, '{word}', {self.big()}, {rng.random()}, {rng.choice(('true', 'NULL'))},"
-            f" now(), '{{\"k\": [{key}, null]}}', '\\x00ff{key:04x}') ON CONFLICT DO NOTHING",
-            f"UPDATE wide SET n = n + 1, flag = NOT flag WHERE id BETWEEN {key} AND {key + 60}",
-            f"UPDATE wide SET code = code || 'k' WHERE id BETWEEN {key} AND {key + 20} AND length(code) < 250",
-            f"UPDATE wide SET big = {self.big()} WHERE id = {key}",
-            f"DELETE FROM wide WHERE id BETWEEN {key} AND {key + 30}",
-            f"INSERT INTO indexed VALUES ({key}, '{word}', random(), {rng.choice(('NULL', '7'))}) ON CONFLICT DO NOTHING",
-            f"UPDATE indexed SET c = c / 3, b = '{word}' WHERE a BETWEEN {key} AND {key + 20}",
-            f"UPDATE indexed SET a = a + 3000 WHERE a = {key}",
-            f"DELETE FROM indexed WHERE a BETWEEN {key} AND {key + 10}",
-            f"INSERT INTO whole SELECT '{word}', {key % 7}, NULL FROM generate_series(1, {rng.randint(1, 4)})",
-            f"INSERT INTO whole VALUES ('{word}', NULL, {self.big()})",
-            f"UPDATE whole SET n = n + 1 WHERE ctid IN (SELECT ctid FROM whole LIMIT {rng.randint(1, 4)})",
-            f"UPDATE whole SET word = '{word}' WHERE word = '{self.word()}' AND n = {key % 7}",
-            f"DELETE FROM whole WHERE ctid IN (SELECT ctid FROM whole ORDER BY random() LIMIT {rng.randint(1, 5)})",
-            f"INSERT INTO inserts VALUES ({key}, '{word}')",
-            f"INSERT INTO bare (id, word) VALUES ({key % 10}, '{word}')",
-            f"INSERT INTO {QUOTED} VALUES ({key}, ARRAY['{word}', NULL]) ON CONFLICT DO NOTHING",
-            f"DELETE FROM {QUOTED} WHERE \"Das Ä\" < {key}",
-            f"INSERT INTO parted VALUES ({key}, '{word}') ON CONFLICT DO NOTHING",
-            f"UPDATE parted SET id = 2001 - id WHERE id = {key}",
-            f"UPDATE kept SET word = '{word}' WHERE id BETWEEN {key} AND {key + 3}",
-            f"UPDATE kept SET id = id + 1000000 WHERE id = {key}",
-            f"DELETE FROM kept WHERE id = {key}",
-            f"INSERT INTO altered (id, word, n) VALUES ({key}, left('{word}', 40), {key}) ON CONFLICT DO NOTHING",
-            f"UPDATE altered SET n = n + 1 WHERE id BETWEEN {key} AND {key + 10}",
-            f"DELETE FROM altered WHERE id = {key}",
-            f"SELECT pg_logical_emit_message({rng.choice(('true', 'false'))}, 'live', 'a message')",
-        ))
+        return rng.choice(
+            (
+                f"INSERT INTO keyed VALUES ({key}, '{word}', NULL) ON CONFLICT (id) DO UPDATE SET name = excluded.name",
+                f"INSERT INTO keyed VALUES ({key}, '{word}', '{word}') ON CONFLICT DO NOTHING",
+                f"UPDATE keyed SET note = '{word}' WHERE id BETWEEN {key} AND {key + 20}",
+                f"UPDATE keyed SET id = id + {rng.choice((5000, 10000))} WHERE id = {key}",
+                f"DELETE FROM keyed WHERE id BETWEEN {key} AND {key + 5}",
+                f"INSERT INTO wide VALUES ({key}, '{word}', {self.big()}, {rng.random()}, {rng.choice(('true', 'NULL'))},"
+                f" now(), '{{\"k\": [{key}, null]}}', '\\x00ff{key:04x}') ON CONFLICT DO NOTHING",
+                f"UPDATE wide SET n = n + 1, flag = NOT flag WHERE id BETWEEN {key} AND {key + 60}",
+                f"UPDATE wide SET code = code || 'k' WHERE id BETWEEN {key} AND {key + 20} AND length(code) < 250",
+                f"UPDATE wide SET big = {self.big()} WHERE id = {key}",
+                f"DELETE FROM wide WHERE id BETWEEN {key} AND {key + 30}",
+                f"INSERT INTO indexed VALUES ({key}, '{word}', random(), {rng.choice(('NULL', '7'))}) ON CONFLICT DO NOTHING",
+                f"UPDATE indexed SET c = c / 3, b = '{word}' WHERE a BETWEEN {key} AND {key + 20}",
+                f"UPDATE indexed SET a = a + 3000 WHERE a = {key}",
+                f"DELETE FROM indexed WHERE a BETWEEN {key} AND {key + 10}",
+                f"INSERT INTO whole SELECT '{word}', {key % 7}, NULL FROM generate_series(1, {rng.randint(1, 4)})",
+                f"INSERT INTO whole VALUES ('{word}', NULL, {self.big()})",
+                f"UPDATE whole SET n = n + 1 WHERE ctid IN (SELECT ctid FROM whole LIMIT {rng.randint(1, 4)})",
+                f"UPDATE whole SET word = '{word}' WHERE word = '{self.word()}' AND n = {key % 7}",
+                f"DELETE FROM whole WHERE ctid IN (SELECT ctid FROM whole ORDER BY random() LIMIT {rng.randint(1, 5)})",
+                f"INSERT INTO inserts VALUES ({key}, '{word}')",
+                f"INSERT INTO bare (id, word) VALUES ({key % 10}, '{word}')",
+                f"INSERT INTO {QUOTED} VALUES ({key}, ARRAY['{word}', NULL]) ON CONFLICT DO NOTHING",
+                f'DELETE FROM {QUOTED} WHERE "Das Ä" < {key}',
+                f"INSERT INTO parted VALUES ({key}, '{word}') ON CONFLICT DO NOTHING",
+                f"UPDATE parted SET id = 2001 - id WHERE id = {key}",
+                f"UPDATE kept SET word = '{word}' WHERE id BETWEEN {key} AND {key + 3}",
+                f"UPDATE kept SET id = id + 1000000 WHERE id = {key}",
+                f"DELETE FROM kept WHERE id = {key}",
+                f"INSERT INTO altered (id, word, n) VALUES ({key}, left('{word}', 40), {key}) ON CONFLICT DO NOTHING",
+                f"UPDATE altered SET n = n + 1 WHERE id BETWEEN {key} AND {key + 10}",
+                f"DELETE FROM altered WHERE id = {key}",
+                f"SELECT pg_logical_emit_message({rng.choice(('true', 'false'))}, 'live', 'a message')",
+            )
+        )
 
     def many(self) -> str:
         """A statement that changes many rows, above what the server decodes in memory."""
         rng, key, count = self.rng, self.key(), self.rng.randint(300, 1500)
-        return rng.choice((
-            f"INSERT INTO keyed SELECT it, md5(it::text), NULL FROM generate_series({key}, {key + count}) it"
-            " ON CONFLICT DO NOTHING",
-            f"INSERT INTO keyed SELECT it, 'again', NULL FROM generate_series({key}, {key + count}) it"
-            " ON CONFLICT (id) DO UPDATE SET name = 'again'",
-            f"UPDATE keyed SET note = md5(id::text) WHERE id BETWEEN {key} AND {key + count}",
-            f"DELETE FROM keyed WHERE id > {key}",
-            f"INSERT INTO wide SELECT it, 'many', repeat('0123456789', 300), it, NULL, now(), NULL, NULL"
-            f" FROM generate_series({key}, {key + count // 4}) it ON CONFLICT DO NOTHING",
-            f"DELETE FROM wide WHERE id > {key}",
-            f"INSERT INTO indexed SELECT it, 'b', it / 7.0, NULL FROM generate_series({key}, {key + count}) it"
-            " ON CONFLICT DO NOTHING",
-            f"DELETE FROM indexed WHERE a > {key}",
-            f"INSERT INTO whole SELECT 'copies', it % 5, NULL FROM generate_series(1, {count}) it",
-            f"DELETE FROM whole WHERE n > {rng.randint(0, 4)}",
-            f"INSERT INTO inserts SELECT it, 'many' FROM generate_series(1, {count}) it",
-            f"INSERT INTO parted SELECT it, 'many' FROM generate_series({key}, {key + count}) it ON CONFLICT DO NOTHING",
-            f"DELETE FROM parted WHERE id > {key}",
-            f"INSERT INTO altered (id, word) SELECT it, 'many' FROM generate_series({key}, {key + count // 4}) it"
-            " ON CONFLICT DO NOTHING",
-        ))
+        return rng.choice(
+            (
+                f"INSERT INTO keyed SELECT it, md5(it::text), NULL FROM generate_series({key}, {key + count}) it"
+                " ON CONFLICT DO NOTHING",
+                f"INSERT INTO keyed SELECT it, 'again', NULL FROM generate_series({key}, {key + count}) it"
+                " ON CONFLICT (id) DO UPDATE SET name = 'again'",
+                f"UPDATE keyed SET note = md5(id::text) WHERE id BETWEEN {key} AND {key + count}",
+                f"DELETE FROM keyed WHERE id > {key}",
+                f"INSERT INTO wide SELECT it, 'many', repeat('0123456789', 300), it, NULL, now(), NULL, NULL"
+                f" FROM generate_series({key}, {key + count // 4}) it ON CONFLICT DO NOTHING",
+                f"DELETE FROM wide WHERE id > {key}",
+                f"INSERT INTO indexed SELECT it, 'b', it / 7.0, NULL FROM generate_series({key}, {key + count}) it"
+                " ON CONFLICT DO NOTHING",
+                f"DELETE FROM indexed WHERE a > {key}",
+                f"INSERT INTO whole SELECT 'copies', it % 5, NULL FROM generate_series(1, {count}) it",
+                f"DELETE FROM whole WHERE n > {rng.randint(0, 4)}",
+                f"INSERT INTO inserts SELECT it, 'many' FROM generate_series(1, {count}) it",
+                f"INSERT INTO parted SELECT it, 'many' FROM generate_series({key}, {key + count}) it ON CONFLICT DO NOTHING",
+                f"DELETE FROM parted WHERE id > {key}",
+                f"INSERT INTO altered (id, word) SELECT it, 'many' FROM generate_series({key}, {key + count // 4}) it"
+                " ON CONFLICT DO NOTHING",
+            )
+        )
 
     def truncation(self) -> str:
         if not self.truncates:
             return self.one()
         tables = self.rng.sample(TABLES, self.rng.choice((1, 1, 2, 3)))
-        return f"TRUNCATE {', '.join(tables)}{self.rng.choice(('', ' RESTART IDENTITY', ' CASCADE'))}"
+        return (
+            f"TRUNCATE {', '.join(tables)}{self.rng.choice(('', ' RESTART IDENTITY', ' CASCADE'))}"
+        )
 
     def some(self) -> list[str]:
         """A few statements."""
         rng = self.rng
-        return [self.many() if rng.random() < 0.25 else self.one() for _ in range(rng.choice((1, 1, 2, 4, 8)))]
+        return [
+            self.many() if rng.random() < 0.25 else self.one()
+            for _ in range(rng.choice((1, 1, 2, 4, 8)))
+        ]
 
     def nested(self, depth: int = 0) -> list[str]:
         """Statements with subtransactions, of which some are rolled back."""
@@ -199,7 +226,9 @@ class Worker(threading.Thread):
                 raise error
             self.session.run("ROLLBACK")
             # deadlocks, taken keys and tables that an ALTER holds are part of it
-            if not (error.sqlstate or "").startswith(("40", "23", "55", "57", "42P01", "42703", "42804", "0A")):
+            if not (error.sqlstate or "").startswith(
+                ("40", "23", "55", "57", "42P01", "42703", "42804", "0A")
+            ):
                 print(f"live: {error.sqlstate} {error}", flush=True)
         except psycopg.Error:
             if self.session:
@@ -223,8 +252,14 @@ class Altering(Worker):
         )
         alterations = [f"ADD COLUMN c{self.number}_{rng.randint(0, 9999)} int"]
         if columns:
-            alterations += [f"DROP COLUMN {rng.choice(columns)}", f"ALTER COLUMN {rng.choice(columns)} TYPE bigint"]
-        alterations += [f"REPLICA IDENTITY {rng.choice(('FULL', 'DEFAULT'))}", f"ALTER word TYPE varchar({80 + self.number})"]
+            alterations += [
+                f"DROP COLUMN {rng.choice(columns)}",
+                f"ALTER COLUMN {rng.choice(columns)} TYPE bigint",
+            ]
+        alterations += [
+            f"REPLICA IDENTITY {rng.choice(('FULL', 'DEFAULT'))}",
+            f"ALTER word TYPE varchar({80 + self.number})",
+        ]
         session.run("SET lock_timeout = '2s'", f"ALTER TABLE altered {rng.choice(alterations)}")
         self.committed += 1
 
@@ -234,7 +269,9 @@ class Mixed:
 
     def __init__(self, cluster: Cluster, seed: str, workers: int, pause: float) -> None:
         self.cluster, self.seed = cluster, seed
-        self.workers: list[Worker] = [Worker(cluster, f"{seed} {it}", pause) for it in range(workers)]
+        self.workers: list[Worker] = [
+            Worker(cluster, f"{seed} {it}", pause) for it in range(workers)
+        ]
         self.workers.append(Altering(cluster, f"{seed} alter", 20 * pause))
         self.is_running = False
 

@@ -35,4 +35,13 @@ class Options:
 
     def words(self, dsn: str, store: Path, *more: str) -> list[str]:
         """The words that follow into a store."""
-        return [str(self.connect), "--dsn", dsn, "--store", str(store), "--pgsub", str(self.program), *more]
+        return [
+            str(self.connect),
+            "--dsn",
+            dsn,
+            "--store",
+            str(store),
+            "--pgsub",
+            str(self.program),
+            *more,
+        ]

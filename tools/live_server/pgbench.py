@@ -22,7 +22,15 @@ RATE = 200
 
 def place(cluster: Cluster, database: str = "shop") -> list[str]:
     """The words that tell pgbench where a server's database is."""
-    return ["-h", cluster.installed.inside(cluster.folder), "-p", str(cluster.port), "-U", cluster.user, database]
+    return [
+        "-h",
+        cluster.installed.inside(cluster.folder),
+        "-p",
+        str(cluster.port),
+        "-U",
+        cluster.user,
+        database,
+    ]
 
 
 class PgBench(threading.Thread):
@@ -33,10 +41,25 @@ class PgBench(threading.Thread):
         self.cluster, self.ended = cluster, threading.Event()
         self.child: subprocess.Popen[bytes] | None = None
         cluster.call("pgbench", "-i", "-q", "-s", str(scale), *place(cluster))
-        cluster.run("ALTER TABLE pgbench_history REPLICA IDENTITY FULL", "CREATE PUBLICATION pgsub FOR ALL TABLES")
+        cluster.run(
+            "ALTER TABLE pgbench_history REPLICA IDENTITY FULL",
+            "CREATE PUBLICATION pgsub FOR ALL TABLES",
+        )
         self.filled = 0
         # (it would count the branches, of which there may be more)
-        more = ["-n", "-c", str(CLIENTS), "-j", "2", "-R", str(rate), "-T", "100000", "-D", f"scale={scale}"]
+        more = [
+            "-n",
+            "-c",
+            str(CLIENTS),
+            "-j",
+            "2",
+            "-R",
+            str(rate),
+            "-T",
+            "100000",
+            "-D",
+            f"scale={scale}",
+        ]
         self.words = cluster.installed.words("pgbench", *more, *place(cluster))
 
     def fill(self, rows: int) -> None:
@@ -55,7 +78,9 @@ class PgBench(threading.Thread):
     def run(self) -> None:
         with open(self.cluster.folder / "pgbench", "ab") as said:
             while not self.ended.is_set():
-                self.child = subprocess.Popen(self.words, cwd="/", stdin=subprocess.DEVNULL, stdout=said, stderr=said)
+                self.child = subprocess.Popen(
+                    self.words, cwd="/", stdin=subprocess.DEVNULL, stdout=said, stderr=said
+                )
                 self.child.wait()
                 self.ended.wait(0.2)
 

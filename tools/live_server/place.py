@@ -1,4 +1,5 @@
-"""Where a case takes place: a server with an empty database, and a folder for the files of one store."""
+"""Where a case takes place: a server with an empty database, and a folder for the files of one
+store."""
 
 from __future__ import annotations
 
@@ -48,18 +49,26 @@ class Place:
 
     def stock(self, published: bool = True) -> None:
         """A table with two rows, and a publication of it."""
-        self.run("CREATE TABLE stock (sku int PRIMARY KEY, quantity int)", "INSERT INTO stock VALUES (1, 5), (2, 0)")
+        self.run(
+            "CREATE TABLE stock (sku int PRIMARY KEY, quantity int)",
+            "INSERT INTO stock VALUES (1, 5), (2, 0)",
+        )
         if published:
             self.run("CREATE PUBLICATION pgsub FOR TABLE stock")
 
     def change(self) -> None:
         """A new row of that table, and an update of all."""
         self.row += 1
-        self.run(f"INSERT INTO stock VALUES ({self.row}, 0)", "UPDATE stock SET quantity = quantity + 1")
+        self.run(
+            f"INSERT INTO stock VALUES ({self.row}, 0)", "UPDATE stock SET quantity = quantity + 1"
+        )
 
     def set(self, **settings: str) -> None:
         """Settings of the server that need no restart. They go with the case."""
-        self.run(*(f"ALTER SYSTEM SET {name} = '{value}'" for name, value in settings.items()), "SELECT pg_reload_conf()")
+        self.run(
+            *(f"ALTER SYSTEM SET {name} = '{value}'" for name, value in settings.items()),
+            "SELECT pg_reload_conf()",
+        )
 
     def own_cluster(self, settings: Mapping[str, str] = {}, encoding: str = "UTF8") -> Cluster:
         """Goes on with a server of the case's own. It isn't started yet."""
@@ -84,14 +93,20 @@ class Place:
         """A folder on a file system of its own."""
         folder = self.folder / "disk"
         folder.mkdir()
-        subprocess.run(["mount", "-t", "tmpfs", "-o", f"size={megabytes}M,mode=700", "tmpfs", folder], check=True)
+        subprocess.run(
+            ["mount", "-t", "tmpfs", "-o", f"size={megabytes}M,mode=700", "tmpfs", folder],
+            check=True,
+        )
         self.closing.callback(lambda: subprocess.run(["umount", "-l", folder], check=False))
         return folder
 
     def proxy(self, cluster: Cluster | None = None) -> Proxy:
         """A proxy before the server."""
         server = cluster or self.cluster
-        proxy = Proxy(server.folder / f".s.PGSQL.{server.port}", Path(tempfile.mkdtemp(prefix="proxy-", dir=self.folder)))
+        proxy = Proxy(
+            server.folder / f".s.PGSQL.{server.port}",
+            Path(tempfile.mkdtemp(prefix="proxy-", dir=self.folder)),
+        )
         self.closing.callback(proxy.close)
         return proxy
 
@@ -102,9 +117,17 @@ class Place:
     # the connector
 
     def words(self, *more: str, dsn: str = "", store: Path | None = None) -> list[str]:
-        return self.options.words(dsn or self.dsn(), store or self.store, "--slot", self.slot, "--heartbeat", "1", *more)
+        return self.options.words(
+            dsn or self.dsn(), store or self.store, "--slot", self.slot, "--heartbeat", "1", *more
+        )
 
-    def start(self, *more: str, dsn: str = "", store: Path | None = None, environment: Mapping[str, str] = {}) -> Child:
+    def start(
+        self,
+        *more: str,
+        dsn: str = "",
+        store: Path | None = None,
+        environment: Mapping[str, str] = {},
+    ) -> Child:
         return self.started(self.words(*more, dsn=dsn, store=store), environment)
 
     def started(self, words: list[str], environment: Mapping[str, str] = {}) -> Child:
@@ -113,7 +136,8 @@ class Place:
         return child
 
     def catch_up(self, child: Child, cluster: Cluster | None = None) -> None:
-        """Waits until all is confirmed, and a keepalive has moved the slot beyond the last commit."""
+        """Waits until all is confirmed, and a keepalive has moved the slot beyond the last
+        commit."""
         server = cluster or self.cluster
         # (a slot that was just made has confirmed all that was before it)
         child.wait_for("following slot")
@@ -126,7 +150,8 @@ class Place:
         return is_confirmed(cluster or self.cluster, self.slot, end, self.database)
 
     def follow(self, *more: str, dsn: str = "", status: int = OK) -> str:
-        """Follows until all is confirmed, and ends with this status. Returns what the connector said."""
+        """Follows until all is confirmed, and ends with this status. Returns what the connector
+        said."""
         child = self.start(*more, dsn=dsn)
         self.catch_up(child)
         return child.stop(status=status)
@@ -218,16 +243,21 @@ class Shared:
     def clean(self, cluster: Cluster) -> None:
         with cluster.connect("postgres") as session:
             session.run(
-                "ALTER SYSTEM RESET ALL", "SELECT pg_reload_conf()",
+                "ALTER SYSTEM RESET ALL",
+                "SELECT pg_reload_conf()",
                 "SELECT pg_terminate_backend(pid) FROM pg_stat_activity WHERE datname = 'shop'",
             )
-            for name in session.column("SELECT gid FROM pg_prepared_xacts WHERE database = 'postgres'"):
+            for name in session.column(
+                "SELECT gid FROM pg_prepared_xacts WHERE database = 'postgres'"
+            ):
                 session.run(f"ROLLBACK PREPARED '{name}'")
             slots = "SELECT count(*) FROM pg_replication_slots WHERE active"
             wait_until(lambda: session.value(slots) == "0", "ending all sessions")
             session.run("SELECT pg_drop_replication_slot(slot_name) FROM pg_replication_slots")
             session.run("DROP DATABASE shop WITH (FORCE)", "CREATE DATABASE shop")
-            for name in session.column("SELECT quote_ident(rolname) FROM pg_roles WHERE NOT rolsuper AND rolname !~ '^pg_'"):
+            for name in session.column(
+                "SELECT quote_ident(rolname) FROM pg_roles WHERE NOT rolsuper AND rolname !~ '^pg_'"
+            ):
                 session.run(f"DROP ROLE {name}")
 
     def close(self) -> None:
@@ -238,7 +268,11 @@ class Shared:
 
 def killed_at(place: Place, name: str, after: bool) -> None:
     """Runs the connector, which ends at once where it makes a call, as of its module `copier`."""
-    code = KILLED_AT.format(house=str(place.options.connect.parent), name=name, before="real(*words)" if after else "pass")
+    code = KILLED_AT.format(
+        house=str(place.options.connect.parent),
+        name=name,
+        before="real(*words)" if after else "pass",
+    )
     words = [sys.executable, "-c", code, *place.words("--create")[1:]]
     place.has_ended(place.started(words), 77, "")
 

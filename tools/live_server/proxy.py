@@ -1,4 +1,5 @@
-"""A proxy on a unix socket before a server: holds commands back until something else was done, and can fall silent."""
+"""A proxy on a unix socket before a server: holds commands back until something else was done, and
+can fall silent."""
 
 from __future__ import annotations
 

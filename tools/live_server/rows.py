@@ -1,4 +1,5 @@
-"""What a server has of published tables, what a store has, and whether these are the same. Nothing of the connector is used.
+"""What a server has of published tables, what a store has, and whether these are the same. Nothing
+of the connector is used.
 
 What a store has is what the program dumps, and SQLite has to find the same in its file.
 """
@@ -24,8 +25,15 @@ Row = Tuple[Optional[str], ...]
 Rows = Dict[Tuple[str, str], "collections.Counter[Row]"]
 # On these the text of values depends.
 SETTINGS = {
-    "search_path": "", "datestyle": "ISO", "intervalstyle": "postgres", "extra_float_digits": "3", "bytea_output": "hex",
-    "timezone": "UTC", "lc_monetary": "C", "quote_all_identifiers": "off", "xmlbinary": "base64",
+    "search_path": "",
+    "datestyle": "ISO",
+    "intervalstyle": "postgres",
+    "extra_float_digits": "3",
+    "bytea_output": "hex",
+    "timezone": "UTC",
+    "lc_monetary": "C",
+    "quote_all_identifiers": "off",
+    "xmlbinary": "base64",
 }
 FILTERS, EXACT = 150000, 180000
 
@@ -39,7 +47,8 @@ def literal(text: str) -> str:
 
 
 def published(session: Session, publications: Iterable[str]) -> Iterator[tuple[str, str, str]]:
-    """Each published table: its schema, its name, and the query for the rows and columns that are published of it."""
+    """Each published table: its schema, its name, and the query for the rows and columns that are
+    published of it."""
     names = ", ".join(map(literal, publications))
     version = session.raw.info.server_version
     fine = "t.attnames::text[], t.rowfilter" if version >= FILTERS else "NULL::text[], NULL"
@@ -57,7 +66,9 @@ def published(session: Session, publications: Iterable[str]) -> Iterator[tuple[s
     )
     for schema, table, row_filter, kind, listing in rows:
         name = f"{'' if kind == 'p' else 'ONLY '}{quoted(schema or '')}.{quoted(table or '')}"
-        query = f"SELECT {listing or ''} FROM {name}" + (f" WHERE {row_filter}" if row_filter else "")
+        query = f"SELECT {listing or ''} FROM {name}" + (
+            f" WHERE {row_filter}" if row_filter else ""
+        )
         yield schema or "", table or "", query
 
 
@@ -74,7 +85,8 @@ def rows_of_server(cluster: Cluster, *publications: str, database: str = "shop")
 
 
 def rows_of_store(program: Path, store: Path) -> tuple[Rows, str]:
-    """The rows that a store holds, and its position. Fails where its file isn't sound, or holds others."""
+    """The rows that a store holds, and its position. Fails where its file isn't sound, or holds
+    others."""
     dumped = rows_of_dump(program, store)
     read = rows_of_file(store)
     if read[1] != dumped[1]:
@@ -95,7 +107,8 @@ def check_file(store: Path) -> None:
 
 
 def rows_of_file(store: Path) -> tuple[Rows, str]:
-    """The rows and the position that SQLite reads in a store's file and its log, which have to be sound."""
+    """The rows and the position that SQLite reads in a store's file and its log, which have to be
+    sound."""
     with sound.copied(store) as base:
         need_none(store, sound.findings_of(base))
         held = contents.read(base)
@@ -104,7 +117,9 @@ def rows_of_file(store: Path) -> tuple[Rows, str]:
         relation = held.relations[oid]
         # (a cell is a letter, and for a text its length in four bytes and the text)
         cells = tuple(None if it == b"n" else it[5:].decode() for it in cells_of(row.body))
-        rows.setdefault((relation.namespace or "pg_catalog", relation.name), collections.Counter())[cells] += row.copies
+        rows.setdefault((relation.namespace or "pg_catalog", relation.name), collections.Counter())[
+            cells
+        ] += row.copies
     return rows, f"{held.position >> 32:X}/{held.position & 0xFFFFFFFF:X}"
 
 
@@ -124,8 +139,12 @@ def rows_of_dump(program: Path, store: Path) -> tuple[Rows, str]:
 def compare(expected: Rows, found: Rows) -> int:
     """Fails at the first table that differs. Returns how many rows there are."""
     for table in sorted({*expected, *found}):
-        ours, theirs = found.get(table, collections.Counter()), expected.get(table, collections.Counter())
+        ours, theirs = found.get(table, collections.Counter()), expected.get(
+            table, collections.Counter()
+        )
         if ours != theirs:
             lacks, has = list((theirs - ours).items())[:3], list((ours - theirs).items())[:3]
-            raise Failed(f"{'.'.join(table)}: the copy lacks {str(lacks)[:600]}, and has {str(has)[:600]} instead")
+            raise Failed(
+                f"{'.'.join(table)}: the copy lacks {str(lacks)[:600]}, and has {str(has)[:600]} instead"
+            )
     return sum(sum(rows.values()) for rows in found.values())

@@ -1,4 +1,5 @@
-"""What sinks have written, compared with a feed and with a server's rows. Nothing of the connector is used."""
+"""What sinks have written, compared with a feed and with a server's rows. Nothing of the connector
+is used."""
 
 from __future__ import annotations
 
@@ -66,7 +67,8 @@ def rows_of_feed(state: Replay) -> Counted:
 
 
 class Told:
-    """Replays changes as a sink tells them: the rows are by the names of their columns, and carried by these."""
+    """Replays changes as a sink tells them: the rows are by the names of their columns, and carried
+    by these."""
 
     def __init__(self) -> None:
         self.columns = dict[int, FrozenSet[str]]()
@@ -148,10 +150,16 @@ def compare(what: str, ours: Any, theirs: Any) -> None:
         return
     wrong: List[Any]
     if isinstance(ours, dict):
-        wrong = [(it, ours.get(it), theirs.get(it)) for it in {**ours, **theirs} if ours.get(it) != theirs.get(it)]
+        wrong = [
+            (it, ours.get(it), theirs.get(it))
+            for it in {**ours, **theirs}
+            if ours.get(it) != theirs.get(it)
+        ]
     else:
         wrong = [it for it in zip(ours, theirs) if it[0] != it[1]]
-    raise Failed(f"{what}: {len(ours)} in place of {len(theirs)}; {len(wrong)} differ, as {str(wrong[:2])[:1500]}")
+    raise Failed(
+        f"{what}: {len(ours)} in place of {len(theirs)}; {len(wrong)} differ, as {str(wrong[:2])[:1500]}"
+    )
 
 
 def compare_hashes(redis: RedisServer, theirs: Hashes) -> int:
@@ -161,12 +169,15 @@ def compare_hashes(redis: RedisServer, theirs: Hashes) -> int:
 
 
 def compare_messages(nats: NatsServer, feed: Path) -> Tuple[Counted, int]:
-    """Fails where a stream doesn't have each commit of a feed after its base once, and in order. Returns the rows, and how many messages."""
+    """Fails where a stream doesn't have each commit of a feed after its base once, and in order.
+    Returns the rows, and how many messages."""
     rows, ids = replay_messages(nats.messages())
     begun = next(at for at, it in enumerate(ids) if it.endswith(":commit"))
     base = ids[begun].partition(":")[0]
     number = ids[0].split(":")[2] if begun else ""
-    compare("messages of the base", ids[:begun], [f"{base}:base:{number}:{n}" for n in range(begun)])
+    compare(
+        "messages of the base", ids[:begun], [f"{base}:base:{number}:{n}" for n in range(begun)]
+    )
     compare("messages", ids[begun + 1 :], list(ids_of_feed(feed, lsn_of(base))))
     return rows, len(ids)
 

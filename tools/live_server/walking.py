@@ -13,7 +13,8 @@ from .options import Options
 
 
 def walk(options: Options) -> str:
-    """Runs the walkthrough's commands over an empty server. Program and connector are found in PATH, as installed ones are."""
+    """Runs the walkthrough's commands over an empty server. Program and connector are found in
+    PATH, as installed ones are."""
     folder = options.folder / "walk"
     folder.mkdir()
     for name, path in (("pgsub", options.program), ("pgsub-connect", options.connect)):
@@ -21,11 +22,18 @@ def walk(options: Options) -> str:
     cluster = Cluster(options.installed, options.folder)
     try:
         cluster.start()
-        places = {"PGHOST": str(cluster.folder), "PGPORT": str(cluster.port), "PGUSER": cluster.user}
+        places = {
+            "PGHOST": str(cluster.folder),
+            "PGPORT": str(cluster.port),
+            "PGUSER": cluster.user,
+        }
         search = f"{folder}:{options.installed.bin}:{os.environ['PATH']}"
         done = subprocess.run(
-            [TOP / "tools/check_documents", "--run", "server"], env={**os.environ, **places, "PATH": search},
-            capture_output=True, text=True, check=False,
+            [TOP / "tools/check_documents", "--run", "server"],
+            env={**os.environ, **places, "PATH": search},
+            capture_output=True,
+            text=True,
+            check=False,
         )
     finally:
         cluster.remove()

@@ -68,7 +68,8 @@ def run(*words: object, **more: object) -> str:
 
 @dataclass(frozen=True)
 class Build:
-    """What is packaged: the program with the kit that proved it, and the version and the time, in seconds, that are named."""
+    """What is packaged: the program with the kit that proved it, and the version and the time, in
+    seconds, that are named."""
 
     program: Path
     version: str
@@ -77,13 +78,19 @@ class Build:
 
     @classmethod
     def of_checkout(cls, program: Path) -> "Build":
-        """That of the checkout. Raises Failed where its program is older than its sources, or another one."""
+        """That of the checkout. Raises Failed where its program is older than its sources, or
+        another one."""
         if program == PROGRAM:
             run(TOP / "pgsub", "--is-current")
         kit = kit_of(program)
         form = ("--date=format-local:%Y%m%d%H%M%S", "--format=%cd %h")
-        when, name = run("git", "-C", TOP, "log", "-1", *form, env={**os.environ, "TZ": "UTC0"}).split()
-        time = int(os.environ.get("SOURCE_DATE_EPOCH") or run("git", "-C", TOP, "log", "-1", "--format=%ct"))
+        when, name = run(
+            "git", "-C", TOP, "log", "-1", *form, env={**os.environ, "TZ": "UTC0"}
+        ).split()
+        time = int(
+            os.environ.get("SOURCE_DATE_EPOCH")
+            or run("git", "-C", TOP, "log", "-1", "--format=%ct")
+        )
         return cls(program, f"{version_of_sources()}+{when}.g{name}", time, kit)
 
     @property
@@ -104,13 +111,16 @@ def version_of_sources() -> str:
 
 
 def kit_of(program: Path) -> str:
-    """The kit that a program says it was built by. Raises Failed where it isn't the one of the checkout's sources."""
+    """The kit that a program says it was built by. Raises Failed where it isn't the one of the
+    checkout's sources."""
     if program.read_bytes()[:4] != b"\x7fELF":
         raise Failed(f"{program} is no program")
     said = REPORTED.search(run(program, "--version"))
     commit = run("git", "-C", TOP, "log", "-1", "--format=%H", "--", *SOURCES)
     if not said or said[1] != commit:
-        raise Failed(f"{program} is of the commit {said[1] if said else 'unknown'}, and the sources of {commit}: ./pgsub --build makes it")
+        raise Failed(
+            f"{program} is of the commit {said[1] if said else 'unknown'}, and the sources of {commit}: ./pgsub --build makes it"
+        )
     if said[2] not in (TOP / "KITS").read_text(encoding="utf-8").splitlines():
         raise Failed(f"{program} was built by {said[2]}, which KITS doesn't name")
     return said[2]
@@ -118,7 +128,14 @@ def kit_of(program: Path) -> str:
 
 def make_pages(build: Build, folder: Path) -> None:
     """Makes the manual pages, which are the same in each package."""
-    words = (TOP / "tools/manuals", "--program", build.program, "--version", f"pgsub {build.version}", folder)
+    words = (
+        TOP / "tools/manuals",
+        "--program",
+        build.program,
+        "--version",
+        f"pgsub {build.version}",
+        folder,
+    )
     run(*words, env={**os.environ, "SOURCE_DATE_EPOCH": str(build.time)})
 
 
@@ -126,7 +143,18 @@ def install(build: Build, prefix: str, pages: Path, room: Path, *more: str) -> N
     """Installs below a folder. The program is without its table of symbols."""
     stripped = pages / "pgsub"
     run("strip", "--strip-unneeded", "-o", stripped, build.program)
-    words = [TOP / "install", prefix, "--destdir", room, "--program", stripped, "--version", build.version, "--pages", pages]
+    words = [
+        TOP / "install",
+        prefix,
+        "--destdir",
+        room,
+        "--program",
+        stripped,
+        "--version",
+        build.version,
+        "--pages",
+        pages,
+    ]
     run(*words, *more, stderr=subprocess.DEVNULL)
 
 
@@ -148,32 +176,52 @@ def maintainer() -> str:
 
 
 def write_documents(build: Build, folder: Path) -> None:
-    """Writes what Debian asks of each package: whose all that is linked is, and what has changed."""
+    """Writes what Debian asks of each package: whose all that is linked is, and what has
+    changed."""
     kit = kit_folder()
     if kit is None:
-        raise Failed("the licences of what is linked come from the toolchain, which isn't on the path")
+        raise Failed(
+            "the licences of what is linked come from the toolchain, which isn't on the path"
+        )
     try:
         text = copyright_text(linked(kit), (TOP / "LICENSE-MIT").read_text(encoding="utf-8"))
     except Unlicensed as unknown:
         raise Failed(f"an unknown licence: {unknown}") from None
     (folder / "copyright").write_text(text, encoding="utf-8")
-    changes = CHANGES.format(version=build.version, maintainer=maintainer(), date=format_datetime(datetime.fromtimestamp(build.time, timezone.utc)))
+    changes = CHANGES.format(
+        version=build.version,
+        maintainer=maintainer(),
+        date=format_datetime(datetime.fromtimestamp(build.time, timezone.utc)),
+    )
     (folder / "changelog.gz").write_bytes(gzip.compress(changes.encode(), mtime=0))
 
 
 def write_control(build: Build, room: Path, folder: Path) -> None:
-    texts = dict(line.split(" ", 1) for line in (room / "usr/lib/pgsub/BUILD").read_text().splitlines())
+    texts = dict(
+        line.split(" ", 1) for line in (room / "usr/lib/pgsub/BUILD").read_text().splitlines()
+    )
     size = sum(it.lstat().st_size for it in room.rglob("*") if not it.is_dir())
     needs = ", ".join(f"{name} (>= {version})" for name, version in build.needs.items())
     text = CONTROL.format(
-        version=build.version, maintainer=maintainer(), size=(size + 1023) // 1024, needs=needs, commit=texts["commit"], kit=build.kit,
+        version=build.version,
+        maintainer=maintainer(),
+        size=(size + 1023) // 1024,
+        needs=needs,
+        commit=texts["commit"],
+        kit=build.kit,
     )
     (folder / "control").write_text(text)
     for script in sorted(SCRIPTS.iterdir()):
         shutil.copy(script, folder / script.name)
         (folder / script.name).chmod(0o755)
-    plain = [it for it in sorted(room.rglob("*")) if it.is_file() and not it.is_symlink() and folder not in it.parents]
-    (folder / "md5sums").write_text("".join(f"{digest(it, 'md5')}  {it.relative_to(room)}\n" for it in plain))
+    plain = [
+        it
+        for it in sorted(room.rglob("*"))
+        if it.is_file() and not it.is_symlink() and folder not in it.parents
+    ]
+    (folder / "md5sums").write_text(
+        "".join(f"{digest(it, 'md5')}  {it.relative_to(room)}\n" for it in plain)
+    )
 
 
 def make_deb(build: Build, pages: Path, room: Path, out: Path) -> Path:
@@ -199,13 +247,26 @@ def make_tar(build: Build, pages: Path, room: Path, out: Path) -> Path:
     (room / "usr/local").rename(room / name)
     plain = run_tar(room, name, build.time)
     path = out / f"{name}.tar.gz"
-    with open(path, "wb") as file, gzip.GzipFile(filename="", mode="wb", fileobj=file, mtime=build.time) as packed:
+    with open(path, "wb") as file, gzip.GzipFile(
+        filename="", mode="wb", fileobj=file, mtime=build.time
+    ) as packed:
         packed.write(plain)
     return path
 
 
 def run_tar(room: Path, name: str, time: int) -> bytes:
-    words = ["tar", "--format=gnu", "--sort=name", "--owner=0", "--group=0", "--numeric-owner", f"--mtime=@{time}", "-cf", "-", name]
+    words = [
+        "tar",
+        "--format=gnu",
+        "--sort=name",
+        "--owner=0",
+        "--group=0",
+        "--numeric-owner",
+        f"--mtime=@{time}",
+        "-cf",
+        "-",
+        name,
+    ]
     ran = subprocess.run(words, cwd=room, stdout=subprocess.PIPE, check=False)
     if ran.returncode:
         raise Failed(f"tar: status {ran.returncode}")

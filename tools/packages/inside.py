@@ -1,7 +1,8 @@
-"""Tries a package where neither checkout nor toolchain is: it is started as root, in a copy of a machine's files.
+"""Tries a package where neither checkout nor toolchain is: it is started as root, in a copy of a
+machine's files.
 
-In its folder are README.md, the packages in `first` and `second`, the tar file, and the module that runs walkthroughs. The last line
-is `N passed, M failed`.
+In its folder are README.md, the packages in `first` and `second`, the tar file, and the module that
+runs walkthroughs. The last line is `N passed, M failed`.
 """
 
 import json
@@ -48,9 +49,13 @@ class Counts:
 def run(*words: str, user: str = "root", **more: str) -> str:
     """Runs a command as a user, and returns what it prints."""
     before = [] if user == "root" else ["runuser", "-u", user, "--"]
-    ran = subprocess.run([*before, *words], capture_output=True, text=True, env={**ENVIRONMENT, **more}, cwd="/tmp")
+    ran = subprocess.run(
+        [*before, *words], capture_output=True, text=True, env={**ENVIRONMENT, **more}, cwd="/tmp"
+    )
     if ran.returncode:
-        raise Wrong(f"{' '.join(words)}: status {ran.returncode}: {ran.stdout[-2000:]} {ran.stderr[-2000:]}")
+        raise Wrong(
+            f"{' '.join(words)}: status {ran.returncode}: {ran.stdout[-2000:]} {ran.stderr[-2000:]}"
+        )
     return ran.stdout.strip()
 
 
@@ -61,7 +66,12 @@ def bare() -> None:
     for command in ("rt", "pgsub", "pgsub-connect"):
         if subprocess.run(["which", command], stdout=subprocess.DEVNULL).returncode == 0:
             raise Wrong(f"{command} is there")
-    if subprocess.run(["/usr/bin/python3", "-c", "import psycopg"], stderr=subprocess.DEVNULL).returncode == 0:
+    if (
+        subprocess.run(
+            ["/usr/bin/python3", "-c", "import psycopg"], stderr=subprocess.DEVNULL
+        ).returncode
+        == 0
+    ):
         raise Wrong("psycopg is there")
 
 
@@ -98,7 +108,9 @@ def start_server() -> None:
     SERVER.chmod(0o755)
     run(str(binaries / "initdb"), "-D", f"{SERVER}/data", "-A", "trust", user="postgres")
     with open(SERVER / "data/postgresql.conf", "a") as file:
-        file.write(f"wal_level = logical\nlisten_addresses = ''\nunix_socket_directories = '{SERVER}'\nfsync = off\n")
+        file.write(
+            f"wal_level = logical\nlisten_addresses = ''\nunix_socket_directories = '{SERVER}'\nfsync = off\n"
+        )
     log = open(SERVER / "log", "w")
     words = ["runuser", "-u", "postgres", "--", str(binaries / "postgres"), "-D", f"{SERVER}/data"]
     subprocess.Popen(words, stdout=log, stderr=log)
@@ -107,7 +119,14 @@ def start_server() -> None:
         if time.monotonic() > until:
             raise Wrong("the server doesn't start")
         time.sleep(0.2)
-    run("psql", "-q", "-c", f"CREATE ROLE {USER} LOGIN REPLICATION CREATEDB", "postgres", user="postgres")
+    run(
+        "psql",
+        "-q",
+        "-c",
+        f"CREATE ROLE {USER} LOGIN REPLICATION CREATEDB",
+        "postgres",
+        user="postgres",
+    )
 
 
 class Following:
@@ -117,9 +136,22 @@ class Following:
         self.folder = folder
         self.log = folder / "follower.log"
         with open(self.log, "a") as log:
-            words = ["runuser", "-u", USER, "--", "pgsub-connect", "follow", "--dsn", "dbname=shop", "--store", "copy.db"]
+            words = [
+                "runuser",
+                "-u",
+                USER,
+                "--",
+                "pgsub-connect",
+                "follow",
+                "--dsn",
+                "dbname=shop",
+                "--store",
+                "copy.db",
+            ]
             words += ["--tables", "rows.db", "--status-file", "status.json"]
-            self.process = subprocess.Popen(words, cwd=folder, env={**ENVIRONMENT, "HOME": f"/home/{USER}"}, stderr=log)
+            self.process = subprocess.Popen(
+                words, cwd=folder, env={**ENVIRONMENT, "HOME": f"/home/{USER}"}, stderr=log
+            )
 
     def wait_for(self, state: str) -> dict[str, object]:
         until = time.monotonic() + SECONDS
@@ -138,14 +170,24 @@ class Following:
         for it in pids:
             os.kill(int(it), signal.SIGTERM)
         if self.process.wait(SECONDS):
-            raise Wrong(f"the follower ended with status {self.process.returncode}: {self.log.read_text()[-2000:]}")
+            raise Wrong(
+                f"the follower ended with status {self.process.returncode}: {self.log.read_text()[-2000:]}"
+            )
 
 
 def rows(folder: Path) -> dict[str, str]:
     """The rows of the server's table, those of an export, and those of the tables that follow."""
     query = "SELECT sku, quantity FROM stock ORDER BY 1"
     found = {"the server": run("psql", "-At", "-c", query, "shop", user=USER)}
-    run("pgsub-connect", "export", "--store", str(folder / "copy.db"), "--into", str(folder / "export.db"), user=USER)
+    run(
+        "pgsub-connect",
+        "export",
+        "--store",
+        str(folder / "copy.db"),
+        "--into",
+        str(folder / "export.db"),
+        user=USER,
+    )
     for what, name in (("the export", "export.db"), ("rows.db", "rows.db")):
         found[what] = run("sqlite3", str(folder / name), query, user=USER)
     return found
@@ -165,7 +207,8 @@ def follows(following: Following) -> None:
 
 
 def upgrade(counts: Counts, folder: Path) -> None:
-    """Installs the second build while the first one follows and the server changes. Nothing is lost."""
+    """Installs the second build while the first one follows and the server changes. Nothing is
+    lost."""
     insert = "INSERT INTO stock SELECT 'G-' || count(*), count(*) FROM stock"
     following = Following(folder)
     counts.tried("the first build follows", lambda: follows(following))
@@ -196,12 +239,22 @@ def upgrade(counts: Counts, folder: Path) -> None:
 
 def unpack_tar() -> None:
     """The tar file has the same, for /usr/local."""
-    run("tar", "-C", "/usr/local", "--strip-components=1", "-xzf", *(str(it) for it in HERE.glob("*.tar.gz")))
+    run(
+        "tar",
+        "-C",
+        "/usr/local",
+        "--strip-components=1",
+        "-xzf",
+        *(str(it) for it in HERE.glob("*.tar.gz")),
+    )
     told = run("/usr/local/bin/pgsub-connect", "--version")
     if run("/usr/bin/pgsub-connect", "--version").replace(".later", "") != told:
         raise Wrong(told)
     run("/usr/local/bin/pgsub", "--help")
-    if "/usr/local/bin/pgsub-connect" not in Path("/usr/local/lib/systemd/system/pgsub@.service").read_text():
+    if (
+        "/usr/local/bin/pgsub-connect"
+        not in Path("/usr/local/lib/systemd/system/pgsub@.service").read_text()
+    ):
         raise Wrong("the unit file names another connector")
 
 
@@ -217,7 +270,10 @@ def check_installed() -> None:
 def reported() -> None:
     """The program, the connector and the package tell of one build."""
     said = run("pgsub", "--version").splitlines()[-1].removeprefix("commit ").partition(", ")[2]
-    for text in (run("pgsub-connect", "--version"), run("dpkg-query", "-W", "-f", "${Description}", "pgsub")):
+    for text in (
+        run("pgsub-connect", "--version"),
+        run("dpkg-query", "-W", "-f", "${Description}", "pgsub"),
+    ):
         if said not in text:
             raise Wrong(f"the program was built by {said}, and not told is that by: {text}")
 
@@ -249,7 +305,8 @@ def removed() -> None:
 
 
 def purged() -> None:
-    """What the package made goes with it; a store and its account stay until somebody removes the store."""
+    """What the package made goes with it; a store and its account stay until somebody removes the
+    store."""
     run("apt-get", "-y", "-qq", "purge", "pgsub")
     left_of(("/etc/pgsub", "/run/pgsub", "/var/lib/pgsub/gone", "/usr/share/doc/pgsub"))
     if accounts() != ["pgsub-shop"] or not os.path.exists("/var/lib/pgsub/shop/copy.db"):

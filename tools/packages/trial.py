@@ -74,5 +74,9 @@ def try_packages(build: Build, out: Path, room: Path) -> int:
     shutil.copytree(TOP / "tools/documents", trial / "documents")
     shutil.copy(TOP / "tools/packages/inside.py", trial)
     folders = " ".join(shlex.quote(it) for it in hidden())
-    text = INSIDE.format(room=shlex.quote(str(mounted)), trial=shlex.quote(str(trial)), hidden=folders)
-    return subprocess.run(["unshare", "--mount", "--pid", "--fork", "--kill-child", "sh", "-c", text], check=False).returncode
+    text = INSIDE.format(
+        room=shlex.quote(str(mounted)), trial=shlex.quote(str(trial)), hidden=folders
+    )
+    return subprocess.run(
+        ["unshare", "--mount", "--pid", "--fork", "--kill-child", "sh", "-c", text], check=False
+    ).returncode

@@ -15,10 +15,22 @@ def make_wheel(package: Path, version: str, time: int, room: Path, out: Path) ->
     shutil.copytree(package, copy, ignore=shutil.ignore_patterns("__pycache__"))
     own = copy / "version.py"
     text = own.read_text()
-    own.write_text(text.replace(text[text.index('VERSION = "'):].split("\n", 1)[0], f'VERSION = "{version}"', 1))
+    own.write_text(
+        text.replace(
+            text[text.index('VERSION = "') :].split("\n", 1)[0], f'VERSION = "{version}"', 1
+        )
+    )
     words = ["/usr/bin/python3", "-c", CODE, str(out.resolve())]
     environment = {**os.environ, "SOURCE_DATE_EPOCH": str(time)}
-    ran = subprocess.run(words, cwd=copy, env=environment, stdout=subprocess.PIPE, stderr=subprocess.PIPE, text=True, check=False)
+    ran = subprocess.run(
+        words,
+        cwd=copy,
+        env=environment,
+        stdout=subprocess.PIPE,
+        stderr=subprocess.PIPE,
+        text=True,
+        check=False,
+    )
     if ran.returncode:
         raise RuntimeError(f"{package}: no wheel comes of it: {ran.stderr.strip()}")
     return out / ran.stdout.split()[-1]

@@ -60,7 +60,9 @@ def clauses_in(crate: str, path: Path) -> Iterator[Clause]:
         owner = next((it for at, it in reversed(owners) if at < function.start()), "")
         for it in CLAUSE.finditer(contract_at(text, function.start())):
             if it[1] == "ensures":
-                yield Clause(crate, owner if is_method else "", function[2], it[2] or "", it[3], path)
+                yield Clause(
+                    crate, owner if is_method else "", function[2], it[2] or "", it[3], path
+                )
 
 
 @dataclass
@@ -109,8 +111,12 @@ def begin(statement: Statement, clause: Clause) -> None:
 
 
 def declaration_of(crates: Path, crate: str, name: str) -> str | None:
-    """A type as its source declares it, with its documentation, None where there is none of that name."""
-    head = re.compile(rf"(?:^(?:///|#\[)[^\n]*\n)*^pub (?:struct|enum) {re.escape(name)}\b.*?(?:^\}}|;$)", re.M | re.S)
+    """A type as its source declares it, with its documentation, None where there is none of that
+    name."""
+    head = re.compile(
+        rf"(?:^(?:///|#\[)[^\n]*\n)*^pub (?:struct|enum) {re.escape(name)}\b.*?(?:^\}}|;$)",
+        re.M | re.S,
+    )
     for path in sorted((crates / crate / "src").rglob("*.rt")):
         if found := head.search(path.read_text(encoding="utf-8")):
             return found[0]

@@ -1,6 +1,7 @@
 """The definitions of the crates, and those that a clause stands on: each after those that it names.
 
-Names are resolved by the imports of each file, so a name that is imported and hidden by a local one counts too.
+Names are resolved by the imports of each file, so a name that is imported and hidden by a local one
+counts too.
 """
 
 from __future__ import annotations
@@ -37,7 +38,12 @@ class Definition:
         return "\n".join([*self.comment, *self.heads, *self.lines]).rstrip()
 
     def tokens(self) -> set[str]:
-        return {name for line in (*self.heads, *self.lines) for token in TOKEN.findall(line) for name in names_of(token)}
+        return {
+            name
+            for line in (*self.heads, *self.lines)
+            for token in TOKEN.findall(line)
+            for name in names_of(token)
+        }
 
     def given(self) -> set[str]:
         return {name for line in self.lines for name in GIVEN.findall(line)}

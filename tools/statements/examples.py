@@ -1,4 +1,5 @@
-"""The examples: definitions computed by the prover on worked cases, each with the definitions that its statement names."""
+"""The examples: definitions computed by the prover on worked cases, each with the definitions that
+its statement names."""
 
 from __future__ import annotations
 
@@ -26,7 +27,9 @@ class Example:
         return "\n".join([*self.comment, *self.lines])
 
     def tokens(self) -> set[str]:
-        return {name for line in self.lines for token in TOKEN.findall(line) for name in names_of(token)}
+        return {
+            name for line in self.lines for token in TOKEN.findall(line) for name in names_of(token)
+        }
 
 
 @dataclass

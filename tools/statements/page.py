@@ -1,4 +1,5 @@
-"""The statement as one page of HTML, self-contained and without a script: for somebody who checks what is claimed."""
+"""The statement as one page of HTML, self-contained and without a script: for somebody who checks
+what is claimed."""
 
 from __future__ import annotations
 
@@ -26,8 +27,14 @@ NOTATION = (
     ("∥ A ∥₁", "there is an A, and which one isn't said"),
     ("λ x. e", "the function that gives e for x"),
     ("x ∷ xs, a ++ b, []", "a list's first element and the others; two lists joined; no elements"),
-    ("Ok, Err, Some, None", "as in Rust; OnOk, OnErr, IfErr say what holds of a result that is one"),
-    ("x.old, x.new, x.now", "in a clause: what an argument is before the call, after it, as it is given"),
+    (
+        "Ok, Err, Some, None",
+        "as in Rust; OnOk, OnErr, IfErr say what holds of a result that is one",
+    ),
+    (
+        "x.old, x.new, x.now",
+        "in a clause: what an argument is before the call, after it, as it is given",
+    ),
     ("⊤, ⊥, Unit", "what always holds, and what never does"),
 )
 LINK = re.compile(r"\[([^\]]+)\]\(([^)\s]+)\)")
@@ -37,7 +44,9 @@ Resolve = Callable[[str], str | None]
 
 def anchor(kind: str, *parts: str) -> str:
     """The identifier of a place in the page."""
-    return "-".join([kind, *(re.sub(r"[^\w.:]", lambda it: f"_{ord(it[0]):x}", part) for part in parts)])
+    return "-".join(
+        [kind, *(re.sub(r"[^\w.:]", lambda it: f"_{ord(it[0]):x}", part) for part in parts)]
+    )
 
 
 def code(text: str, resolve: Resolve) -> str:
@@ -81,7 +90,8 @@ class Page:
         for clause in self.clauses():
             begin(self.statement, clause)
         self.known = {(it.module, it.name) for it in self.statement.found}
-        # the types that are declared in Rust, and the words of the standard library, in the order in which they come
+        # the types that are declared in Rust, and the words of the standard library, in the order
+        # in which they come
         self.types: dict[tuple[str, str], None] = {}
         self.words: dict[Name, None] = {}
 
@@ -92,7 +102,11 @@ class Page:
 
     def clauses(self) -> list[Clause]:
         """The clauses that the documents name, each once."""
-        return list(dict.fromkeys(it for found in self.sentences.values() for one in found for it in one.clauses))
+        return list(
+            dict.fromkeys(
+                it for found in self.sentences.values() for one in found for it in one.clauses
+            )
+        )
 
     def resolver(self, module: Module, source: str) -> Resolve:
         """What a word of a text in this module leads to."""
@@ -128,17 +142,27 @@ class Page:
         return head + code(text, self.resolver(imports_of(clause.path), ""))
 
     def claims(self) -> str:
-        """Each sentence of the documents beside its clauses. Clauses that the sentence before has too aren't written again."""
+        """Each sentence of the documents beside its clauses. Clauses that the sentence before has
+        too aren't written again."""
         shown, before = list[str](), tuple[Clause, ...]()
         for (file, heading, _), sentences in self.sentences.items():
             shown.append(f"<h3>{html.escape(heading)} <small>{file}</small></h3>")
             for it in sentences:
-                says = prose(it.text.removeprefix("- ")) if it.kind != "code" else f"<pre>{html.escape(it.text)}</pre>"
+                says = (
+                    prose(it.text.removeprefix("- "))
+                    if it.kind != "code"
+                    else f"<pre>{html.escape(it.text)}</pre>"
+                )
                 if it.clauses and it.clauses == before:
-                    names = "<p class=\"name\">as above</p>"
+                    names = '<p class="name">as above</p>'
                 else:
-                    names = "".join(map(self.clause, it.clauses)) or '<p class="none">names no clause</p>'
-                shown.append(f'<div class="claim"><div class="says {it.kind}">{says}</div><div>{names}</div></div>')
+                    names = (
+                        "".join(map(self.clause, it.clauses))
+                        or '<p class="none">names no clause</p>'
+                    )
+                shown.append(
+                    f'<div class="claim"><div class="says {it.kind}">{says}</div><div>{names}</div></div>'
+                )
                 before = it.clauses
         return "\n".join(shown)
 
@@ -151,9 +175,14 @@ class Page:
             if it.module != last and module:
                 shown.append(f"<h3>{html.escape(it.module)}</h3>")
                 if it.module not in headed:
-                    links = [f'<a href="{html.escape(one.url)}">{html.escape(one.title)}</a>' for one in sections.get(it.module, [])]
+                    links = [
+                        f'<a href="{html.escape(one.url)}">{html.escape(one.title)}</a>'
+                        for one in sections.get(it.module, [])
+                    ]
                     shown.append(f"<p>{prose(comment_of(module.head))}</p>")
-                    shown.append(f"<p>PostgreSQL documentation: {', '.join(links)}</p>" if links else "")
+                    shown.append(
+                        f"<p>PostgreSQL documentation: {', '.join(links)}</p>" if links else ""
+                    )
                 last = it.module
                 headed.add(last)
             if module:
@@ -162,8 +191,14 @@ class Page:
 
     def definition(self, it: Definition, module: Module) -> str:
         cases = self.cases().get((it.module, it.name), [])
-        links = ", ".join(f'<a href="#{anchor("e", *case)}">{html.escape(case[1])}</a>' for case in cases)
-        held = f"<details><summary>{len(cases)} examples</summary><p>{links}</p></details>" if cases else ""
+        links = ", ".join(
+            f'<a href="#{anchor("e", *case)}">{html.escape(case[1])}</a>' for case in cases
+        )
+        held = (
+            f"<details><summary>{len(cases)} examples</summary><p>{links}</p></details>"
+            if cases
+            else ""
+        )
         return f'<section id="{anchor("d", it.module, it.name)}">{code(it.text(), self.resolver(module, it.module))}{held}</section>'
 
     def all_cases(self) -> list[Cases]:
@@ -188,24 +223,32 @@ class Page:
         for cases in self.all_cases():
             own = [it for it in cases.examples if (cases.name, it.name) in used]
             if own:
-                shown.append(f"<h3>{html.escape(cases.name)}</h3><p>{prose(comment_of(cases.module.head))}</p>")
+                shown.append(
+                    f"<h3>{html.escape(cases.name)}</h3><p>{prose(comment_of(cases.module.head))}</p>"
+                )
             for it in own:
                 text = code(it.text(), self.resolver(cases.module, cases.name))
                 shown.append(f'<section id="{anchor("e", cases.name, it.name)}">{text}</section>')
         return "\n".join(shown)
 
     def declared(self) -> str:
-        """The types that the sources declare, and from which the prover derives those of the definitions."""
+        """The types that the sources declare, and from which the prover derives those of the
+        definitions."""
         shown = []
         for crate, name in sorted(self.types):
             text = declaration_of(self.crates, crate, name)
-            shown.append(f'<section id="{anchor("t", crate, name)}"><p class="name">{crate}::{name}</p>')
+            shown.append(
+                f'<section id="{anchor("t", crate, name)}"><p class="name">{crate}::{name}</p>'
+            )
             shown.append(f"<pre>{html.escape(text)}</pre></section>" if text else "</section>")
         return "\n".join(shown)
 
     def library(self) -> str:
         """The words of the standard library and the SQL library, each with its module."""
-        rows = [f'<li id="{anchor("w", *it)}"><code>{html.escape(it[1])}</code> <small>{html.escape(it[0])}</small></li>' for it in sorted(self.words)]
+        rows = [
+            f'<li id="{anchor("w", *it)}"><code>{html.escape(it[1])}</code> <small>{html.escape(it[0])}</small></li>'
+            for it in sorted(self.words)
+        ]
         return f'<ul class="words">{"".join(rows)}</ul>'
 
     def counts(self) -> str:
@@ -214,13 +257,18 @@ class Page:
             own = Statement(self.crates)
             begin(own, self.contracts.named(title))
             lines = sum(1 for it in own.found for line in it.lines if line.strip())
-            rows.append(f"<li><code>{html.escape(title)}</code> stands on {len(own.found)} definitions in {lines} lines</li>")
+            rows.append(
+                f"<li><code>{html.escape(title)}</code> stands on {len(own.found)} definitions in {lines} lines</li>"
+            )
         return f"<ul>{''.join(rows)}</ul>"
 
     def whole(self) -> str:
         kits = (self.top / "KITS").read_text(encoding="utf-8").splitlines()
         kit = ", ".join(it for it in kits if it and not it.startswith("#"))
-        notation = "".join(f"<dt><code>{html.escape(sign)}</code></dt><dd>{html.escape(said)}</dd>" for sign, said in NOTATION)
+        notation = "".join(
+            f"<dt><code>{html.escape(sign)}</code></dt><dd>{html.escape(said)}</dd>"
+            for sign, said in NOTATION
+        )
         # (types and words are gathered while the others are written)
         claims, definitions, examples = self.claims(), self.definitions(), self.examples()
         parts = (
@@ -231,8 +279,12 @@ class Page:
             ("library", "Words of the libraries", self.library()),
             ("examples", "The examples that hold the definitions to their meaning", examples),
         )
-        links = " · ".join(f'<a href="#{name}">{html.escape(title)}</a>' for name, title, _ in parts)
-        body = "\n".join(f'<h2 id="{name}">{html.escape(title)}</h2>\n{text}' for name, title, text in parts)
+        links = " · ".join(
+            f'<a href="#{name}">{html.escape(title)}</a>' for name, title, _ in parts
+        )
+        body = "\n".join(
+            f'<h2 id="{name}">{html.escape(title)}</h2>\n{text}' for name, title, text in parts
+        )
         return (
             '<!doctype html>\n<html lang="en"><head><meta charset="utf-8"><meta name="viewport" content="width=device-width">'
             f"<title>Raspmyrtle: the statement</title><style>{STYLE}</style></head><body>\n"

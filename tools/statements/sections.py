@@ -1,4 +1,5 @@
-"""The sections of PostgreSQL's documentation that each module of definitions states, as docs/PROTOCOL.md names them."""
+"""The sections of PostgreSQL's documentation that each module of definitions states, as
+docs/PROTOCOL.md names them."""
 
 from __future__ import annotations
 

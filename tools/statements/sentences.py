@@ -1,8 +1,9 @@
 """What the documents say is proved, each sentence with the clauses that it names.
 
-A sentence names a clause in a code span: `follow`'s clause `safe` as "clause `safe` of `pgsub_core::follow`", a law by its name. Where a
-function is named once, the clauses that follow it are its own. The lines of a quotation or a list stand for the sentence before them that
-ends with a colon, unless they name clauses themselves.
+A sentence names a clause in a code span: `follow`'s clause `safe` as "clause `safe` of
+`pgsub_core::follow`", a law by its name. Where a function is named once, the clauses that follow it
+are its own. The lines of a quotation or a list stand for the sentence before them that ends with a
+colon, unless they name clauses themselves.
 """
 
 from __future__ import annotations
@@ -39,7 +40,8 @@ class Sentence:
 
 
 class Reader:
-    """Reads a section: which functions are spoken of, and what the lines below a colon stand for."""
+    """Reads a section: which functions are spoken of, and what the lines below a colon stand
+    for."""
 
     def __init__(self, contracts: Contracts, crate: str = "") -> None:
         self.contracts = contracts
@@ -61,7 +63,9 @@ class Reader:
         crate = next((it for it in places if it[0].islower()), "")
         for home in [crate] if crate else [self.crate, ""]:
             if found := self.contracts.of(name, home, owner):
-                return found if crate or owner or home or len({it.crate for it in found}) == 1 else []
+                return (
+                    found if crate or owner or home or len({it.crate for it in found}) == 1 else []
+                )
         return []
 
     def named_in(self, text: str) -> list[Clause]:
@@ -111,7 +115,8 @@ def blocks_of(section: str) -> Iterator[tuple[str, str]]:
 
 
 def sentences_of(section: str, contracts: Contracts, crate: str = "") -> list[Sentence]:
-    """The sentences of a section, in their order. A function that is named alone is this crate's, if it has one of that name."""
+    """The sentences of a section, in their order. A function that is named alone is this crate's,
+    if it has one of that name."""
     reader, found = Reader(contracts, crate), list[Sentence]()
     for text, kind in blocks_of(section):
         parts = SENTENCE.split(text) if not kind else [text]

@@ -1,7 +1,8 @@
-"""Stores that SQL text has made or changed, and what the program makes of each: it takes the file and goes on with it, or refuses it.
+"""Stores that SQL text has made or changed, and what the program makes of each: it takes the file
+and goes on with it, or refuses it.
 
-The statements are SQLite's own, over the tables of docs/ARCHITECTURE.md, "The file of a store". Numbers in them are decimal: 100 is the
-letter d, 102 f, 110 n.
+The statements are SQLite's own, over the tables of docs/ARCHITECTURE.md, "The file of a store".
+Numbers in them are decimal: 100 is the letter d, 102 f, 110 n.
 """
 
 from __future__ import annotations
@@ -30,7 +31,9 @@ T = Table(16384, "public", "t", "d", ("id",), ("v",))
 # tables without a usable key
 F = Table(16386, "public", "f", "f", ("v",))
 N = Table(16387, "public", "n", "n", (), ("v",))
-FIRST, LATER = Table(16384, "", "first", "f", (), ("v",)), Table(16385, "public", "later", "d", ("k",))
+FIRST, LATER = Table(16384, "", "first", "f", (), ("v",)), Table(
+    16385, "public", "later", "d", ("k",)
+)
 LAST = Table(4294967295, "", "", "f")
 
 
@@ -75,7 +78,8 @@ class Taken:
 
 @dataclass(frozen=True)
 class Case:
-    """Statements over what they find, and what the program makes of it: a store, or the fault with which it refuses the file."""
+    """Statements over what they find, and what the program makes of it: a store, or the fault with
+    which it refuses the file."""
 
     group: str
     change: str
@@ -92,7 +96,9 @@ class Case:
 
 def goes_on(rows: tuple[HeldRow, ...], then: tuple[HeldRow, ...]) -> Taken:
     """A store with these rows, and those to which FURTHER leads."""
-    return Taken(replace(FILLED, rows=rows), ((Commit(0x230, FURTHER), State(FILLED.tables, then, 0x230)),))
+    return Taken(
+        replace(FILLED, rows=rows), ((Commit(0x230, FURTHER), State(FILLED.tables, then, 0x230)),)
+    )
 
 
 def begins(state: State) -> Taken:
@@ -111,13 +117,22 @@ SOUND = goes_on(FILLED.rows, (held(T, "1", "b"), held(F, "x"), held(F, "y"), BIN
 
 # What the program itself makes.
 MADE = (
-    ("a position alone", Taken(State(), ((Commit(0x130), State(position=0x130)), (Commit(0x230), State(position=0x230))))),
+    (
+        "a position alone",
+        Taken(
+            State(),
+            ((Commit(0x130), State(position=0x130)), (Commit(0x230), State(position=0x230))),
+        ),
+    ),
     (
         "rows, and then a position alone",
         Taken(
             State(),
             (
-                (Commit(0x0100_0000_0000_0130, FILLING), replace(FILLED, position=0x0100_0000_0000_0130)),
+                (
+                    Commit(0x0100_0000_0000_0130, FILLING),
+                    replace(FILLED, position=0x0100_0000_0000_0130),
+                ),
                 (Commit(0xFFFF_FFFF_FFFF_FF00), replace(FILLED, position=0xFFFF_FFFF_FFFF_FF00)),
             ),
         ),
@@ -140,28 +155,49 @@ SCHEMAS: tuple[tuple[str, tuple[str, ...], bool], ...] = (
     ("no table for the position", (REL, HELD), True),
     ("no table", (), True),
     ("a table more", (REL, HELD, POS, "CREATE TABLE more (id INTEGER PRIMARY KEY)"), False),
-    # A column that may be null, one of another type, a wider identity, no STRICT, and another test of the position.
+    # A column that may be null, one of another type, a wider identity, no STRICT, and another test
+    # of the position.
     ("a column that may be null", (REL, but(HELD, "body BLOB NOT NULL", "body BLOB"), POS), False),
     ("a column of another type", (REL, but(HELD, "body BLOB", "body TEXT"), POS), False),
-    ("a wider identity", (REL, but(HELD, "KEY (oid, ident)", "KEY (oid, ident, body)"), POS), False),
+    (
+        "a wider identity",
+        (REL, but(HELD, "KEY (oid, ident)", "KEY (oid, ident, body)"), POS),
+        False,
+    ),
     ("a table that isn't STRICT", (REL, but(HELD, " STRICT", ""), POS), False),
     ("another test of the position", (REL, HELD, but(POS, "id = 0", "id = 1")), False),
     # An index, a view and a trigger.
     ("an index", (REL, HELD, POS, "CREATE INDEX by_body ON held (body)"), False),
     ("a view", (REL, HELD, POS, "CREATE VIEW names AS SELECT name FROM rel"), False),
-    ("a trigger", (REL, HELD, POS, "CREATE TRIGGER gone AFTER DELETE ON held BEGIN DELETE FROM rel; END"), False),
-    # A table of a store's name with other columns, the tables in another order, and another program's.
-    ("definitions without columns", ("CREATE TABLE rel (oid INTEGER PRIMARY KEY)", HELD, POS), False),
+    (
+        "a trigger",
+        (REL, HELD, POS, "CREATE TRIGGER gone AFTER DELETE ON held BEGIN DELETE FROM rel; END"),
+        False,
+    ),
+    # A table of a store's name with other columns, the tables in another order, and another
+    # program's.
+    (
+        "definitions without columns",
+        ("CREATE TABLE rel (oid INTEGER PRIMARY KEY)", HELD, POS),
+        False,
+    ),
     ("another order", (HELD, POS, REL), False),
-    ("another program's", ("PRAGMA journal_mode = DELETE", "CREATE TABLE note (id INTEGER PRIMARY KEY, text TEXT)"), False),
+    (
+        "another program's",
+        ("PRAGMA journal_mode = DELETE", "CREATE TABLE note (id INTEGER PRIMARY KEY, text TEXT)"),
+        False,
+    ),
 )
 
 
 def stored(
-    oid: int = 16384, letter: int = 102, rows: tuple[tuple[int, str, int], ...] = ((16384, "78", 7),), lsn: str = "0000000000000130"
+    oid: int = 16384,
+    letter: int = 102,
+    rows: tuple[tuple[int, str, int], ...] = ((16384, "78", 7),),
+    lsn: str = "0000000000000130",
 ) -> str:
-    """Statements that fill empty tables: with the table FIRST, with its rows, each by its OID, the digits of its text and its copies, and
-    with a position. By themselves they make a store."""
+    """Statements that fill empty tables: with the table FIRST, with its rows, each by its OID, the
+    digits of its text and its copies, and with a position. By themselves they make a store."""
     columns = FIRST.columns.hex()
     texts = [f"INSERT INTO rel VALUES ({oid}, '', 'first', {letter}, x'{columns}')"]
     for number, digits, copies in rows:
@@ -188,7 +224,11 @@ READ: tuple[tuple[str, str, Taken | str], ...] = (
             (
                 (
                     Commit(0x230, (*LESS.changes, inserted(LATER, "2"))),
-                    replace(SIX, tables=(LATER, FIRST), rows=(*SIX.rows, held(LATER, "1"), held(LATER, "2"))),
+                    replace(
+                        SIX,
+                        tables=(LATER, FIRST),
+                        rows=(*SIX.rows, held(LATER, "1"), held(LATER, "2")),
+                    ),
                 ),
             ),
         ),
@@ -200,10 +240,19 @@ READ: tuple[tuple[str, str, Taken | str], ...] = (
         "INSERT INTO pos VALUES (0, x'0000000000000130')",
         Taken(
             State((LAST,), (held(LAST, copies=2147483647),), 0x130),
-            ((Commit(0x230, (deleted(LAST), deleted(LAST), inserted(LAST))), State((LAST,), (held(LAST, copies=2147483646),), 0x230)),),
+            (
+                (
+                    Commit(0x230, (deleted(LAST), deleted(LAST), inserted(LAST))),
+                    State((LAST,), (held(LAST, copies=2147483646),), 0x230),
+                ),
+            ),
         ),
     ),
-    ("the greatest position", stored(lsn="ffffffffffffffff"), stays(replace(SEVEN, position=GREATEST))),
+    (
+        "the greatest position",
+        stored(lsn="ffffffffffffffff"),
+        stays(replace(SEVEN, position=GREATEST)),
+    ),
     ("the greatest letter", stored(letter=4294967295, rows=()), NOT_A_STORE),
     # Numbers that are too large or below 0; some are those of a store in their last 32 bits.
     ("a definition's OID above all", stored(oid=4294967296, rows=()), NOT_A_STORE),
@@ -215,9 +264,17 @@ READ: tuple[tuple[str, str, Taken | str], ...] = (
     ("a letter below 0 that ends as one", stored(letter=-4294967296 + 102, rows=()), NOT_A_STORE),
     ("copies above all", stored(rows=((16384, "78", 4294967296),)), NOT_A_STORE),
     ("copies above all that end as one", stored(rows=((16384, "78", 4294967297),)), NOT_A_STORE),
-    ("a second row of too many copies", stored(rows=((16384, "78", 1), (16384, "79", 2147483648))), NOT_A_STORE),
+    (
+        "a second row of too many copies",
+        stored(rows=((16384, "78", 1), (16384, "79", 2147483648))),
+        NOT_A_STORE,
+    ),
     # Eight bytes, seven, and nine.
-    ("a position of eight bytes", "INSERT INTO pos VALUES (0, x'0000000000000130')", begins(State(position=0x130))),
+    (
+        "a position of eight bytes",
+        "INSERT INTO pos VALUES (0, x'0000000000000130')",
+        begins(State(position=0x130)),
+    ),
     ("a position of seven bytes", "INSERT INTO pos VALUES (0, x'00000000000130')", NOT_A_STORE),
     ("a position of nine bytes", "INSERT INTO pos VALUES (0, x'000000000000000130')", NOT_A_STORE),
 )
@@ -236,7 +293,8 @@ DROPS: tuple[tuple[str, Taken | str], ...] = (
 
 # What no store writes.
 WRONG = (
-    # Definitions: a letter of no replica identity, names with a zero byte, columns that can't be decoded.
+    # Definitions: a letter of no replica identity, names with a zero byte, columns that can't be
+    # decoded.
     "UPDATE rel SET letter = 120 WHERE oid = 16386",
     "UPDATE rel SET letter = 356 WHERE oid = 16386",
     "UPDATE rel SET name = CAST(x'6600' AS TEXT) WHERE oid = 16386",
@@ -248,7 +306,8 @@ WRONG = (
     # Another identity, under a key and without one.
     "UPDATE held SET ident = x'0001740000000132' WHERE oid = 16384",
     "UPDATE held SET ident = x'0001740000000179' WHERE oid = 16386",
-    # A byte after the row, a cell too many, a cell that wasn't sent, and a body that can't be decoded.
+    # A byte after the row, a cell too many, a cell that wasn't sent, and a body that can't be
+    # decoded.
     "UPDATE held SET body = x'000274000000013174000000016100' WHERE oid = 16384",
     "UPDATE held SET body = x'00037400000001317400000001616E' WHERE oid = 16384",
     "UPDATE held SET body = x'000274000000013175' WHERE oid = 16384",
@@ -278,7 +337,10 @@ RIGHT: tuple[tuple[str, Taken], ...] = (
     ),
     (
         "UPDATE held SET ident = x'0001740000000179', body = x'0001740000000179' WHERE oid = 16386",
-        goes_on((held(T, "1", "a"), held(F, "y", copies=2), BINARY), (held(T, "1", "b"), held(F, "y", copies=3), BINARY)),
+        goes_on(
+            (held(T, "1", "a"), held(F, "y", copies=2), BINARY),
+            (held(T, "1", "b"), held(F, "y", copies=3), BINARY),
+        ),
     ),
     (
         "UPDATE held SET body = x'00027400000001316E' WHERE oid = 16384",
@@ -287,7 +349,10 @@ RIGHT: tuple[tuple[str, Taken], ...] = (
             (held(T, "1", "b"), held(F, "x"), held(F, "y"), BINARY),
         ),
     ),
-    ("UPDATE rel SET letter = 110 WHERE oid = 16386", replace(SOUND, state=replace(FILLED, tables=(T, replace(F, letter="n"), N)))),
+    (
+        "UPDATE rel SET letter = 110 WHERE oid = 16386",
+        replace(SOUND, state=replace(FILLED, tables=(T, replace(F, letter="n"), N))),
+    ),
     ("UPDATE pos SET lsn = x'FFFFFFFFFFFFFFFF'", stays(replace(FILLED, position=GREATEST))),
     ("DELETE FROM held", goes_on((), (held(F, "y"),))),
 )
@@ -312,8 +377,14 @@ DROPPED: tuple[tuple[str, Taken | str], ...] = (
     # Another table beside.
     ("DROP TABLE held; CREATE TABLE other (x INTEGER)", NOT_A_STORE),
     # Another table, and one of a store's names with other columns, in place of all.
-    ("DROP TABLE rel; DROP TABLE held; DROP TABLE pos; CREATE TABLE other (x INTEGER)", NOT_A_STORE),
-    ("DROP TABLE rel; DROP TABLE held; DROP TABLE pos; CREATE TABLE rel (oid INTEGER PRIMARY KEY NOT NULL)", NOT_A_STORE),
+    (
+        "DROP TABLE rel; DROP TABLE held; DROP TABLE pos; CREATE TABLE other (x INTEGER)",
+        NOT_A_STORE,
+    ),
+    (
+        "DROP TABLE rel; DROP TABLE held; DROP TABLE pos; CREATE TABLE rel (oid INTEGER PRIMARY KEY NOT NULL)",
+        NOT_A_STORE,
+    ),
 )
 
 SECOND = "INSERT INTO pos VALUES (1, x'0000000000000131')"
@@ -324,12 +395,23 @@ def cases() -> Iterator[Case]:
     for told, made in MADE:
         yield Case("made", "", made, Start.NO_FILE, told)
     for told, texts, is_ours in SCHEMAS:
-        yield Case("schema", "; ".join(texts), begins(State()) if is_ours else NOT_A_STORE, Start.NO_TABLES, told)
+        yield Case(
+            "schema",
+            "; ".join(texts),
+            begins(State()) if is_ours else NOT_A_STORE,
+            Start.NO_TABLES,
+            told,
+        )
     for told, text, outcome in READ:
         yield Case("read", text, outcome, Start.EMPTY, told)
     for text, outcome in DROPS:
         yield Case("drops", f"{stored()}; {text}", outcome, Start.EMPTY, text or "nothing")
-    yield Case("other columns", "DROP TABLE rel; CREATE TABLE rel (oid INTEGER PRIMARY KEY)", NOT_A_STORE, Start.EMPTY)
+    yield Case(
+        "other columns",
+        "DROP TABLE rel; CREATE TABLE rel (oid INTEGER PRIMARY KEY)",
+        NOT_A_STORE,
+        Start.EMPTY,
+    )
     yield Case("second position", "", SOUND, rejected=SECOND, told="SQLite rejects it")
     yield Case("second position", f"{UNCHECKED}; {SECOND}", REFUSED)
     yield Case("second position", f"{UNCHECKED}; UPDATE pos SET id = 1", REFUSED)
@@ -343,8 +425,9 @@ def cases() -> Iterator[Case]:
 
 @dataclass(frozen=True)
 class Beside:
-    """Statements that another process runs over a store with the rows of FILLED, and what the program makes of the file once the
-    process has ended or was killed. Before it has ended the file is refused, and where its journal is left, until SQLite has used that."""
+    """Statements that another process runs over a store with the rows of FILLED, and what the
+    program makes of the file once the process has ended or was killed. Before it has ended the file
+    is refused, and where its journal is left, until SQLite has used that."""
 
     told: str
     statements: tuple[str, ...]
@@ -379,6 +462,16 @@ BESIDE = (
     Beside("killed after a commit", (THREE,), THREE_COPIES, is_killed=True),
     Beside("killed after a commit of what no store writes", (NONE,), NOT_A_STORE, is_killed=True),
     Beside("killed amid a transaction", (THREE, *MANY), THREE_COPIES, is_killed=True),
-    Beside("killed amid a transaction, after what no store writes", (NONE, *MANY), NOT_A_STORE, is_killed=True),
-    Beside("killed amid a transaction with a journal", (JOURNAL, *MANY), is_killed=True, has_journal=True),
+    Beside(
+        "killed amid a transaction, after what no store writes",
+        (NONE, *MANY),
+        NOT_A_STORE,
+        is_killed=True,
+    ),
+    Beside(
+        "killed amid a transaction with a journal",
+        (JOURNAL, *MANY),
+        is_killed=True,
+        has_journal=True,
+    ),
 )

@@ -57,7 +57,9 @@ def make_tables(base: sqlite3.Connection) -> None:
 def read(base: sqlite3.Connection) -> Contents:
     """Reads the tables of a sound store."""
     found = Contents()
-    for oid, namespace, name, letter, columns in base.execute("SELECT oid, nsp, name, letter, cols FROM rel"):
+    for oid, namespace, name, letter, columns in base.execute(
+        "SELECT oid, nsp, name, letter, cols FROM rel"
+    ):
         found.relations[oid] = Relation(namespace, name, letter, columns)
     for oid, identity, body, copies in base.execute("SELECT oid, ident, body, copies FROM held"):
         found.rows[oid, identity] = Row(body, copies)
@@ -83,5 +85,7 @@ def differences(found: Contents, wanted: Contents) -> list[str]:
     for key in sorted(found.rows.keys() | wanted.rows.keys()):
         row, other = found.rows.get(key), wanted.rows.get(key)
         if row != other:
-            told.append(f"the row {key[0]} {shortened(key[1].hex())} is {shortened(row)}, not {shortened(other)}")
+            told.append(
+                f"the row {key[0]} {shortened(key[1].hex())} is {shortened(row)}, not {shortened(other)}"
+            )
     return told

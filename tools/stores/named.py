@@ -1,4 +1,5 @@
-"""Tables, rows and commits by their names: as a recording sends them, as a store's file holds them, and as a dump shows them.
+"""Tables, rows and commits by their names: as a recording sends them, as a store's file holds them,
+and as a dump shows them.
 
 PostgreSQL documentation, Streaming Replication Protocol and Logical Replication Message Formats.
 """
@@ -46,7 +47,10 @@ class Table:
         """How they are encoded."""
         parts = [struct.pack(">h", len(self.key) + len(self.others))]
         for flag, names in ((b"\1", self.key), (b"\0", self.others)):
-            parts += [flag + name.encode() + b"\0" + struct.pack(">Ii", TEXT_TYPE, NO_MODIFIER) for name in names]
+            parts += [
+                flag + name.encode() + b"\0" + struct.pack(">Ii", TEXT_TYPE, NO_MODIFIER)
+                for name in names
+            ]
         return b"".join(parts)
 
     @property
@@ -96,7 +100,11 @@ class State:
     @property
     def contents(self) -> Contents:
         relations = {it.oid: it.relation for it in self.tables}
-        return Contents(relations, {it.key: Row(tuple_of(it.cells), it.copies) for it in self.rows}, self.position)
+        return Contents(
+            relations,
+            {it.key: Row(tuple_of(it.cells), it.copies) for it in self.rows},
+            self.position,
+        )
 
     @property
     def dump(self) -> bytes:
@@ -114,7 +122,9 @@ class Change:
 
     def message(self) -> bytes:
         kind = b"O" if self.letter == "D" else b"N"
-        return self.letter.encode() + struct.pack(">I", self.table.oid) + kind + tuple_of(self.cells)
+        return (
+            self.letter.encode() + struct.pack(">I", self.table.oid) + kind + tuple_of(self.cells)
+        )
 
 
 @dataclass(frozen=True)
@@ -129,10 +139,16 @@ class Commit:
         lsn = self.end - 0x30
         inner = [it.message() for it in dict.fromkeys(change.table for change in self.changes)]
         inner += [it.message() for it in self.changes]
-        return [struct.pack(">cQqI", b"B", lsn, 0, 10), *inner, struct.pack(">cBQQq", b"C", 0, lsn, self.end, 0)]
+        return [
+            struct.pack(">cQqI", b"B", lsn, 0, 10),
+            *inner,
+            struct.pack(">cBQQq", b"C", 0, lsn, self.end, 0),
+        ]
 
     @property
     def recording(self) -> str:
         """A session that sends it alone, a line for each frame."""
-        frames = [struct.pack(">cIcQQq", b"d", 29 + len(it), b"w", 0, 0, 0) + it for it in self.messages()]
+        frames = [
+            struct.pack(">cIcQQq", b"d", 29 + len(it), b"w", 0, 0, 0) + it for it in self.messages()
+        ]
         return "".join(f"{it.hex()}\n" for it in frames)

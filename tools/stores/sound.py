@@ -16,7 +16,9 @@ from .form import Malformed, Shape, shape_of
 # more of one file aren't told
 MOST_TOLD = 10
 MAGIC = b"SQLite format 3\0"
-OBJECTS: set[tuple[str, str, str | None]] = {("table", name, text) for name, text in TABLES.items()} | {("index", INDEX, None)}
+OBJECTS: set[tuple[str, str, str | None]] = {
+    ("table", name, text) for name, text in TABLES.items()
+} | {("index", INDEX, None)}
 
 
 def log_of(path: Path) -> Path:
@@ -26,7 +28,8 @@ def log_of(path: Path) -> Path:
 
 @contextlib.contextmanager
 def at_rest(path: Path) -> Iterator[sqlite3.Connection]:
-    """Opens a file that nobody writes, without its log: a run that has ended has put that into it. Nothing is made beside it."""
+    """Opens a file that nobody writes, without its log: a run that has ended has put that into it.
+    Nothing is made beside it."""
     name = f"file:{urllib.parse.quote(str(path.absolute()))}?mode=ro&immutable=1"
     with contextlib.closing(sqlite3.connect(name, uri=True, isolation_level=None)) as base:
         yield base
@@ -34,7 +37,8 @@ def at_rest(path: Path) -> Iterator[sqlite3.Connection]:
 
 @contextlib.contextmanager
 def copied(path: Path) -> Iterator[sqlite3.Connection]:
-    """Opens a copy of a file and of its log, as after a crash: the file itself and its log stay as they are."""
+    """Opens a copy of a file and of its log, as after a crash: the file itself and its log stay as
+    they are."""
     with tempfile.TemporaryDirectory(prefix="store-", dir=path.parent) as folder:
         copy = Path(folder, "copy.db")
         for here, there in ((path, copy), (log_of(path), log_of(copy))):
@@ -47,7 +51,11 @@ def copied(path: Path) -> Iterator[sqlite3.Connection]:
 def broken_parts(base: sqlite3.Connection) -> list[str]:
     """What `PRAGMA integrity_check` tells, but `ok`."""
     told = [row[0] for row in base.execute(f"PRAGMA integrity_check({MOST_TOLD})")]
-    return [f"integrity_check: {it}" for it in told if it != "ok"] if told else ["integrity_check tells nothing"]
+    return (
+        [f"integrity_check: {it}" for it in told if it != "ok"]
+        if told
+        else ["integrity_check tells nothing"]
+    )
 
 
 def plain(text: str | None) -> str | None:
@@ -56,13 +64,21 @@ def plain(text: str | None) -> str | None:
 
 
 def wrong_objects(base: sqlite3.Connection, in_other_words: bool = False) -> list[str]:
-    """Whether the file has a store's tables with their index, and nothing else; the texts may have other blanks and small letters."""
+    """Whether the file has a store's tables with their index, and nothing else; the texts may have
+    other blanks and small letters."""
     found = set(base.execute("SELECT type, name, sql FROM sqlite_schema"))
     wanted = OBJECTS
     if in_other_words:
-        found, wanted = ({(kind, name, plain(text)) for kind, name, text in them} for them in (found, wanted))
-    told = [f"there is no {kind} {name} as a store's" for kind, name, _ in sorted(wanted - found, key=str)]
-    return told + [f"there is a {kind} {name}: {text}" for kind, name, text in sorted(found - wanted, key=str)]
+        found, wanted = (
+            {(kind, name, plain(text)) for kind, name, text in them} for them in (found, wanted)
+        )
+    told = [
+        f"there is no {kind} {name} as a store's"
+        for kind, name, _ in sorted(wanted - found, key=str)
+    ]
+    return told + [
+        f"there is a {kind} {name}: {text}" for kind, name, text in sorted(found - wanted, key=str)
+    ]
 
 
 def wrong_rows(base: sqlite3.Connection) -> list[str]:
@@ -74,7 +90,9 @@ def wrong_rows(base: sqlite3.Connection) -> list[str]:
             shapes[oid] = shape_of(oid, Relation(*relation))
         except Malformed as malformed:
             told.append(f"relation {oid}: {malformed}")
-    for rowid, oid, identity, *row in base.execute("SELECT rowid, oid, ident, body, copies FROM held NOT INDEXED"):
+    for rowid, oid, identity, *row in base.execute(
+        "SELECT rowid, oid, ident, body, copies FROM held NOT INDEXED"
+    ):
         try:
             if oid not in shapes:
                 raise Malformed("its relation has no definition")
@@ -100,10 +118,17 @@ def is_bare(base: sqlite3.Connection) -> bool:
     return not base.execute("SELECT name FROM sqlite_schema").fetchall()
 
 
-def findings_of(base: sqlite3.Connection, wanted: Contents | None = None, in_other_words: bool = False) -> list[str]:
-    """What is wrong with a store that is open, the first of it; nothing where it is sound and holds what is wanted."""
+def findings_of(
+    base: sqlite3.Connection, wanted: Contents | None = None, in_other_words: bool = False
+) -> list[str]:
+    """What is wrong with a store that is open, the first of it; nothing where it is sound and holds
+    what is wanted."""
     try:
-        told = broken_parts(base) or wrong_objects(base, in_other_words) or wrong_rows(base) + wrong_position(base)
+        told = (
+            broken_parts(base)
+            or wrong_objects(base, in_other_words)
+            or wrong_rows(base) + wrong_position(base)
+        )
         if not told and wanted is not None:
             told = differences(read(base), wanted)
     except sqlite3.Error as error:
@@ -112,7 +137,8 @@ def findings_of(base: sqlite3.Connection, wanted: Contents | None = None, in_oth
 
 
 def findings(path: Path, wanted: Contents | None = None, in_other_words: bool = False) -> list[str]:
-    """What is wrong with a store's file at rest; nothing where it is sound and holds what is wanted."""
+    """What is wrong with a store's file at rest; nothing where it is sound and holds what is
+    wanted."""
     if not path.exists():
         return ["there is no file"]
     with at_rest(path) as base:
@@ -120,7 +146,8 @@ def findings(path: Path, wanted: Contents | None = None, in_other_words: bool = 
 
 
 def findings_with_log(path: Path) -> list[str]:
-    """What is wrong with a store's file and its log as a run left them that may have made no file or no tables yet."""
+    """What is wrong with a store's file and its log as a run left them that may have made no file
+    or no tables yet."""
     if not path.exists():
         return []
     with copied(path) as base:

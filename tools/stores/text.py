@@ -1,4 +1,5 @@
-"""A writer that takes a store's file from what it holds to what it shall hold, by SQL text: as any program with SQLite may.
+"""A writer that takes a store's file from what it holds to what it shall hold, by SQL text: as any
+program with SQLite may.
 
 Of the statements that do the same it takes one or another, at random.
 """
@@ -54,14 +55,22 @@ class Plan:
 
     def statements(self) -> list[Statement]:
         first = self.emptied()
-        others = [*self.moved(), *self.deleted(), *self.inserted(), *self.updated(), *self.defined()]
+        others = [
+            *self.moved(),
+            *self.deleted(),
+            *self.inserted(),
+            *self.updated(),
+            *self.defined(),
+        ]
         others.append((SET_POSITION, (self.after.position.to_bytes(8, "big"),)))
         self.rng.shuffle(others)
         return first + others
 
     def emptied(self) -> list[Statement]:
         """One statement for each table that loses all of its rows, mostly."""
-        gone = oids_of(self.before.rows) - {oid for oid, identity in self.before.rows if (oid, identity) in self.after.rows}
+        gone = oids_of(self.before.rows) - {
+            oid for oid, identity in self.before.rows if (oid, identity) in self.after.rows
+        }
         gone = {oid for oid in gone if self.rng.random() < 0.8}
         self.removed = [key for key in self.removed if key[0] not in gone]
         return [(DELETE_ROWS, (oid,)) for oid in sorted(gone)]
@@ -131,7 +140,8 @@ class Writer:
             self.execute(base, before, after)
 
     def write_log(self, before: Contents, after: Contents) -> None:
-        """The same, but leaves the file as after a crash: what was written stands in the log alone."""
+        """The same, but leaves the file as after a crash: what was written stands in the log
+        alone."""
         saved = self.path.with_name(self.path.name + ".saved")
         with self.opened() as base:
             base.execute("PRAGMA wal_autocheckpoint = 0")
@@ -147,7 +157,8 @@ class Writer:
         os.replace(log_of(saved), log_of(self.path))
 
     def leave_in_log(self, base: sqlite3.Connection) -> None:
-        """Leaves pages in the log that are nothing to the next commit: rolled back, or in the file already."""
+        """Leaves pages in the log that are nothing to the next commit: rolled back, or in the file
+        already."""
         luck = self.rng.random()
         if luck < 0.3:
             self.change_nothing(base)

@@ -38,7 +38,9 @@ def random_contents(rng: random.Random, most: int) -> Contents:
     made = Contents({STOCK: KEYED, LOG: FULL}, {}, rng.getrandbits(64))
     for _ in range(rng.randint(0, most)):
         name = rng.randbytes(int(10 ** rng.uniform(0, 3))).hex().encode()
-        made.rows.update([keyed_row(rng.randint(0, 2 * most), name), full_row(name, rng.randint(1, 3))])
+        made.rows.update(
+            [keyed_row(rng.randint(0, 2 * most), name), full_row(name, rng.randint(1, 3))]
+        )
     if rng.random() < 0.3:
         made.relations[STOCK] = Relation("other", "stock", ord("i"), KEYED.columns)
     return made
@@ -52,19 +54,31 @@ def opened(path: Path) -> Iterator[sqlite3.Connection]:
 
 
 def put_objects(path: Path, *objects: tuple[str, str, str, int, str | None]) -> None:
-    """Puts these objects in the place of the table `held`, of its index and of what stands for them."""
+    """Puts these objects in the place of the table `held`, of its index and of what stands for
+    them."""
     with opened(path) as base:
         base.execute("PRAGMA writable_schema = ON")
-        base.execute("DELETE FROM sqlite_schema WHERE name IN (?, ?, ?)", ("held", INDEX, "entries"))
+        base.execute(
+            "DELETE FROM sqlite_schema WHERE name IN (?, ?, ?)", ("held", INDEX, "entries")
+        )
         base.executemany("INSERT INTO sqlite_schema VALUES (?, ?, ?, ?, ?)", objects)
 
 
 @contextlib.contextmanager
 def trees(path: Path) -> Iterator[sqlite3.Connection]:
-    """Opens a store's file with its rows as the table `held` and its index as the table `entries`, that don't know of each other."""
+    """Opens a store's file with its rows as the table `held` and its index as the table `entries`,
+    that don't know of each other."""
     with opened(path) as base:
         roots = dict(base.execute("SELECT name, rootpage FROM sqlite_schema"))
-    put_objects(path, ("table", "held", "held", roots["held"], PLAIN), ("table", "entries", "entries", roots[INDEX], ENTRIES))
+    put_objects(
+        path,
+        ("table", "held", "held", roots["held"], PLAIN),
+        ("table", "entries", "entries", roots[INDEX], ENTRIES),
+    )
     with opened(path) as base:
         yield base
-    put_objects(path, ("table", "held", "held", roots["held"], TABLES["held"]), ("index", INDEX, "held", roots[INDEX], None))
+    put_objects(
+        path,
+        ("table", "held", "held", roots["held"], TABLES["held"]),
+        ("index", INDEX, "held", roots[INDEX], None),
+    )

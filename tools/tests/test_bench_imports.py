@@ -1,4 +1,5 @@
-"""What a program imports is looked up in the roots of crates, and what it is built over in crates.txt."""
+"""What a program imports is looked up in the roots of crates, and what it is built over in
+crates.txt."""
 
 import tempfile
 import unittest
@@ -29,7 +30,10 @@ class Imports(unittest.TestCase):
             (source / "lib.rt").write_text(ROOT)
             program = "use low::{Store, Gone,\n    read};\nuse low::hidden;\nuse std::io;\nghost use Rattle.low.specs.A.{B};\n"
             program += "// low::told\nfn f() { low::read(low::add()) }\n"
-            self.assertEqual(wrong_imports(Path(room), program), ["low has no Gone", "low has no hidden", "low has no add"])
+            self.assertEqual(
+                wrong_imports(Path(room), program),
+                ["low has no Gone", "low has no hidden", "low has no add"],
+            )
 
 
 CRATES = """\
@@ -53,7 +57,10 @@ class Builds(unittest.TestCase):
 
     def test_what_is_missing(self) -> None:
         self.assertEqual(self.wrong("middle high"), ["its list lacks low, which others stand on"])
-        self.assertEqual(self.wrong("low", "use low::A;\nuse sqlite::Store;\n"), ["its list lacks sqlite, which the program imports"])
+        self.assertEqual(
+            self.wrong("low", "use low::A;\nuse sqlite::Store;\n"),
+            ["its list lacks sqlite, which the program imports"],
+        )
         self.assertEqual(len(self.wrong("high")), 2)
 
     def test_those_of_the_repository(self) -> None:
@@ -62,7 +69,11 @@ class Builds(unittest.TestCase):
         for program in programs:
             script = (program.parent / "run.sh").read_text()
             self.assertIn("\nbuild ", script)
-            self.assertEqual(wrong_builds((TOP / "crates.txt").read_text(), script, program.read_text()), [], program)
+            self.assertEqual(
+                wrong_builds((TOP / "crates.txt").read_text(), script, program.read_text()),
+                [],
+                program,
+            )
 
 
 if __name__ == "__main__":

@@ -39,7 +39,13 @@ class Running(unittest.TestCase):
         file.chmod(0o755)
 
     def git(self, top: Path, *words: str) -> str:
-        ran = subprocess.run(["git", "-C", top, *words], capture_output=True, text=True, check=True, env={**os.environ, **GIT})
+        ran = subprocess.run(
+            ["git", "-C", top, *words],
+            capture_output=True,
+            text=True,
+            check=True,
+            env={**os.environ, **GIT},
+        )
         return ran.stdout.strip()
 
     def commit(self, top: Path) -> None:
@@ -56,7 +62,13 @@ class Running(unittest.TestCase):
         results = self.top / "bench/results"
         shutil.rmtree(results, ignore_errors=True)
         command = [str(self.top / "bench/run"), "growth", *words]
-        subprocess.run(command, stdout=subprocess.DEVNULL, stderr=subprocess.DEVNULL, check=True, env={**os.environ, "RT": "echo"})
+        subprocess.run(
+            command,
+            stdout=subprocess.DEVNULL,
+            stderr=subprocess.DEVNULL,
+            check=True,
+            env={**os.environ, "RT": "echo"},
+        )
         return {it.name: it.read_text() for it in results.iterdir()}
 
     def commit_line(self, *words: str) -> str:
@@ -65,8 +77,11 @@ class Running(unittest.TestCase):
 
     def test_a_part_has_a_file_of_its_own(self) -> None:
         cases: list[tuple[list[str], str]] = [
-            ([], "growth.md"), (["--turns", "5"], "growth.md"), (["--folder", "/srv/disk", "--port=54"], "growth.md"),
-            (["--only", "1 a transaction"], "growth-only-1-a-transaction.md"), (["--quick", "--turns", "5"], "growth-quick.md"),
+            ([], "growth.md"),
+            (["--turns", "5"], "growth.md"),
+            (["--folder", "/srv/disk", "--port=54"], "growth.md"),
+            (["--only", "1 a transaction"], "growth-only-1-a-transaction.md"),
+            (["--quick", "--turns", "5"], "growth-quick.md"),
             (["/srv/session.raw"], "growth-session-raw.md"),
         ]
         for words, name in cases:
@@ -74,7 +89,8 @@ class Running(unittest.TestCase):
 
     def test_the_command_is_told_without_paths_of_the_machine(self) -> None:
         for words, told in (
-            (["--program", "/bin/true", "--turns", "5"], " --turns 5"), (["--program=/bin/true", "--folder=/srv"], ""),
+            (["--program", "/bin/true", "--turns", "5"], " --turns 5"),
+            (["--program=/bin/true", "--folder=/srv"], ""),
             (["/srv/session.raw", "--folder", "/srv"], " session.raw"),
             (["--only", "1 a transaction"], " --only '1 a transaction'"),
         ):
@@ -87,9 +103,16 @@ class Running(unittest.TestCase):
         self.make(self.other)
         own, other = self.head(self.top), self.head(self.other)
         self.assertIn(f"commit {own}, ", self.commit_line())
-        self.assertNotIn("program", self.commit_line("--program", str(self.top / "crates/pgsub/out/pgsub")))
-        self.assertIn(f"commit {own}, program built of {other}, ", self.commit_line("--program", str(self.other / "crates/pgsub/out/pgsub")))
-        self.assertIn(f"commit {own}, program of another build, ", self.commit_line("--program", "/bin/true"))
+        self.assertNotIn(
+            "program", self.commit_line("--program", str(self.top / "crates/pgsub/out/pgsub"))
+        )
+        self.assertIn(
+            f"commit {own}, program built of {other}, ",
+            self.commit_line("--program", str(self.other / "crates/pgsub/out/pgsub")),
+        )
+        self.assertIn(
+            f"commit {own}, program of another build, ", self.commit_line("--program", "/bin/true")
+        )
         self.put(self.top / "crates/low/lib.rt", "fn f() {}\n")
         os.utime(self.top / "crates/low/lib.rt", (1 << 32, 1 << 32))
         self.assertIn(f"commit {own} with changes, program of another build, ", self.commit_line())

@@ -1,4 +1,5 @@
-"""What is tried beside a run of `rt ci`: when it begins, how much at once, and over which libraries."""
+"""What is tried beside a run of `rt ci`: when it begins, how much at once, and over which
+libraries."""
 
 import os
 import sys
@@ -19,7 +20,9 @@ class Runs(unittest.TestCase):
         self.proofs = Proofs(self.said.append)
 
     def run_printing(self, *lines: str, status: int = 0) -> None:
-        self.proofs.run(sys.executable, "-c", f"import sys\nfor it in {lines!r}: print(it)\nsys.exit({status})")
+        self.proofs.run(
+            sys.executable, "-c", f"import sys\nfor it in {lines!r}: print(it)\nsys.exit({status})"
+        )
 
     def test_what_it_prints_is_passed_on_and_counted(self) -> None:
         self.run_printing("rt: pglsn proved", "5 passed, 0 failed")
@@ -27,7 +30,13 @@ class Runs(unittest.TestCase):
         self.assertEqual((self.proofs.passed, self.proofs.failed), (5, 0))
 
     def test_crates_are_proved_by_this_run_or_an_earlier_one(self) -> None:
-        self.run_printing("rt: pglsn proved", "rt: pgtuple is kept: an earlier run", "rt: pgrel NOT PROVED", "rt: pgspool: its tests are proved", "2 passed, 1 failed")
+        self.run_printing(
+            "rt: pglsn proved",
+            "rt: pgtuple is kept: an earlier run",
+            "rt: pgrel NOT PROVED",
+            "rt: pgspool: its tests are proved",
+            "2 passed, 1 failed",
+        )
         self.assertTrue(self.proofs.have_proved(["pglsn", "pgtuple"]))
         self.assertFalse(self.proofs.have_proved(["pglsn", "pgrel"]))
         self.assertFalse(self.proofs.have_proved(["pgspool"]))
@@ -95,9 +104,21 @@ class Libraries(unittest.TestCase):
 
     def test_a_check_is_over_links_that_outlast_the_run(self) -> None:
         folders = links([self.low], f"{self.top}/room", self.began)
-        words = moved(["--extern", f"pglsn={self.made}", "-L", f"dependency={self.made.parent}", "src/lib.rt"], folders)
+        words = moved(
+            [
+                "--extern",
+                f"pglsn={self.made}",
+                "-L",
+                f"dependency={self.made.parent}",
+                "src/lib.rt",
+            ],
+            folders,
+        )
         room = f"{self.top}/room/pglsn"
-        self.assertEqual(words, ["--extern", f"pglsn={room}/pglsn.rlib", "-L", f"dependency={room}", "src/lib.rt"])
+        self.assertEqual(
+            words,
+            ["--extern", f"pglsn={room}/pglsn.rlib", "-L", f"dependency={room}", "src/lib.rt"],
+        )
         (self.made / "format").unlink()
         self.assertEqual(Path(room, "pglsn.rlib/format").read_text(), "1")
 

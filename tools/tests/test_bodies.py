@@ -16,7 +16,10 @@ class Names(unittest.TestCase):
             ("impl Held<u8> {", ("Held+u8", "")),
             ("impl<'a, T> Held<&'a mut T> {", ("Held+ref+T", "")),
             ("impl<F: Start> Store<FileStore<FileFrom<F>>> {", ("Store+FileStore+FileFrom+F", "")),
-            ("impl<\n    D: Disk + Drop,\n    F: Fn(u8) -> Option<u8>,\n> Store<FileStore<D>, F>\nwhere\n    D: Copy,\n{", ("Store+FileStore+D+F", "")),
+            (
+                "impl<\n    D: Disk + Drop,\n    F: Fn(u8) -> Option<u8>,\n> Store<FileStore<D>, F>\nwhere\n    D: Copy,\n{",
+                ("Store+FileStore+D+F", ""),
+            ),
             ("impl fmt::Display for Held {", ("Held", "Display")),
             ("impl<T> Makes<Held<T>> for Two<T, u8> {", ("TwoU8", "MakesHeld")),
             ("impl<'a, T> Makes<&'a str> for &'a Held<T> {", ("RefHeld", "MakesRefStr")),
@@ -30,7 +33,12 @@ class Names(unittest.TestCase):
 
 class Calls(unittest.TestCase):
     def test_a_body_leads_to_what_its_callees_lead_to(self) -> None:
-        calls = calls_in(["fn all() {\n    one();\n}\n\nfn one() {\n    // all()\n    Held::two(3);\n}\n", "fn two(count: usize) {\n    count;\n}\n"])
+        calls = calls_in(
+            [
+                "fn all() {\n    one();\n}\n\nfn one() {\n    // all()\n    Held::two(3);\n}\n",
+                "fn two(count: usize) {\n    count;\n}\n",
+            ]
+        )
         self.assertEqual(calls, {"all": {"one"}, "one": {"two"}, "two": set()})
         self.assertEqual(callees(calls), {"all": {"one", "two"}, "one": {"two"}, "two": set()})
 
@@ -86,13 +94,18 @@ class Emptied(unittest.TestCase):
 
     def test_all_but_the_kept_functions_lose_their_bodies(self) -> None:
         text, names = self.emptied(CLAUSED, "pgheld::parts::held::free")
-        self.assertEqual(sorted(names), ["pgheld::parts::held::AnyTakes::take", "pgheld::parts::held::Held::push"])
+        self.assertEqual(
+            sorted(names),
+            ["pgheld::parts::held::AnyTakes::take", "pgheld::parts::held::Held::push"],
+        )
         self.assertIn("        ensures kept { result ≡ true }\n    { unreachable!() }\n}", text)
         self.assertIn("    fn take(&mut self) -> bool { unreachable!() }\n}", text)
         self.assertIn("    count > 0", text)
 
     def test_methods_of_a_trait_stay_as_they_are(self) -> None:
-        self.assertIn("ensures took { result ≡ true };\n\n    fn rest(&self) {}", self.emptied(CLAUSED)[0])
+        self.assertIn(
+            "ensures took { result ≡ true };\n\n    fn rest(&self) {}", self.emptied(CLAUSED)[0]
+        )
 
     def test_a_proof_is_left_open_where_the_checker_looks_for_it(self) -> None:
         folder = Path(self.enterContext(tempfile.TemporaryDirectory()))
@@ -109,8 +122,12 @@ class Emptied(unittest.TestCase):
 
     def test_a_function_keeps_the_clauses_that_its_mutant_breaks(self) -> None:
         bodies = self.bodies(CLAUSED)
-        text = bodies.only_with(lambda name: {"made", "own"} if name.endswith("::push") else set())["src/parts/held.rt"]
+        text = bodies.only_with(lambda name: {"made", "own"} if name.endswith("::push") else set())[
+            "src/parts/held.rt"
+        ]
         self.assertEqual(text, CLAUSED.replace("        ensures kept { result ≡ true }\n", ""))
-        text = bodies.only_with(lambda name: {"own", "kept"} if name.endswith("::push") else set())["src/parts/held.rt"]
+        text = bodies.only_with(lambda name: {"own", "kept"} if name.endswith("::push") else set())[
+            "src/parts/held.rt"
+        ]
         self.assertNotIn("made", text)
         self.assertIn("requires room { count < 9 }\n", text)

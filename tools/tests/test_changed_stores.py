@@ -1,4 +1,5 @@
-"""The cases of tools/changed_stores, over a stand-in for the program: one that answers as is expected, and ones that don't."""
+"""The cases of tools/changed_stores, over a stand-in for the program: one that answers as is
+expected, and ones that don't."""
 
 import contextlib
 import io
@@ -27,7 +28,9 @@ ALWAYS = 1000
 ALL = list(changed.cases())
 Trial = tuple[Case | Beside, bool, Callable[[Any], None]]
 # each with what it is of
-TRIALS: list[Trial] = [(run.args[0], in_other_words, run) for _, in_other_words, run in script.trials()]
+TRIALS: list[Trial] = [
+    (run.args[0], in_other_words, run) for _, in_other_words, run in script.trials()
+]
 
 
 def taken_of(of: Case | Beside) -> Taken | None:
@@ -50,7 +53,8 @@ def write(path: Path, state: State) -> None:
 
 
 class Fake:
-    """Answers as is expected of the program: it refuses so often, and else goes from state to state."""
+    """Answers as is expected of the program: it refuses so often, and else goes from state to
+    state."""
 
     def __init__(self, of: Case | Beside):
         taken = taken_of(of)
@@ -58,15 +62,22 @@ class Fake:
         self.busy, self.refusals = 2 * is_busy(of), 0 if taken else ALWAYS
         self.fault = str(of.outcome)
         self.fills = isinstance(of, Beside) or of.start is Start.FILLED
-        self.states = [taken.state, *(state for _, state in taken.steps)] if taken else [changed.FILLED]
+        self.states = (
+            [taken.state, *(state for _, state in taken.steps)] if taken else [changed.FILLED]
+        )
 
-    def __call__(self, program: Path, command: str, _option: str, store: str, recording: str = "") -> Answer:
+    def __call__(
+        self, program: Path, command: str, _option: str, store: str, recording: str = ""
+    ) -> Answer:
         path = Path(store)
         if self.fills and not path.exists():
             return self.hold(path, changed.FILLED)
         if self.busy or self.refusals:
             fault = changed.REFUSED if self.busy else self.fault
-            self.busy, self.refusals = max(self.busy - 1, 0), self.refusals if self.busy else self.refusals - 1
+            self.busy, self.refusals = (
+                max(self.busy - 1, 0),
+                self.refusals if self.busy else self.refusals - 1,
+            )
             return self.refuse(path, fault)
         if command == "apply":
             self.states.pop(0)
@@ -157,7 +168,12 @@ class HoldsLess(Fake):
     """What it prints isn't what the file holds."""
 
     def hold(self, path: Path, state: State) -> Answer:
-        super().hold(path, State(state.tables, state.rows[1:], state.position) if state.rows else State(position=1))
+        super().hold(
+            path,
+            State(state.tables, state.rows[1:], state.position)
+            if state.rows
+            else State(position=1),
+        )
         return 0, state.dump, b""
 
 
@@ -186,12 +202,16 @@ class ForgetsItsLog(Fake):
 class Stays(Fake):
     """It takes the store, and no commit."""
 
-    def __call__(self, program: Path, command: str, _option: str, store: str, recording: str = "") -> Answer:
+    def __call__(
+        self, program: Path, command: str, _option: str, store: str, recording: str = ""
+    ) -> Answer:
         is_commit = command == "apply" and (Path(store).exists() or not self.fills)
         return super().__call__(program, "dump" if is_commit else command, _option, store)
 
 
-def told(of: Case | Beside, in_other_words: bool, run: Callable[[Any], None], kind: type[Fake]) -> str:
+def told(
+    of: Case | Beside, in_other_words: bool, run: Callable[[Any], None], kind: type[Fake]
+) -> str:
     with mock.patch.object(script, "ran", kind(of)):
         found: str = script.told_of(Path("/bin/false"), in_other_words, run)
     return found
@@ -199,8 +219,12 @@ def told(of: Case | Beside, in_other_words: bool, run: Callable[[Any], None], ki
 
 def some(trials: list[Trial]) -> list[Trial]:
     """The first trial of each group."""
-    return list({(of.group if isinstance(of, Case) else of, in_other_words): (of, in_other_words, run)
-                 for of, in_other_words, run in reversed(trials)}.values())
+    return list(
+        {
+            (of.group if isinstance(of, Case) else of, in_other_words): (of, in_other_words, run)
+            for of, in_other_words, run in reversed(trials)
+        }.values()
+    )
 
 
 REFUSED = [it for it in TRIALS if taken_of(it[0]) is None]
@@ -228,7 +252,14 @@ class Programs(unittest.TestCase):
         self.check_none_passes(some(REFUSED), TellsAnother, EndsOtherwise, Prints)
 
     def test_a_file_that_is_refused_and_changed(self) -> None:
-        self.check_none_passes(some(REFUSED), ChangesTheFile, ChangesItLater, CommitsToTheLog, MakesAFile, RemovesTheFile)
+        self.check_none_passes(
+            some(REFUSED),
+            ChangesTheFile,
+            ChangesItLater,
+            CommitsToTheLog,
+            MakesAFile,
+            RemovesTheFile,
+        )
         self.check_none_passes([it for it in REFUSED if isinstance(it[0], Beside)], LosesTheLog)
 
     def test_a_store_that_holds_something_else(self) -> None:
@@ -239,7 +270,9 @@ class Programs(unittest.TestCase):
 
     def run_main(self, text: str, *words: str) -> tuple[int, list[str]]:
         """Runs the whole script over a program that is this text of the shell."""
-        with tempfile.TemporaryDirectory() as folder, contextlib.redirect_stdout(io.StringIO()) as out:
+        with tempfile.TemporaryDirectory() as folder, contextlib.redirect_stdout(
+            io.StringIO()
+        ) as out:
             program = Path(folder, "program")
             program.write_text(f"#!/bin/sh\n{text}\n")
             program.chmod(0o755)
@@ -248,10 +281,16 @@ class Programs(unittest.TestCase):
 
     def test_the_whole_script(self) -> None:
         status, lines = self.run_main("exit 0")
-        self.assertEqual((status, len(lines), lines[-1]), (1, len(TRIALS) + 1, f"0 passed, {len(TRIALS)} failed"))
-        status, lines = self.run_main("echo 'pgsub: store 10 NotAStore' >&2; exit 3", "--only", "schema: a view")
+        self.assertEqual(
+            (status, len(lines), lines[-1]), (1, len(TRIALS) + 1, f"0 passed, {len(TRIALS)} failed")
+        )
+        status, lines = self.run_main(
+            "echo 'pgsub: store 10 NotAStore' >&2; exit 3", "--only", "schema: a view"
+        )
         self.assertEqual((status, lines), (0, ["1 passed, 0 failed"]))
-        self.assertEqual(self.run_main("exit 0", "--only", "no such case"), (1, ["0 passed, 0 failed"]))
+        self.assertEqual(
+            self.run_main("exit 0", "--only", "no such case"), (1, ["0 passed, 0 failed"])
+        )
 
     def test_a_program_that_does_not_end(self) -> None:
         with mock.patch.object(script, "SECONDS", 0.1):
@@ -288,7 +327,11 @@ class Cases(Room):
 
     def changed(self, case: Case, in_other_words: bool) -> Any:
         """A trial whose file a case has changed."""
-        trial = self.filled(in_other_words) if case.start is Start.FILLED else self.trial(in_other_words)
+        trial = (
+            self.filled(in_other_words)
+            if case.start is Start.FILLED
+            else self.trial(in_other_words)
+        )
         if case.start is not Start.FILLED:
             trial.make(case.start)
         with script.opened(trial.path) as base:
@@ -304,11 +347,17 @@ class Cases(Room):
             if isinstance(of, Case) and taken_of(of) is None:
                 with self.subTest(of.name, in_other_words=in_other_words):
                     trial = self.changed(of, in_other_words)
-                    self.assertNotEqual(sound.findings(trial.path, in_other_words=in_other_words), [])
+                    self.assertNotEqual(
+                        sound.findings(trial.path, in_other_words=in_other_words), []
+                    )
 
     def test_what_is_taken_holds_what_is_expected(self) -> None:
         for of, in_other_words, _ in TRIALS:
-            if isinstance(of, Case) and isinstance(of.outcome, Taken) and of.start is not Start.NO_FILE:
+            if (
+                isinstance(of, Case)
+                and isinstance(of.outcome, Taken)
+                and of.start is not Start.NO_FILE
+            ):
                 with self.subTest(of.name, in_other_words=in_other_words):
                     trial, state = self.changed(of, in_other_words), of.outcome.state
                     told = sound.findings(trial.path, state.contents, in_other_words)
@@ -320,43 +369,75 @@ class Cases(Room):
     def check_nothing_is_lost(self, path: Path, state: State) -> None:
         """Whether the tables that are left hold no more than this."""
         with sound.at_rest(path) as base:
-            left = {name for (name,) in base.execute("SELECT name FROM sqlite_schema WHERE type = 'table'")}
-            for name, wanted in (("rel", len(state.tables)), ("held", 0), ("pos", int(state.position > 0))):
-                found = base.execute(f"SELECT count(*) FROM {name}").fetchone()[0] if name in left else 0
+            left = {
+                name
+                for (name,) in base.execute("SELECT name FROM sqlite_schema WHERE type = 'table'")
+            }
+            for name, wanted in (
+                ("rel", len(state.tables)),
+                ("held", 0),
+                ("pos", int(state.position > 0)),
+            ):
+                found = (
+                    base.execute(f"SELECT count(*) FROM {name}").fetchone()[0]
+                    if name in left
+                    else 0
+                )
                 self.assertEqual(found, wanted, name)
             self.assertLessEqual(left, set(contents.TABLES))
 
     def test_other_words_say_the_same(self) -> None:
-        self.assertEqual({name: sound.plain(text) for name, text in changed.OTHER_WORDS.items()},
-                         {name: sound.plain(text) for name, text in contents.TABLES.items()})
+        self.assertEqual(
+            {name: sound.plain(text) for name, text in changed.OTHER_WORDS.items()},
+            {name: sound.plain(text) for name, text in contents.TABLES.items()},
+        )
         trial = self.filled(in_other_words=True)
         self.assertIn("there is no table held as a store's", sound.findings(trial.path))
-        self.assertEqual(sound.findings(trial.path, changed.FILLED.contents, in_other_words=True), [])
+        self.assertEqual(
+            sound.findings(trial.path, changed.FILLED.contents, in_other_words=True), []
+        )
         with script.opened(trial.path) as base:
             base.execute("DROP TABLE pos")
-            base.execute("CREATE TABLE pos (id integer primary key not null check (id = 1), lsn blob not null) strict")
-        self.assertIn("there is no table pos as a store's", sound.findings(trial.path, in_other_words=True))
+            base.execute(
+                "CREATE TABLE pos (id integer primary key not null check (id = 1), lsn blob not null) strict"
+            )
+        self.assertIn(
+            "there is no table pos as a store's", sound.findings(trial.path, in_other_words=True)
+        )
 
 
 class Statements(Room):
     def test_they_are_told_apart(self) -> None:
         trigger = "CREATE TRIGGER gone AFTER DELETE ON held BEGIN DELETE FROM rel; END"
-        self.assertEqual(list(script.statements_of(f"DELETE FROM held; {trigger}")), ["DELETE FROM held;", f"{trigger};"])
+        self.assertEqual(
+            list(script.statements_of(f"DELETE FROM held; {trigger}")),
+            ["DELETE FROM held;", f"{trigger};"],
+        )
         self.assertEqual(list(script.statements_of("")), [])
 
     def test_each_changes_something(self) -> None:
         trial = self.filled()
-        for text in ("UPDATE held SET copies = 0 WHERE oid = 7", "DELETE FROM held; DELETE FROM held", "DROP TABLE IF EXISTS more"):
-            with self.subTest(text), script.opened(trial.path) as base, self.assertRaisesRegex(script.Wrong, "changes nothing"):
+        for text in (
+            "UPDATE held SET copies = 0 WHERE oid = 7",
+            "DELETE FROM held; DELETE FROM held",
+            "DROP TABLE IF EXISTS more",
+        ):
+            with self.subTest(text), script.opened(trial.path) as base, self.assertRaisesRegex(
+                script.Wrong, "changes nothing"
+            ):
                 script.execute(base, text)
 
     def test_a_statement_that_is_not_rejected(self) -> None:
         case = Case("second position", changed.UNCHECKED, changed.SOUND, rejected=changed.SECOND)
-        self.assertIn("SQLite doesn't reject", told(case, False, partial(script.try_case, case), Fake))
+        self.assertIn(
+            "SQLite doesn't reject", told(case, False, partial(script.try_case, case), Fake)
+        )
 
     def test_an_error_of_sqlite_is_told(self) -> None:
         case = Case("wrong", "DROP TABLE more", changed.NOT_A_STORE)
-        self.assertEqual(told(case, True, partial(script.try_case, case), Fake), "no such table: more")
+        self.assertEqual(
+            told(case, True, partial(script.try_case, case), Fake), "no such table: more"
+        )
 
 
 class OtherProcesses(Room):
@@ -369,8 +450,12 @@ class OtherProcesses(Room):
         for beside in changed.BESIDE:
             if not beside.is_killed:
                 trial = self.filled()
-                with script.other_process(trial.path, beside.statements), contextlib.closing(sqlite3.connect(trial.path, 0)) as base:
-                    with self.subTest(beside.told), self.assertRaisesRegex(sqlite3.OperationalError, "locked"):
+                with script.other_process(trial.path, beside.statements), contextlib.closing(
+                    sqlite3.connect(trial.path, 0)
+                ) as base:
+                    with self.subTest(beside.told), self.assertRaisesRegex(
+                        sqlite3.OperationalError, "locked"
+                    ):
                         base.execute("PRAGMA locking_mode = EXCLUSIVE")
                         base.execute("BEGIN EXCLUSIVE")
                 self.assertEqual(sound.findings(trial.path, changed.FILLED.contents), [])
@@ -381,7 +466,10 @@ class OtherProcesses(Room):
                 trial = self.filled()
                 with script.other_process(trial.path, beside.statements) as process:
                     process.kill()
-                left = {it.name.removeprefix("copy.db"): it.stat().st_size for it in trial.folder.iterdir()}
+                left = {
+                    it.name.removeprefix("copy.db"): it.stat().st_size
+                    for it in trial.folder.iterdir()
+                }
                 with self.subTest(beside.told):
                     self.assertGreater(left["-journal" if beside.has_journal else "-wal"], 1000)
                     if beside.statements[-1] == changed.MANY[-1]:
@@ -400,17 +488,29 @@ class Named(unittest.TestCase):
         example = TOP / "examples/copies_in_a_file"
         commit = Commit(0x130, (changed.inserted(changed.T, "1", "a"),))
         # (there the key is an integer)
-        self.assertEqual(commit.recording.splitlines(), (example / "in.pgx").read_text().replace("17ffffffff", "19ffffffff").splitlines())
+        self.assertEqual(
+            commit.recording.splitlines(),
+            (example / "in.pgx").read_text().replace("17ffffffff", "19ffffffff").splitlines(),
+        )
         state = State((changed.T,), (changed.held(changed.T, "1", "a"),), 0x130)
         self.assertEqual(state.dump, (example / "stdout").read_bytes())
 
     def test_other_messages(self) -> None:
-        told = [it.message().hex() for it in (changed.updated(changed.T, "1", None), changed.deleted(changed.F, "x"))]
+        told = [
+            it.message().hex()
+            for it in (changed.updated(changed.T, "1", None), changed.deleted(changed.F, "x"))
+        ]
         self.assertEqual(told, ["55000040004e00027400000001316e", "44000040024f0001740000000178"])
-        self.assertEqual(changed.inserted(changed.N, b"y").message().hex(), "49000040034e0001620000000179")
+        self.assertEqual(
+            changed.inserted(changed.N, b"y").message().hex(), "49000040034e0001620000000179"
+        )
 
     def test_the_order_of_a_dump(self) -> None:
-        rows = (changed.held(changed.F, "y"), changed.held(changed.F, "x", copies=2), changed.held(changed.T, "1", None))
+        rows = (
+            changed.held(changed.F, "y"),
+            changed.held(changed.F, "x", copies=2),
+            changed.held(changed.T, "1", None),
+        )
         wanted = b'["public","t",["1",null],1]\n["public","f",["x"],2]\n["public","f",["y"],1]\nposition FFFFFFFF/FFFFFFFF\n'
         self.assertEqual(State((), rows, changed.GREATEST).dump, wanted)
 

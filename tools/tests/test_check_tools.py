@@ -6,7 +6,7 @@ from pathlib import Path
 
 from tested import results_of
 
-SAMPLE = '''
+SAMPLE = """
 import pytest
 import unittest
 
@@ -28,7 +28,7 @@ class Sample(unittest.TestCase):
 
 def test_alone(tmp_path):
     assert tmp_path.is_dir()
-'''
+"""
 
 
 class Counted(unittest.TestCase):
@@ -44,7 +44,11 @@ class Counted(unittest.TestCase):
         self.assertEqual(self.results("alone"), (1, []))
 
     def test_one_that_is_wrong(self) -> None:
-        for word, text in (("left_out", "psycopg is needed"), ("wrong", "AssertionError: wrong"), ("hope", "success")):
+        for word, text in (
+            ("left_out", "psycopg is needed"),
+            ("wrong", "AssertionError: wrong"),
+            ("hope", "success"),
+        ):
             with self.subTest(word):
                 passed, wrong = self.results(f"alone or {word}")
                 self.assertEqual((passed, len(wrong)), (1, 1))

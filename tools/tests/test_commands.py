@@ -12,8 +12,9 @@ from .scripts import loaded
 
 commands = loaded("commands")
 
-# prints its first word, or its name for NAME, and the file of the second one, makes that of the third one, or with + or - before it writes
-# to it or removes it, and ends with 3 where it can't write
+# prints its first word, or its name for NAME, and the file of the second one, makes that of the
+# third one, or with + or - before it writes to it or removes it, and ends with 3 where it can't
+# write
 PROGRAM = """#!/usr/bin/env python3
 import os, sys
 from pathlib import Path
@@ -60,7 +61,10 @@ class Case(unittest.TestCase):
 
     def fails(self, told: str, table: str) -> None:
         """A table has one case, and this is told of it."""
-        self.assertEqual(self.run_it(one=f"[[case]]\n{table}"), (1, [f"FAILED one: {told}", "0 passed, 1 failed"], ""))
+        self.assertEqual(
+            self.run_it(one=f"[[case]]\n{table}"),
+            (1, [f"FAILED one: {told}", "0 passed, 1 failed"], ""),
+        )
 
     def is_malformed(self, told: str, table: str) -> None:
         status, out, err = self.run_it(one=table)
@@ -75,7 +79,9 @@ class Differences(Case):
         self.assertEqual(self.run_it("--only", "two"), (1, ["0 passed, 0 failed"], ""))
 
     def test_the_program_is_called_pgsub(self) -> None:
-        self.assertEqual(self.run_it(one='[[case]]\ncommand = "pgsub NAME"\nstdout = "pgsub"')[0], 0)
+        self.assertEqual(
+            self.run_it(one='[[case]]\ncommand = "pgsub NAME"\nstdout = "pgsub"')[0], 0
+        )
 
     def test_each_output_and_the_status(self) -> None:
         table = 'shows = "a word"\ncommand = ["pgsub", "a b"]'
@@ -86,11 +92,20 @@ class Differences(Case):
         self.fails("a word: stdout is b'a b', without 'b a'", f'{table}\nstdout_has = [" ", "b a"]')
 
     def test_a_file_that_is_made(self) -> None:
-        self.fails("pgsub a in made: the file made was made", 'command = "pgsub a in made"\nfiles.in = []\nstdout = "a"')
+        self.fails(
+            "pgsub a in made: the file made was made",
+            'command = "pgsub a in made"\nfiles.in = []\nstdout = "a"',
+        )
 
     def test_its_files_stay_as_they_are(self) -> None:
-        self.fails("pgsub a in +in: the file in was changed", 'command = "pgsub a in +in"\nfiles.in = []\nstdout = "a"')
-        self.fails("pgsub a in -in: the file in was removed", 'command = "pgsub a in -in"\nfiles.in = []\nstdout = "a"')
+        self.fails(
+            "pgsub a in +in: the file in was changed",
+            'command = "pgsub a in +in"\nfiles.in = []\nstdout = "a"',
+        )
+        self.fails(
+            "pgsub a in -in: the file in was removed",
+            'command = "pgsub a in -in"\nfiles.in = []\nstdout = "a"',
+        )
 
     def test_commands_that_print_the_same(self) -> None:
         table = '[default]\nstdout = "a"\n[[case]]\nshows = "two"\ncommands = ["pgsub a", "pgsub b"]\n[[case]]\ncommand = "pgsub a"'
@@ -98,7 +113,8 @@ class Differences(Case):
         self.assertEqual(self.run_it(one=table), (1, told, ""))
 
     def test_outputs_that_fail(self) -> None:
-        self.run_it(one="""
+        self.run_it(
+            one="""
 [default]
 command = "pgsub word"
 stderr = "cannot write"
@@ -122,7 +138,8 @@ stdout_room = 3
 stdout = "wor"
 stderr_room = 6
 stderr = "cannot"
-""")
+"""
+        )
         self.assertEqual(self.run_it(), (0, ["4 passed, 0 failed"], ""))
 
 
@@ -132,20 +149,42 @@ class Files(unittest.TestCase):
 
     def test_a_message_is_framed(self) -> None:
         self.holds([BEGIN, "=--", "="], f"{FRAME}\n--\n\n")
-        self.holds({"chunks": ["45", "=--"]}, "64\n00\n00\n00\n1e\n77\n" + "00\n" * 24 + "45\n\n--\n")
-        self.assertEqual(commands.content_of({"bytes": [BEGIN, "=ff"]}, {}, "here").whole(), bytes.fromhex(FRAME) + b"\xff")
+        self.holds(
+            {"chunks": ["45", "=--"]}, "64\n00\n00\n00\n1e\n77\n" + "00\n" * 24 + "45\n\n--\n"
+        )
+        self.assertEqual(
+            commands.content_of({"bytes": [BEGIN, "=ff"]}, {}, "here").whole(),
+            bytes.fromhex(FRAME) + b"\xff",
+        )
 
     def test_bytes_without_a_message_are_cut_too(self) -> None:
         self.holds({"chunks": ["=6300000004", "=--", "=6"]}, "63\n00\n00\n00\n04\n--\n6\n")
 
     def test_lists_of_lines_are_run_once_more_in_bytes(self) -> None:
-        table = {"default": {"command": "pgsub A F", "also_in_bytes": True}, "case": [{"files": {"F": ["=6301"]}}, {"files": {"F": "6"}}]}
+        table = {
+            "default": {"command": "pgsub A F", "also_in_bytes": True},
+            "case": [{"files": {"F": ["=6301"]}}, {"files": {"F": "6"}}],
+        }
         found = [(it.title, it.files["F"].whole()) for it in commands.cases_in(table, {}, "t")]
-        self.assertEqual(found, [("t: pgsub A F", b"6301\n"), ("t: pgsub A F, in bytes", b"63\n01\n"), ("t: pgsub A F", b"6")])
+        self.assertEqual(
+            found,
+            [
+                ("t: pgsub A F", b"6301\n"),
+                ("t: pgsub A F, in bytes", b"63\n01\n"),
+                ("t: pgsub A F", b"6"),
+            ],
+        )
 
     def test_names_stand_for_their_lines(self) -> None:
-        self.holds(["PAIR", "BEGIN"], f"{FRAME}\n6300000004\n{FRAME}\n", PAIR=["BEGIN", "=6300000004"], BEGIN=BEGIN)
-        self.assertEqual(len(commands.content_of({"bytes": ["BEGIN"]}, {"BEGIN": BEGIN}, "here").whole()), 51)
+        self.holds(
+            ["PAIR", "BEGIN"],
+            f"{FRAME}\n6300000004\n{FRAME}\n",
+            PAIR=["BEGIN", "=6300000004"],
+            BEGIN=BEGIN,
+        )
+        self.assertEqual(
+            len(commands.content_of({"bytes": ["BEGIN"]}, {"BEGIN": BEGIN}, "here").whole()), 51
+        )
 
     def test_text_is_as_it_is(self) -> None:
         self.holds("6", "6")
@@ -157,9 +196,15 @@ class Tables(Case):
         for told, table in (
             ("one, case 1: there is no key `stdin`", '[[case]]\ncommand = "pgsub"\nstdin = ""'),
             ("one.toml: there is no key `cases`", '[[cases]]\ncommand = "pgsub"'),
-            ("one, case 1, in: there is no key `line`", '[[case]]\ncommand = "pgsub"\nfiles.in = { line = [] }'),
+            (
+                "one, case 1, in: there is no key `line`",
+                '[[case]]\ncommand = "pgsub"\nfiles.in = { line = [] }',
+            ),
             ("`stdout_has` can't be 'a'", '[[case]]\ncommand = "pgsub"\nstdout_has = "a"'),
-            ("it has `stdout` and `stdout_has`", '[[case]]\ncommand = "pgsub"\nstdout = ""\nstdout_has = ["a"]'),
+            (
+                "it has `stdout` and `stdout_has`",
+                '[[case]]\ncommand = "pgsub"\nstdout = ""\nstdout_has = ["a"]',
+            ),
             ("it needs one of `command`, `commands`", '[[case]]\nshows = "a"'),
             ("the first word of a command is `pgsub`", '[[case]]\ncommand = "show"'),
             ("`BEGIN` is no message", '[[case]]\ncommand = "pgsub"\nfiles.in = ["BEGIN"]'),
@@ -171,7 +216,9 @@ class Tables(Case):
 
     def test_messages_hold_for_all_files(self) -> None:
         case = '[[case]]\ncommand = "pgsub a in"\nfiles.in = ["A"]\nstdout = "ab\\n"'
-        self.assertEqual(self.run_it(one=case, two='[messages]\nA = "=b"'), (0, ["1 passed, 0 failed"], ""))
+        self.assertEqual(
+            self.run_it(one=case, two='[messages]\nA = "=b"'), (0, ["1 passed, 0 failed"], "")
+        )
         self.is_malformed("two.toml: there is another message A", '[messages]\nA = "=c"')
 
     def test_those_of_the_folder(self) -> None:

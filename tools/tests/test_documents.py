@@ -38,12 +38,26 @@ class Made(unittest.TestCase):
 
 class Links(Made):
     def test_links_that_are_there(self) -> None:
-        self.assertEqual(self.wrong("check_links", "[a](MAP.md) [b](../README.md) [c](#page) [d](https://x.y/z) `[e](no)`\n\n# Page\n"), [])
+        self.assertEqual(
+            self.wrong(
+                "check_links",
+                "[a](MAP.md) [b](../README.md) [c](#page) [d](https://x.y/z) `[e](no)`\n\n# Page\n",
+            ),
+            [],
+        )
 
     def test_links_that_are_not(self) -> None:
-        self.assertEqual(self.wrong("check_links", "[a](NO.md)"), ["link NO.md: there is no docs/NO.md"])
-        self.assertEqual(self.wrong("check_links", "[a](MAP.md#no)"), ["link MAP.md#no: docs/MAP.md has no heading #no"])
-        self.assertEqual(self.wrong("check_links", '<img src="no.svg">'), ["link no.svg: there is no docs/no.svg"])
+        self.assertEqual(
+            self.wrong("check_links", "[a](NO.md)"), ["link NO.md: there is no docs/NO.md"]
+        )
+        self.assertEqual(
+            self.wrong("check_links", "[a](MAP.md#no)"),
+            ["link MAP.md#no: docs/MAP.md has no heading #no"],
+        )
+        self.assertEqual(
+            self.wrong("check_links", '<img src="no.svg">'),
+            ["link no.svg: there is no docs/no.svg"],
+        )
 
 
 class Paths(Made):
@@ -52,37 +66,80 @@ class Paths(Made):
         self.assertEqual(self.wrong("check_paths", text), [])
 
     def test_what_is_no_path(self) -> None:
-        self.assertEqual(self.wrong("check_paths", "0/130 and/or `copy.db` https://a.b/docs/no.md 16/B374D848 `crates/low/out/x`\n\n```\n$ cp copy.db rows.db\n```"), [])
+        self.assertEqual(
+            self.wrong(
+                "check_paths",
+                "0/130 and/or `copy.db` https://a.b/docs/no.md 16/B374D848 `crates/low/out/x`\n\n```\n$ cp copy.db rows.db\n```",
+            ),
+            [],
+        )
 
     def test_paths_that_are_not(self) -> None:
-        for path in ("crates/low/src/no.rt", "docs/NO.md", "low/No", "no.rt", "specs/No.antt", "tools/no"):
+        for path in (
+            "crates/low/src/no.rt",
+            "docs/NO.md",
+            "low/No",
+            "no.rt",
+            "specs/No.antt",
+            "tools/no",
+        ):
             with self.subTest(path=path):
-                self.assertEqual(self.wrong("check_paths", f"see `{path}`"), [f"there is no {path}"])
-                self.assertEqual(self.wrong("check_paths", f"```\n$ ./look {path}\n```"), [f"there is no {path}"])
+                self.assertEqual(
+                    self.wrong("check_paths", f"see `{path}`"), [f"there is no {path}"]
+                )
+                self.assertEqual(
+                    self.wrong("check_paths", f"```\n$ ./look {path}\n```"), [f"there is no {path}"]
+                )
 
 
 class Options(Made):
     def test_options_that_are_there(self) -> None:
-        self.assertEqual(self.wrong("check_options", "`pgsub apply --proto 1` `tools/look --deep` with `--deep`\n\n```\n$ ./pgsub show --proto 1 f\n```\n`rt ci --anew`"), [])
+        self.assertEqual(
+            self.wrong(
+                "check_options",
+                "`pgsub apply --proto 1` `tools/look --deep` with `--deep`\n\n```\n$ ./pgsub show --proto 1 f\n```\n`rt ci --anew`",
+            ),
+            [],
+        )
 
     def test_options_that_are_not(self) -> None:
-        self.assertEqual(self.wrong("check_options", "`pgsub apply --deep x`"), ["pgsub has an option --deep"])
-        self.assertEqual(self.wrong("check_options", "`tools/look --proto`"), ["tools/look has an option --proto"])
-        self.assertEqual(self.wrong("check_options", "the option `--none`"), ["--none has an option --none"])
+        self.assertEqual(
+            self.wrong("check_options", "`pgsub apply --deep x`"), ["pgsub has an option --deep"]
+        )
+        self.assertEqual(
+            self.wrong("check_options", "`tools/look --proto`"),
+            ["tools/look has an option --proto"],
+        )
+        self.assertEqual(
+            self.wrong("check_options", "the option `--none`"), ["--none has an option --none"]
+        )
 
 
 class Groups(Made):
     def groups_wrong(self, text: str) -> list[str]:
-        self.write("crates.txt", "# The crates.\n\n# wire: bytes\nlow: std\nhigh staticlib: low\n\n# tests: of others\ntests_low: low\ntrial: low\n")
+        self.write(
+            "crates.txt",
+            "# The crates.\n\n# wire: bytes\nlow: std\nhigh staticlib: low\n\n# tests: of others\ntests_low: low\ntrial: low\n",
+        )
         self.write("docs/ARCHITECTURE.md", text)
         return checks.check_groups(checks.Tree(self.top))
 
     def test_the_same(self) -> None:
-        self.assertEqual(self.groups_wrong("- **Wire**: `low` (bytes), `high` (the trait `Reader`).\n- **Tests**: `tests_..` and `trial`.\n"), [])
+        self.assertEqual(
+            self.groups_wrong(
+                "- **Wire**: `low` (bytes), `high` (the trait `Reader`).\n- **Tests**: `tests_..` and `trial`.\n"
+            ),
+            [],
+        )
 
     def test_others(self) -> None:
         tests = "- **Tests**: `trial`.\n"
-        for first in ("- **Wire**: `low`.\n", "- **Wire**: `high`, `low`.\n", "", "- **Wire**: `low`, `high`, `trial`.\n"):
+        for first in (
+            "- **Wire**: `low`.\n",
+            "- **Wire**: `high`, `low`.\n",
+            "",
+            "- **Wire**: `low`, `high`, `trial`.\n",
+        ):
             self.assertEqual(len(self.groups_wrong(first + tests)), 1, first)
         self.assertEqual(len(self.groups_wrong(tests + "- **Wire**: `low`, `high`.\n")), 1)
 
@@ -99,7 +156,9 @@ class Statement(Made):
         self.write("tools/statement", STATEMENT)
         (self.top / "tools/statement").chmod(0o755)
         self.write("crates/low/specs/Parts/Old.antt", "")
-        self.write("docs/PROOFS.md", f"## Reading the statement\n\n{text}\n\n## Open\n\n{elsewhere}\n")
+        self.write(
+            "docs/PROOFS.md", f"## Reading the statement\n\n{text}\n\n## Open\n\n{elsewhere}\n"
+        )
         return checks.check_statement(checks.Tree(self.top))
 
     def test_the_same(self) -> None:
@@ -108,7 +167,9 @@ class Statement(Made):
 
     def test_others(self) -> None:
         count = "1 definitions in 2 lines"
-        self.assertEqual(self.statement_wrong(count, "`low/Texts`"), ["docs/PROOFS.md doesn't name low/Texts"])
+        self.assertEqual(
+            self.statement_wrong(count, "`low/Texts`"), ["docs/PROOFS.md doesn't name low/Texts"]
+        )
         told = ["docs/PROOFS.md names low/Parts/Old, on which none of its clauses stands"]
         self.assertEqual(self.statement_wrong(f"{count}, `low/Texts`, `low/Parts/Old`."), told)
         told = ["docs/PROOFS.md doesn't say that the theorem stands on 1 definitions, 2 lines"]
@@ -117,13 +178,21 @@ class Statement(Made):
 
 class Words(unittest.TestCase):
     def test_the_shares_fit_the_whole(self) -> None:
-        self.assertLessEqual(sum(share for file, share in checks.SHARES.items() if file.startswith("docs/")), checks.WHOLE)
+        self.assertLessEqual(
+            sum(share for file, share in checks.SHARES.items() if file.startswith("docs/")),
+            checks.WHOLE,
+        )
 
     def test_words_are_those_of_wc(self) -> None:
         self.assertEqual(texts.words_of("one  two\n| three-four |\n\u00a0".encode()), 6)
 
     def test_anchors_are_those_of_forges(self) -> None:
-        self.assertEqual(texts.anchors_of("# What a *well-formed* server is\n## `a` b\n## `a` b\n```\n# no\n```\n"), {"what-a-well-formed-server-is", "a-b", "a-b-1"})
+        self.assertEqual(
+            texts.anchors_of(
+                "# What a *well-formed* server is\n## `a` b\n## `a` b\n```\n# no\n```\n"
+            ),
+            {"what-a-well-formed-server-is", "a-b", "a-b-1"},
+        )
 
 
 if __name__ == "__main__":

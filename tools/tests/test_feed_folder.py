@@ -10,10 +10,16 @@ from feed_folder import Asked, Folder, NotOpened, differences, findings
 from feed_replay import replay
 from feed_text import About, Column, Definition, Line, closing_line, entry_text, segment_head
 
-STOCK = Definition(16384, "public", "stock", "d", (Column("sku", 25, -1, True), Column("quantity", 23)))
+STOCK = Definition(
+    16384, "public", "stock", "d", (Column("sku", 25, -1, True), Column("quantity", 23))
+)
 ASKED = Asked("7", "shop", "pgsub")
 # of each commit the end, the lines and what it is about
-FIRST = (0x130, [Line(STOCK, "c", None, ["A", "5"]), Line(STOCK, "u", ["A", "5"], ["A", "4"])], About(0x100, 739, 1_000_000))
+FIRST = (
+    0x130,
+    [Line(STOCK, "c", None, ["A", "5"]), Line(STOCK, "u", ["A", "5"], ["A", "4"])],
+    About(0x100, 739, 1_000_000),
+)
 SECOND = (0x230, [Line(STOCK, "x", ["B", None], None, "K")], About(0x200, 741, 2_999_999))
 THIRD = (0x330, list[Line](), About(0x300, 742, 3_000_000))
 COMMITS = (FIRST, SECOND, THIRD)
@@ -31,13 +37,17 @@ class Case(unittest.TestCase):
     def setUp(self) -> None:
         self.folder = Folder()
 
-    def run_once(self, position: int, *commits: tuple[int, list[Line], About], **asked: int) -> None:
+    def run_once(
+        self, position: int, *commits: tuple[int, list[Line], About], **asked: int
+    ) -> None:
         self.folder.open(position, Asked("7", "shop", "pgsub", **asked))
         for commit in commits:
             self.folder.commit(*commit)
 
     def check(self, *segments: dict[str, bytes]) -> None:
-        self.assertEqual(self.folder.files(), {name: text for it in segments for name, text in it.items()})
+        self.assertEqual(
+            self.folder.files(), {name: text for it in segments for name, text in it.items()}
+        )
 
     def test_one_segment(self) -> None:
         self.run_once(0, *COMMITS)
@@ -53,7 +63,9 @@ class Case(unittest.TestCase):
 
     def test_a_segment_for_each_commit(self) -> None:
         self.run_once(0, *COMMITS, segment_bytes=0)
-        self.check(one(0, TEXTS[0], ends=0x130), one(0x130, TEXTS[1], ends=0x230), one(0x230, TEXTS[2]))
+        self.check(
+            one(0, TEXTS[0], ends=0x130), one(0x130, TEXTS[1], ends=0x230), one(0x230, TEXTS[2])
+        )
 
     def test_bytes_of_a_segment(self) -> None:
         length = len(HEAD + TEXTS[0] + TEXTS[1])
@@ -141,16 +153,28 @@ class Differences(unittest.TestCase):
         self.assertEqual(differences(dict(self.wanted), self.wanted), [])
 
     def test_of_a_commit(self) -> None:
-        self.check('"xid":739', '"xid":740', r'^0{16}, line 2 from byte \d+: .*"xid":740,.*\n   and not .*"xid":739,')
-        self.check('"xid":741', '"xid":739', r'^0{16}, line 6 from byte \d+: .*"xid":739,.*\n   and not .*"xid":741,')
-        self.check('"ts_us":946684801000000', '"ts_us":946684801000001', 'line 2 .*1000001}\n')
+        self.check(
+            '"xid":739',
+            '"xid":740',
+            r'^0{16}, line 2 from byte \d+: .*"xid":740,.*\n   and not .*"xid":739,',
+        )
+        self.check(
+            '"xid":741',
+            '"xid":739',
+            r'^0{16}, line 6 from byte \d+: .*"xid":739,.*\n   and not .*"xid":741,',
+        )
+        self.check('"ts_us":946684801000000', '"ts_us":946684801000001', "line 2 .*1000001}\n")
         self.check('"lsn":"0/100"', '"lsn":"0/130"', '"lsn":"0/130",.*\n.*"lsn":"0/100",')
         self.check('"end":"0/230"', '"end":"0/231"', 'line 6 from byte 12: {"end":"0/231"')
         self.check('"prev":"0/130"', '"prev":"0/100"', 'line 6 .*"prev":"0/100"')
         self.check('"changes":2', '"changes":3', 'line 2 .*"changes":3')
 
     def test_of_changes(self) -> None:
-        self.check('"before":["A","5"]', '"before":["A","4"]', r'line 5 from byte 43: .*"before":\["A","4"\],')
+        self.check(
+            '"before":["A","5"]',
+            '"before":["A","4"]',
+            r'line 5 from byte 43: .*"before":\["A","4"\],',
+        )
         self.check('"after":["A","4"]', '"after":["A","5"]', r'line 5 .*"after":\["A","5"\]}')
         self.check('"before":null,"after":["A","5"]', '"before":["A","5"],"after":null', "line 4 ")
         self.check('["K",["B",null]]', '["O",["B",null]]', r'line 8 .*"old":\["O",\["B",null\]\]')
@@ -162,36 +186,60 @@ class Differences(unittest.TestCase):
 
     def test_of_a_head_and_an_end(self) -> None:
         self.check('"slot":"pgsub"', '"slot":"other"', 'line 1 .*"slot":"other"')
-        self.check('{"last":"0/230"}', '{"last":"0/130"}', 'line 9 from byte 11: {"last":"0/130"}\n   and not {"last":"0/230"}')
+        self.check(
+            '{"last":"0/230"}',
+            '{"last":"0/130"}',
+            'line 9 from byte 11: {"last":"0/130"}\n   and not {"last":"0/230"}',
+        )
 
     def found(self, text: bytes, told: str) -> None:
-        self.assertRegex("\n".join(differences({**self.wanted, self.name: text}, self.wanted)), told)
+        self.assertRegex(
+            "\n".join(differences({**self.wanted, self.name: text}, self.wanted)), told
+        )
 
     def test_a_change_is_missing(self) -> None:
         first = (FIRST[0], FIRST[1][:1], FIRST[2])
-        self.found(HEAD + entry_text(0, *first) + TEXTS[1] + closing_line(0x230), 'line 2 .*"changes":1,.*\n.*"changes":2,')
+        self.found(
+            HEAD + entry_text(0, *first) + TEXTS[1] + closing_line(0x230),
+            'line 2 .*"changes":1,.*\n.*"changes":2,',
+        )
         lines = (HEAD + b"".join(TEXTS[:2]) + closing_line(0x230)).splitlines(keepends=True)
-        self.found(b"".join(lines[:4] + lines[5:]), 'line 5 from byte 2: {"end".*\n   and not {"op":"u"')
+        self.found(
+            b"".join(lines[:4] + lines[5:]), 'line 5 from byte 2: {"end".*\n   and not {"op":"u"'
+        )
 
     def test_a_commit_is_missing(self) -> None:
-        self.found(HEAD + TEXTS[0] + closing_line(0x230), 'line 6 from byte 2: {"last".*\n   and not {"end":"0/230"')
-        self.found(HEAD + b"".join(TEXTS[:2]), "line 9 from byte 0: nothing\n   and not {\"last\"")
+        self.found(
+            HEAD + TEXTS[0] + closing_line(0x230),
+            'line 6 from byte 2: {"last".*\n   and not {"end":"0/230"',
+        )
+        self.found(HEAD + b"".join(TEXTS[:2]), 'line 9 from byte 0: nothing\n   and not {"last"')
 
     def test_something_more(self) -> None:
-        self.found(self.wanted[self.name] + TEXTS[2], 'line 10 from byte 0: {"end":"0/330".*\n   and not nothing')
+        self.found(
+            self.wanted[self.name] + TEXTS[2],
+            'line 10 from byte 0: {"end":"0/330".*\n   and not nothing',
+        )
         self.found(self.wanted[self.name] + b"\n", r"^0{16}, \d+ bytes and not \d+$")
         self.found(self.wanted[self.name][:-1], r"^0{16}, \d+ bytes and not \d+$")
 
     def test_segments(self) -> None:
-        told = differences({self.name: self.wanted[self.name], "0000000000000130": b"x"}, self.wanted)
-        self.assertEqual(told, ["0000000000000130 is there, with 1 bytes", "0000000000000230 isn't there"])
+        told = differences(
+            {self.name: self.wanted[self.name], "0000000000000130": b"x"}, self.wanted
+        )
+        self.assertEqual(
+            told, ["0000000000000130 is there, with 1 bytes", "0000000000000230 isn't there"]
+        )
 
     def test_long_lines_are_shortened(self) -> None:
         long = Line(STOCK, "c", None, ["x" * 5000, "5"])
         other = Line(STOCK, "c", None, ["x" * 5000, "6"])
         (told,) = differences({"a": entry_text(0, 9, [long])}, {"a": entry_text(0, 9, [other])})
         self.assertLess(len(told), 1000)
-        self.assertRegex(told, r'^a, line 3 from byte 50\d\d: \.\. x+","5"\]}\n? \.\.\n   and not \.\. x+","6"\]} \.\.')
+        self.assertRegex(
+            told,
+            r'^a, line 3 from byte 50\d\d: \.\. x+","5"\]}\n? \.\.\n   and not \.\. x+","6"\]} \.\.',
+        )
 
 
 class OnTheDisk(unittest.TestCase):
@@ -210,7 +258,10 @@ class OnTheDisk(unittest.TestCase):
             Path(folder, "confirmed").unlink()
             Path(folder, "0" * 16).chmod(0o640)
             folder.chmod(0o755)
-            self.assertEqual(findings(folder, wanted), ["copy.feed has the mode 755", "0000000000000000 has the mode 640"])
+            self.assertEqual(
+                findings(folder, wanted),
+                ["copy.feed has the mode 755", "0000000000000000 has the mode 640"],
+            )
 
 
 if __name__ == "__main__":

@@ -8,7 +8,9 @@ from pathlib import Path
 
 from feed_text import UNSENT, About, Column, Definition, Line, Writer, entry_text, segment_head
 
-STOCK = Definition(16384, "public", "stock", "d", (Column("sku", 25, -1, True), Column("quantity", 23)))
+STOCK = Definition(
+    16384, "public", "stock", "d", (Column("sku", 25, -1, True), Column("quantity", 23))
+)
 WIDER = Definition(16384, "public", "stock", "d", (*STOCK.columns, Column("price", 1700, 655366)))
 NOTES = Definition(16390, "", 'no"tes', "f", (Column("text", 25), Column("data", 17)))
 ABOUT = About(622870840, 739, 753000000123456)
@@ -29,13 +31,21 @@ def commit(end: str, prev: str, size: int, changes: int, about: str = ABOUT_TEXT
 
 
 class Texts(unittest.TestCase):
-    def check(self, prev: int, end: int, lines: list[Line], about: About | None, *wanted: str) -> None:
+    def check(
+        self, prev: int, end: int, lines: list[Line], about: About | None, *wanted: str
+    ) -> None:
         self.assertEqual(entry_text(prev, end, lines, about).decode().splitlines(), list(wanted))
 
     def test_of_one_table(self) -> None:
         self.check(
-            622870584, 622870888,
-            [Line(STOCK, "c", None, ["A-1", "5"]), Line(STOCK, "u", ["A-1", "5"], ["A-1", None]), Line(STOCK, "d", ["A-1", None])], ABOUT,
+            622870584,
+            622870888,
+            [
+                Line(STOCK, "c", None, ["A-1", "5"]),
+                Line(STOCK, "u", ["A-1", "5"], ["A-1", None]),
+                Line(STOCK, "d", ["A-1", None]),
+            ],
+            ABOUT,
             commit("0/25204168", "0/25204038", 333, 3),
             STOCK_TEXT,
             '{"op":"c","oid":16384,"n":0,"before":null,"after":["A-1","5"]}',
@@ -45,10 +55,14 @@ class Texts(unittest.TestCase):
 
     def test_definitions(self) -> None:
         self.check(
-            622870888, 622871000,
+            622870888,
+            622871000,
             [
-                Line(STOCK, "c", None, ["A", "1"]), Line(NOTES, "c", None, ['é "x"\n', b"\0\xff"]), Line(STOCK, "d", ["A", "1"]),
-                Line(WIDER, "c", None, ["A", "1", "0.50"]), Line(NOTES, "c", None, ["", None]),
+                Line(STOCK, "c", None, ["A", "1"]),
+                Line(NOTES, "c", None, ['é "x"\n', b"\0\xff"]),
+                Line(STOCK, "d", ["A", "1"]),
+                Line(WIDER, "c", None, ["A", "1", "0.50"]),
+                Line(NOTES, "c", None, ["", None]),
                 Line(WIDER, "u", ["A", "1", "0.50"], ["B", "1", "0.50"]),
             ],
             ABOUT,
@@ -66,16 +80,24 @@ class Texts(unittest.TestCase):
 
     def test_a_truncation(self) -> None:
         self.check(
-            622871000, 622872000, [Line(NOTES, "t")], ABOUT,
-            commit("0/252045C0", "0/252041D8", 191, 1), NOTES_TEXT, '{"op":"t","oid":16390,"n":0,"before":null,"after":null}',
+            622871000,
+            622872000,
+            [Line(NOTES, "t")],
+            ABOUT,
+            commit("0/252045C0", "0/252041D8", 191, 1),
+            NOTES_TEXT,
+            '{"op":"t","oid":16390,"n":0,"before":null,"after":null}',
         )
 
     def test_changes_that_found_no_row(self) -> None:
         self.check(
-            622872000, 622873000,
+            622872000,
+            622873000,
             [
-                Line(STOCK, "x", None, ["A", UNSENT]), Line(STOCK, "x", ["A", None], ["B", "1"], "K"),
-                Line(STOCK, "x", ["A", None], None, "K"), Line(NOTES, "x", ["a", b"\x10"], None, "O"),
+                Line(STOCK, "x", None, ["A", UNSENT]),
+                Line(STOCK, "x", ["A", None], ["B", "1"], "K"),
+                Line(STOCK, "x", ["A", None], None, "K"),
+                Line(NOTES, "x", ["a", b"\x10"], None, "O"),
             ],
             ABOUT,
             commit("0/252049A8", "0/252045C0", 587, 4),
@@ -91,16 +113,31 @@ class Texts(unittest.TestCase):
         most = 2**64 - 1
         nothing = '"lsn":null,"xid":null,"ts_us":null}'
         self.check(622873000, 4294967312, [], ABOUT, commit("1/10", "0/252049A8", 0, 0))
-        self.check(622873000, 622874000, [], None, commit("0/25204D90", "0/252049A8", 0, 0, nothing))
+        self.check(
+            622873000, 622874000, [], None, commit("0/25204D90", "0/252049A8", 0, 0, nothing)
+        )
         for prev, text, time, told in (
-            (0, "0/0", -(2**63), -9222425352054775808), (most - 1, "FFFFFFFF/FFFFFFFE", 2**63 - 1, 9224318721654775807),
+            (0, "0/0", -(2**63), -9222425352054775808),
+            (most - 1, "FFFFFFFF/FFFFFFFE", 2**63 - 1, 9224318721654775807),
         ):
             about = f'"lsn":"FFFFFFFF/FFFFFFFF","xid":4294967295,"ts_us":{told}}}'
-            self.check(prev, most, [], About(most, 2**32 - 1, time), commit("FFFFFFFF/FFFFFFFF", text, 0, 0, about))
+            self.check(
+                prev,
+                most,
+                [],
+                About(most, 2**32 - 1, time),
+                commit("FFFFFFFF/FFFFFFFF", text, 0, 0, about),
+            )
 
     def test_head(self) -> None:
         text = segment_head(622870584, "7231", 'pu"b', "copy").decode()
-        self.assertEqual(text, '{"feed":1,"base":"0/25204038","system":"7231","database":"pu\\"b","slot":"copy"}'.ljust(1023) + "\n")
+        self.assertEqual(
+            text,
+            '{"feed":1,"base":"0/25204038","system":"7231","database":"pu\\"b","slot":"copy"}'.ljust(
+                1023
+            )
+            + "\n",
+        )
 
 
 class Segments(unittest.TestCase):

@@ -1,4 +1,5 @@
-"""How tools/gate moves the mutants out of the way of the proofs, and back. What proves them is a script in its place."""
+"""How tools/gate moves the mutants out of the way of the proofs, and back. What proves them is a
+script in its place."""
 
 import os
 import shutil
@@ -33,28 +34,56 @@ class Moves(unittest.TestCase):
         file.write_text(text)
 
     def files(self) -> list[str]:
-        return sorted(str(it.relative_to(self.top / "crates")) for it in (self.top / "crates").rglob("*") if it.is_file())
+        return sorted(
+            str(it.relative_to(self.top / "crates"))
+            for it in (self.top / "crates").rglob("*")
+            if it.is_file()
+        )
 
     def prove(self) -> tuple[int, str, list[str]]:
-        """Runs the proofs; the exit status, the last line, and where the mutants were while they ran, if they did."""
+        """Runs the proofs; the exit status, the last line, and where the mutants were while they
+        ran, if they did."""
         seen = self.top / "seen"
         seen.unlink(missing_ok=True)
         environment = {**os.environ, "RT_JOBS": "1"}
-        ran = subprocess.run([self.top / "tools/gate", "--proofs"], capture_output=True, text=True, env=environment)
+        ran = subprocess.run(
+            [self.top / "tools/gate", "--proofs"], capture_output=True, text=True, env=environment
+        )
         found = seen.read_text().split() if seen.exists() else []
-        return ran.returncode, ran.stdout.splitlines()[-1], [it.removeprefix("crates/") for it in found]
+        return (
+            ran.returncode,
+            ran.stdout.splitlines()[-1],
+            [it.removeprefix("crates/") for it in found],
+        )
 
     def test_they_stand_elsewhere_while_it_proves(self) -> None:
         before = self.files()
-        self.assertEqual(self.prove(), (0, "3 passed, 0 failed", ["pgone/mutants/must-fail/first.edit", "pgone/mutants/slow.edit"]))
+        self.assertEqual(
+            self.prove(),
+            (
+                0,
+                "3 passed, 0 failed",
+                ["pgone/mutants/must-fail/first.edit", "pgone/mutants/slow.edit"],
+            ),
+        )
         self.assertEqual(self.files(), before)
 
     def test_what_a_killed_gate_left_joins_what_is_there(self) -> None:
         self.write("pgone/mutants/must-fail/first.edit")
         self.write("pgone/mutants/must-fail/second.edit")
-        seen = [f"pgone/mutants/{it}" for it in ("must-fail/first.edit", "must-fail/second.edit", "slow.edit")]
+        seen = [
+            f"pgone/mutants/{it}"
+            for it in ("must-fail/first.edit", "must-fail/second.edit", "slow.edit")
+        ]
         self.assertEqual(self.prove(), (0, "3 passed, 0 failed", seen))
-        self.assertEqual(self.files(), ["pgone/must-fail/first.edit", "pgone/must-fail/second.edit", "pgone/mutants/slow.edit"])
+        self.assertEqual(
+            self.files(),
+            [
+                "pgone/must-fail/first.edit",
+                "pgone/must-fail/second.edit",
+                "pgone/mutants/slow.edit",
+            ],
+        )
 
     def test_nothing_is_proved_where_two_files_of_a_name_differ(self) -> None:
         self.write("pgone/mutants/must-fail/first.edit", "other text")
@@ -64,7 +93,9 @@ class Moves(unittest.TestCase):
         self.assertEqual(self.prove(), (1, "0 passed, 1 failed", []))
         self.assertEqual(self.files(), before)
         self.assertEqual((self.top / "crates/pgone/must-fail/first.edit").read_text(), "text")
-        self.assertEqual((self.top / "crates/pgone/mutants/must-fail/first.edit").read_text(), "other text")
+        self.assertEqual(
+            (self.top / "crates/pgone/mutants/must-fail/first.edit").read_text(), "other text"
+        )
 
     def test_a_folder_that_cannot_be_moved_counts(self) -> None:
         self.write("pgtwo/must-fail/third.edit")

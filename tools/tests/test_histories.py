@@ -39,7 +39,9 @@ def stopped(*_: Any) -> Cases:
 
 
 class Status(unittest.TestCase):
-    def run_it(self, tool: Any, *words: str, made: Callable[..., Cases] = finished) -> tuple[int, str]:
+    def run_it(
+        self, tool: Any, *words: str, made: Callable[..., Cases] = finished
+    ) -> tuple[int, str]:
         """A tool's exit status and output, over these cases."""
         self.addCleanup(signal.signal, signal.SIGTERM, signal.getsignal(signal.SIGTERM))
         with (

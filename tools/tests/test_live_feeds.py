@@ -1,5 +1,5 @@
-"""What is compared of a feed with a server: arrays as it prints them, the images of a commit with what triggers have logged, and tables with
-the rows to which a feed leads."""
+"""What is compared of a feed with a server: arrays as it prints them, the images of a commit with
+what triggers have logged, and tables with the rows to which a feed leads."""
 
 from __future__ import annotations
 
@@ -20,8 +20,14 @@ except ModuleNotFoundError:
 
 
 ARRAYS: dict[str | None, list[str | None] | None] = {
-    None: None, "{}": [], "{1}": ["1"], "{1,NULL,a b}": ["1", None, "a b"], '{"",x}': ["", "x"], '{"NULL",NULL}': ["NULL", None],
-    r'{"a\"b","c\\d","e,f","{}"}': ['a"b', "c\\d", "e,f", "{}"], '{"line\nbreak","ä 漢"}': ["line\nbreak", "ä 漢"],
+    None: None,
+    "{}": [],
+    "{1}": ["1"],
+    "{1,NULL,a b}": ["1", None, "a b"],
+    '{"",x}': ["", "x"],
+    '{"NULL",NULL}': ["NULL", None],
+    r'{"a\"b","c\\d","e,f","{}"}': ['a"b', "c\\d", "e,f", "{}"],
+    '{"line\nbreak","ä 漢"}': ["line\nbreak", "ä 漢"],
 }
 
 
@@ -40,22 +46,36 @@ class Compared(unittest.TestCase):
 
     def commit(self, before: list[str], logged: str, op: str = "UPDATE") -> int:
         return self.check(
-            {"op": "table", "oid": 1, "table": "stock"}, {"op": "u", "oid": 1, "n": 0, "before": before, "after": ["A", "4"]},
+            {"op": "table", "oid": 1, "table": "stock"},
+            {"op": "u", "oid": 1, "n": 0, "before": before, "after": ["A", "4"]},
             {"op": "table", "oid": 2, "table": "logged"},
-            {"op": "c", "oid": 2, "n": 1, "before": None, "after": ["1", "stock", op, logged, "{A,4}"]},
+            {
+                "op": "c",
+                "oid": 2,
+                "n": 1,
+                "before": None,
+                "after": ["1", "stock", op, logged, "{A,4}"],
+            },
         )
 
     def test_the_same(self) -> None:
         self.assertEqual(self.commit(["A", "5"], "{A,5}"), 1)
 
     def test_others(self) -> None:
-        for before, logged, op in ((["A", "6"], "{A,5}", "UPDATE"), (["A", "5"], "{A,NULL}", "UPDATE"), (["A", "5"], "{A,5}", "DELETE")):
+        for before, logged, op in (
+            (["A", "6"], "{A,5}", "UPDATE"),
+            (["A", "5"], "{A,NULL}", "UPDATE"),
+            (["A", "5"], "{A,5}", "DELETE"),
+        ):
             with self.assertRaisesRegex(Failed, "commit 0/100, table stock"):
                 self.commit(before, logged, op)
 
     def test_one_that_no_trigger_saw(self) -> None:
         with self.assertRaisesRegex(Failed, "the feed has 1, and the trigger 0"):
-            self.check({"op": "table", "oid": 1, "table": "stock"}, {"op": "d", "oid": 1, "n": 0, "before": ["A", "5"], "after": None})
+            self.check(
+                {"op": "table", "oid": 1, "table": "stock"},
+                {"op": "d", "oid": 1, "n": 0, "before": ["A", "5"], "after": None},
+            )
 
 
 class OfTables(unittest.TestCase):
@@ -71,7 +91,7 @@ class OfTables(unittest.TestCase):
         self.path.unlink(missing_ok=True)
         with contextlib.closing(sqlite3.connect(self.path, isolation_level=None)) as base:
             base.executescript(
-                "CREATE TABLE pgsub_position (lsn TEXT); CREATE TABLE pgsub_tables (name TEXT, schema TEXT, \"table\" TEXT, oid INTEGER);"
+                'CREATE TABLE pgsub_position (lsn TEXT); CREATE TABLE pgsub_tables (name TEXT, schema TEXT, "table" TEXT, oid INTEGER);'
                 "INSERT INTO pgsub_tables VALUES ('t', 'public', 't', 1); CREATE TABLE t (a INTEGER, b ANY) STRICT"
             )
             base.execute("INSERT INTO pgsub_position VALUES (?)", (lsn,))
@@ -90,16 +110,32 @@ class OfTables(unittest.TestCase):
         with self.assertRaisesRegex(Failed, "columns of the types"):
             compare_file(self.path, self.of(("INTEGER", "REAL")))
         with self.assertRaisesRegex(Failed, "public.other: it lacks"):
-            compare_file(self.path, {**self.of(), ("public", "other"): Held(("INTEGER",), held((), [(1,)]).rows)})
+            compare_file(
+                self.path,
+                {**self.of(), ("public", "other"): Held(("INTEGER",), held((), [(1,)]).rows)},
+            )
 
     def test_values_of_types(self) -> None:
-        texts = {"smallint": "7", "integer": "-7", "bigint": "9223372036854775807", "boolean": "t", "bytea": "\\x00ff", "real": "0.1", "double precision": "NaN"}
+        texts = {
+            "smallint": "7",
+            "integer": "-7",
+            "bigint": "9223372036854775807",
+            "boolean": "t",
+            "bytea": "\\x00ff",
+            "real": "0.1",
+            "double precision": "NaN",
+        }
         found = {kind: HAS[kind][1](text) for kind, text in texts.items()}
         self.assertEqual(list(found.values()), [7, -7, (1 << 63) - 1, 1, b"\0\xff", 0.1, "NaN"])
 
     def replayed(self, b: str) -> Replay:
         state = Replay(0x100)
-        definition = {"oid": 1, "schema": "public", "table": "t", "columns": [["a", 23, -1], ["b", 701, -1]]}
+        definition = {
+            "oid": 1,
+            "schema": "public",
+            "table": "t",
+            "columns": [["a", 23, -1], ["b", 701, -1]],
+        }
         state.describe(definition)
         state.change({"op": "c", "oid": 1, "before": None, "after": ["1", b]})
         return state

@@ -1,4 +1,5 @@
-"""What is read of a store that a follower has left: by the program's dump and in its file, also where something was killed."""
+"""What is read of a store that a follower has left: by the program's dump and in its file, also
+where something was killed."""
 
 from __future__ import annotations
 
@@ -36,7 +37,8 @@ cat "$0.txt"
 """
 # in seconds
 LONG = 1.0
-# stands for the connector: it says which child it has, which stands for the filter and ends with its input, and starts another if that ends
+# stands for the connector: it says which child it has, which stands for the filter and ends with
+# its input, and starts another if that ends
 CONNECTOR = """
 import subprocess, sys
 while True:
@@ -58,8 +60,12 @@ class Case(unittest.TestCase):
         self.dumps(DUMP)
         body = b"\0\2" + stored.cell(b"2") + b"n"
         key, row = stored.keyed_row(2, b"")
-        rows = dict([stored.full_row(b"a", 2), stored.keyed_row(1, b"x"), (key, type(row)(body, 1))])
-        self.held = Contents({stored.STOCK: stored.KEYED, stored.LOG: stored.FULL}, rows, 0x1_0000_0030)
+        rows = dict(
+            [stored.full_row(b"a", 2), stored.keyed_row(1, b"x"), (key, type(row)(body, 1))]
+        )
+        self.held = Contents(
+            {stored.STOCK: stored.KEYED, stored.LOG: stored.FULL}, rows, 0x1_0000_0030
+        )
         self.writer = Writer(self.store, random.Random(1))
         self.writer.make(1024)
         self.writer.write_log(Contents(), self.held)
@@ -70,18 +76,26 @@ class Case(unittest.TestCase):
     def test_the_file_is_as_the_dump(self) -> None:
         rows, position = rows_of_store(self.program, self.store)
         self.assertEqual(position, "1/30")
-        self.assertEqual(rows, {
-            ("pg_catalog", "log"): collections.Counter({("a",): 2}),
-            ("public", "stock"): collections.Counter([("1", "x"), ("2", None)]),
-        })
+        self.assertEqual(
+            rows,
+            {
+                ("pg_catalog", "log"): collections.Counter({("a",): 2}),
+                ("public", "stock"): collections.Counter([("1", "x"), ("2", None)]),
+            },
+        )
         self.assertEqual(rows_of_file(self.store), (rows, position))
         # (neither the file nor its log was changed)
-        self.assertEqual(sorted(it.name for it in self.folder.iterdir()), ["copy.db", "copy.db-wal", "program", "program.txt"])
+        self.assertEqual(
+            sorted(it.name for it in self.folder.iterdir()),
+            ["copy.db", "copy.db-wal", "program", "program.txt"],
+        )
 
     def test_the_dump_has_other_rows(self) -> None:
         for old, new, told in (
-            ('["a"],2', '["a"],1', "pg_catalog.log: the copy lacks"), ('"x"', '"y"', "public.stock: the copy lacks"),
-            ("null", '""', "public.stock"), ("1/30", "1/31", "copy.db has the position 1/30, and the dump 1/31"),
+            ('["a"],2', '["a"],1', "pg_catalog.log: the copy lacks"),
+            ('"x"', '"y"', "public.stock: the copy lacks"),
+            ("null", '""', "public.stock"),
+            ("1/30", "1/31", "copy.db has the position 1/30, and the dump 1/31"),
         ):
             self.dumps(DUMP.replace(old, new))
             with self.assertRaisesRegex(Failed, told):

@@ -12,7 +12,8 @@ from pathlib import Path
 
 TOP = Path(__file__).resolve().parents[2]
 KIT = "a-kit logic 1"
-# A toolchain whose program prints what its source says. It takes what is in its folder, and says so.
+# A toolchain whose program prints what its source says. It takes what is in its folder, and says
+# so.
 RT = """#!/bin/sh
 [ "$1" = version ] && { echo "${KIT-a-kit logic 1}"; exit; }
 echo "$PWD" >> "$CALLS"
@@ -23,7 +24,8 @@ mkdir -p out
 { echo '#!/bin/sh'; echo "echo $(cat src/main.rt)" '"$@"'; } > out/pgsub
 chmod +x out/pgsub
 """
-# Its `try` prints the words, then the files that it is given by their names, and ends as the first word after `--` says.
+# Its `try` prints the words, then the files that it is given by their names, and ends as the first
+# word after `--` says.
 TRY = """#!/bin/sh
 shift
 while [ "$1" != -- ]; do
@@ -45,12 +47,18 @@ class Case(unittest.TestCase):
     def setUp(self) -> None:
         room = tempfile.TemporaryDirectory()
         self.addCleanup(room.cleanup)
-        self.top, self.calls, self.cache = (Path(room.name, it) for it in ("checkout", "calls", "cache"))
+        self.top, self.calls, self.cache = (
+            Path(room.name, it) for it in ("checkout", "calls", "cache")
+        )
         (self.top / "crates/pgsub/src").mkdir(parents=True)
         shutil.copy(TOP / "pgsub", self.top)
         (self.top / "tools").mkdir()
         shutil.copy(TOP / "tools/building.py", self.top / "tools")
-        for name, text in (("KITS", f"# kits\nanother\n{KIT}\n"), ("HANDLES", "none\n"), ("crates.txt", "pgsub:\n")):
+        for name, text in (
+            ("KITS", f"# kits\nanother\n{KIT}\n"),
+            ("HANDLES", "none\n"),
+            ("crates.txt", "pgsub:\n"),
+        ):
             (self.top / name).write_text(text)
         self.rt = Path(room.name, "rt")
         for name, text in (("rt", RT), ("try", TRY)):
@@ -66,8 +74,21 @@ class Case(unittest.TestCase):
         os.utime(path, (time.time() + age,) * 2)
 
     def run_it(self, *words: str, **more: str) -> tuple[int, str, str]:
-        environment = {**os.environ, "PYTHONDONTWRITEBYTECODE": "1", "RT": str(self.rt), "CALLS": str(self.calls), "XDG_CACHE_HOME": str(self.cache), **more}
-        ran = subprocess.run([self.top / "pgsub", *words], capture_output=True, text=True, env=environment, cwd=self.top)
+        environment = {
+            **os.environ,
+            "PYTHONDONTWRITEBYTECODE": "1",
+            "RT": str(self.rt),
+            "CALLS": str(self.calls),
+            "XDG_CACHE_HOME": str(self.cache),
+            **more,
+        }
+        ran = subprocess.run(
+            [self.top / "pgsub", *words],
+            capture_output=True,
+            text=True,
+            env=environment,
+            cwd=self.top,
+        )
         return ran.returncode, ran.stdout, ran.stderr
 
     def room(self) -> Path:
@@ -87,7 +108,10 @@ class Case(unittest.TestCase):
         self.assertEqual(self.run_it("--is-current"), (0, "", ""))
         self.assertEqual(self.builds(), 1)
         self.assertEqual(self.calls.read_text(), f"{self.room()}/crates/pgsub\n")
-        self.assertEqual(sorted(os.listdir(self.top)), ["HANDLES", "KITS", "crates", "crates.txt", "pgsub", "tools"])
+        self.assertEqual(
+            sorted(os.listdir(self.top)),
+            ["HANDLES", "KITS", "crates", "crates.txt", "pgsub", "tools"],
+        )
 
     def test_help_builds_nothing(self) -> None:
         for word in ("--help", "-h"):
@@ -102,7 +126,9 @@ class Case(unittest.TestCase):
         self.write("second", 100.0)
         status, out, err = self.run_it("a")
         self.assertEqual((status, out), (0, "first a\n"))
-        self.assertEqual(err, "pgsub: the program is older than its sources: ./pgsub --build makes it anew\n")
+        self.assertEqual(
+            err, "pgsub: the program is older than its sources: ./pgsub --build makes it anew\n"
+        )
         status, out, err = self.run_it("--is-current")
         self.assertEqual((status, out), (1, ""))
         self.assertIn("older than", err)
@@ -123,10 +149,15 @@ class Case(unittest.TestCase):
     def built_of(self) -> list[str]:
         """Builds the program. Returns the commit and the kit that its sources have then."""
         self.run_it("--build")
-        return re.findall(r'^pub\(crate\) const (?:COMMIT|KIT): &str = "(.*)";$', (self.room() / "crates/pgsub/src/build.rt").read_text(), re.M)
+        return re.findall(
+            r'^pub\(crate\) const (?:COMMIT|KIT): &str = "(.*)";$',
+            (self.room() / "crates/pgsub/src/build.rt").read_text(),
+            re.M,
+        )
 
     def test_what_it_is_built_of(self) -> None:
-        """The commit is the last one that changed the sources of the program, and is told where they were changed since."""
+        """The commit is the last one that changed the sources of the program, and is told where
+        they were changed since."""
         self.assertEqual(self.built_of(), ["unknown", KIT])
         (self.top / ".gitignore").write_text("out/\n")
         self.git("init", "-q")
@@ -161,7 +192,10 @@ class Case(unittest.TestCase):
 
     def test_another_kit(self) -> None:
         status, _, err = self.run_it("a", KIT="a-kit logic 2")
-        self.assertEqual((status, err), (126, f"pgsub: the toolchain is a-kit logic 2, and KITS names another;{KIT}\n"))
+        self.assertEqual(
+            (status, err),
+            (126, f"pgsub: the toolchain is a-kit logic 2, and KITS names another;{KIT}\n"),
+        )
         self.assertFalse(self.program.exists())
 
     def test_no_toolchain(self) -> None:
@@ -170,18 +204,25 @@ class Case(unittest.TestCase):
         self.assertIn("has to be on the path", err)
 
     def test_try(self) -> None:
-        """It says that nothing is proved, gives the program the files that the words name, and builds nothing."""
+        """It says that nothing is proved, gives the program the files that the words name, and
+        builds nothing."""
         (self.top / "here").write_text("a")
         (self.top.parent / "there").write_text("b")
-        status, out, err = self.run_it("--try", "apply", "here", f"{self.top.parent}/there", "nowhere")
+        status, out, err = self.run_it(
+            "--try", "apply", "here", f"{self.top.parent}/there", "nowhere"
+        )
         self.assertEqual((status, err), (3, UNPROVED + "told by the program\n"))
-        self.assertEqual(out, "here has a\ngiven/2/there has b\n-- apply here given/2/there nowhere\n")
+        self.assertEqual(
+            out, "here has a\ngiven/2/there has b\n-- apply here given/2/there nowhere\n"
+        )
         self.assertEqual(self.calls.read_text(), f"{self.top}/crates/pgsub\n")
         self.assertFalse(self.program.exists())
 
     def test_a_try_that_gives_no_answer(self) -> None:
         status, _, err = self.run_it("--try", "fault")
-        self.assertEqual((status, err), (4, UNPROVED + "told by the program\nrun=fault proved=no\n"))
+        self.assertEqual(
+            (status, err), (4, UNPROVED + "told by the program\nrun=fault proved=no\n")
+        )
 
     def test_a_try_with_another_kit(self) -> None:
         self.assertEqual(self.run_it("--try", "apply", KIT="a-kit logic 2")[0], 126)

@@ -1,4 +1,5 @@
-"""The script tools/refused_memory/run.sh: which requests it refuses, and how it tells what came of them."""
+"""The script tools/refused_memory/run.sh: which requests it refuses, and how it tells what came of
+them."""
 
 import os
 import re
@@ -9,7 +10,8 @@ import unittest
 from pathlib import Path
 
 TOP = Path(__file__).resolve().parents[2]
-# Test programs. `steady` asks ten times for memory, and stops at the first that it doesn't get; `careless` uses the seventh all the same.
+# Test programs. `steady` asks ten times for memory, and stops at the first that it doesn't get;
+# `careless` uses the seventh all the same.
 PROGRAM = """
 #include <stdio.h>
 #include <stdlib.h>
@@ -69,35 +71,53 @@ class Samples(unittest.TestCase):
     def refuse(self, *words: str, seed: str = "7") -> tuple[int, list[str]]:
         """The exit status, and the lines that are printed."""
         done = subprocess.run(
-            [self.top / "tools/refused_memory/run.sh", "--built", *words], env={**os.environ, "SEED": seed}, stdin=subprocess.DEVNULL,
-            capture_output=True, text=True, check=False,
+            [self.top / "tools/refused_memory/run.sh", "--built", *words],
+            env={**os.environ, "SEED": seed},
+            stdin=subprocess.DEVNULL,
+            capture_output=True,
+            text=True,
+            check=False,
         )
         return done.returncode, done.stdout.splitlines() + done.stderr.splitlines()
 
     def test_each(self) -> None:
-        self.assertEqual(self.refuse("demo/steady"), (0, ["demo steady: 10 requests, 0 passed, 10 stopped, 0 crashed"]))
+        self.assertEqual(
+            self.refuse("demo/steady"),
+            (0, ["demo steady: 10 requests, 0 passed, 10 stopped, 0 crashed"]),
+        )
 
     def test_a_crash(self) -> None:
         status, lines = self.refuse("demo")
-        self.assertEqual((status, lines[0]), (1, "demo steady: 10 requests, 0 passed, 10 stopped, 0 crashed"))
+        self.assertEqual(
+            (status, lines[0]), (1, "demo steady: 10 requests, 0 passed, 10 stopped, 0 crashed")
+        )
         self.assertRegex(lines[1], "^demo careless: status 134 with request 7 refused$")
         self.assertEqual(lines[-1], "demo careless: 10 requests, 0 passed, 9 stopped, 1 crashed")
 
     def test_one_of_each_part(self) -> None:
-        """Whatever the seed: the crash is the seventh of ten, so the second half has it, and one draw in five finds it."""
+        """Whatever the seed: the crash is the seventh of ten, so the second half has it, and one
+        draw in five finds it."""
         found = set()
         for seed in map(str, range(1, 13)):
             status, lines = self.refuse("--most", "2", "demo/careless", seed=seed)
             self.assertEqual(lines[0], f"SEED={seed}")
-            told = re.fullmatch(r"demo careless: 2 of 10 requests, 0 passed, ([12]) stopped, ([01]) crashed", lines[-1])
+            told = re.fullmatch(
+                r"demo careless: 2 of 10 requests, 0 passed, ([12]) stopped, ([01]) crashed",
+                lines[-1],
+            )
             assert told
             self.assertEqual((status, int(told[1])), (int(told[2]), 2 - int(told[2])))
             found.add(status)
-            self.assertEqual((status, lines), self.refuse("--most", "2", "demo/careless", seed=seed))
+            self.assertEqual(
+                (status, lines), self.refuse("--most", "2", "demo/careless", seed=seed)
+            )
         self.assertEqual(found, {0, 1})
 
     def test_a_sample_that_is_all(self) -> None:
-        self.assertEqual(self.refuse("--most", "10", "demo/steady")[1][1], "demo steady: 10 requests, 0 passed, 10 stopped, 0 crashed")
+        self.assertEqual(
+            self.refuse("--most", "10", "demo/steady")[1][1],
+            "demo steady: 10 requests, 0 passed, 10 stopped, 0 crashed",
+        )
 
     def test_a_program_without_tests(self) -> None:
         """Its stored run, over what is built: nothing is proved for it."""
@@ -109,14 +129,27 @@ class Samples(unittest.TestCase):
         source = self.top / "told.c"
         source.write_text(TOLD)
         subprocess.run(["gcc", "-O0", "-o", crate / "out/told", source], check=True)
-        self.assertEqual(self.refuse("told"), (0, ["told x: 3 requests, 0 passed, 3 stopped, 0 crashed"]))
-        for said, status in (("pgsub: store 8 Refused", 0), ("pgsub: store 8 Clash", 1), ("nothing", 1)):
-            source.write_text(TOLD.replace('"out of memory\\n", 14', f'"{said}\\n", {len(said) + 1}'))
+        self.assertEqual(
+            self.refuse("told"), (0, ["told x: 3 requests, 0 passed, 3 stopped, 0 crashed"])
+        )
+        for said, status in (
+            ("pgsub: store 8 Refused", 0),
+            ("pgsub: store 8 Clash", 1),
+            ("nothing", 1),
+        ):
+            source.write_text(
+                TOLD.replace('"out of memory\\n", 14', f'"{said}\\n", {len(said) + 1}')
+            )
             subprocess.run(["gcc", "-O0", "-o", crate / "out/told", source], check=True)
             self.assertEqual(self.refuse("told")[0], status, said)
 
     def test_wrong_words(self) -> None:
-        for words in (["--most"], ["--most", "0", "demo"], ["--most", "x", "demo"], ["--none", "demo"]):
+        for words in (
+            ["--most"],
+            ["--most", "0", "demo"],
+            ["--most", "x", "demo"],
+            ["--none", "demo"],
+        ):
             self.assertEqual(self.refuse(*words)[0], 2, words)
 
 

@@ -1,4 +1,5 @@
-"""The texts of a store's tables stand in two crates: one makes the tables, and the other knows a file by them."""
+"""The texts of a store's tables stand in two crates: one makes the tables, and the other knows a
+file by them."""
 
 import re
 import unittest
@@ -19,7 +20,11 @@ class Schema(unittest.TestCase):
     def test_the_tables_that_are_made_are_those_that_are_known(self) -> None:
         made = texts(MADE)
         self.assertEqual([it.split()[2] for it in made], ["rel", "held", "pos"])
-        self.assertEqual(texts(KNOWN), made, "a store that is made would be opened by way of SQL, with all rows in memory")
+        self.assertEqual(
+            texts(KNOWN),
+            made,
+            "a store that is made would be opened by way of SQL, with all rows in memory",
+        )
 
 
 if __name__ == "__main__":

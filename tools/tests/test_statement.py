@@ -76,21 +76,32 @@ class Found(Tree):
     def test_definitions_are_found_in_folders_and_lines_counted(self) -> None:
         self.assertEqual(
             self.stands_on(),
-            ["low.specs.Calls: 2 definitions, 4 lines", "low.specs.Server.Rows: 1 definitions, 2 lines", "3 definitions, 6 lines, 2 modules"],
+            [
+                "low.specs.Calls: 2 definitions, 4 lines",
+                "low.specs.Server.Rows: 1 definitions, 2 lines",
+                "3 definitions, 6 lines, 2 modules",
+            ],
         )
 
     def test_a_clause_may_make_a_record_of_several_fields(self) -> None:
         clause = "    ensures kept { Follows (record { store = 0; ledger = { 1 } }) result }\n    ensures safe { Row }\n"
-        self.write("crates/low/src/keeping.rt", f"use Rattle.low.specs.Calls.{{Follows}};\n\npub fn keep(a: u8) -> u8\n{clause}{{\n    0\n}}\n")
+        self.write(
+            "crates/low/src/keeping.rt",
+            f"use Rattle.low.specs.Calls.{{Follows}};\n\npub fn keep(a: u8) -> u8\n{clause}{{\n    0\n}}\n",
+        )
         self.assertEqual(self.printed(clause="low::keep.kept"), self.printed())
 
     def test_a_record_that_is_made_counts(self) -> None:
-        calls = FILES["crates/low/specs/Calls.antt"].replace("IsLeft sessions = sessions ≡ 0", "IsLeft sessions = place_of sessions ≡ place_of 0")
+        calls = FILES["crates/low/specs/Calls.antt"].replace(
+            "IsLeft sessions = sessions ≡ 0", "IsLeft sessions = place_of sessions ≡ place_of 0"
+        )
         self.write("crates/low/specs/Calls.antt", calls)
         self.assertIn("low.specs.Calls: 4 definitions, 8 lines", self.stands_on())
 
     def test_nested_modules_are_read_and_their_heads_belong_to_what_is_in_them(self) -> None:
-        calls = FILES["crates/low/specs/Calls.antt"].replace("IsLeft sessions × Row", "Within sessions × ℕ")
+        calls = FILES["crates/low/specs/Calls.antt"].replace(
+            "IsLeft sessions × Row", "Within sessions × ℕ"
+        )
         nested = """
 module _ {C : Type 0}
     (row : C → Row) where
@@ -108,14 +119,25 @@ After = Unit
         self.write("crates/low/specs/Calls.antt", calls + nested)
         self.assertEqual(
             self.stands_on(),
-            ["low.specs.Calls: 3 definitions, 6 lines", "low.specs.Server.Rows: 1 definitions, 2 lines", "4 definitions, 8 lines, 2 modules"],
+            [
+                "low.specs.Calls: 3 definitions, 6 lines",
+                "low.specs.Server.Rows: 1 definitions, 2 lines",
+                "4 definitions, 8 lines, 2 modules",
+            ],
         )
-        heads = "module _ {C : Type 0}\n    (row : C → Row) where\nmodule _ (place : C → Place) where\n"
-        self.assertIn(f"-- named only from outside\n{heads}abbrev pub Within : ℕ → Type 0\nWithin n = n ≡ 0\n", self.printed("--text"))
+        heads = (
+            "module _ {C : Type 0}\n    (row : C → Row) where\nmodule _ (place : C → Place) where\n"
+        )
+        self.assertIn(
+            f"-- named only from outside\n{heads}abbrev pub Within : ℕ → Type 0\nWithin n = n ≡ 0\n",
+            self.printed("--text"),
+        )
 
     def test_of_several_clauses_each_is_counted(self) -> None:
         more = "\n/// A law.\npub fn law()\n    ensures { Row }\n{}\n"
-        self.write("crates/low/src/laws.rt", "ghost use Rattle.low.specs.Server.Rows.{Row};\n" + more)
+        self.write(
+            "crates/low/src/laws.rt", "ghost use Rattle.low.specs.Server.Rows.{Row};\n" + more
+        )
         lines = self.printed("--clause", "low::law.ensures").splitlines()
         self.assertIn("low::follow.safe: 3 definitions, 6 lines", lines)
         self.assertIn("low::law.ensures: 1 definitions, 2 lines", lines)
@@ -124,7 +146,9 @@ After = Unit
     def test_a_clause_that_is_not_there_is_named(self) -> None:
         words = [sys.executable, str(self.top / "tools/statement"), "--clause", "low::follow.gone"]
         ran = subprocess.run(words, capture_output=True, text=True, check=False, timeout=30)
-        self.assertEqual((ran.returncode, ran.stderr), (1, "statement: there is no clause low::follow.gone\n"))
+        self.assertEqual(
+            (ran.returncode, ran.stderr), (1, "statement: there is no clause low::follow.gone\n")
+        )
 
 
 PROOFS = """## The theorem

@@ -1,4 +1,5 @@
-"""What is found in the file of a store: what a wrong writer leaves, and nothing in what is right."""
+"""What is found in the file of a store: what a wrong writer leaves, and nothing in what is
+right."""
 
 import contextlib
 import random
@@ -14,31 +15,77 @@ from stores.text import PAGE_SIZES, Plan, Writer
 from . import stored
 from .stored import KEYED, LOG, STOCK, cell, full_row, keyed_row
 
-# what a writer of trees may do wrong, to the rows and the entries of the index, and what is told of it
+# what a writer of trees may do wrong, to the rows and the entries of the index, and what is told of
+# it
 WRONG_TREES = (
-    ("an entry is forgotten", ["DELETE FROM entries WHERE number = 40"], "row 40 missing from index"),
-    ("a row without its entry", ["INSERT INTO held VALUES (16384, x'00017400000003393939', x'', 1)"], "row 101 missing from index"),
+    (
+        "an entry is forgotten",
+        ["DELETE FROM entries WHERE number = 40"],
+        "row 40 missing from index",
+    ),
+    (
+        "a row without its entry",
+        ["INSERT INTO held VALUES (16384, x'00017400000003393939', x'', 1)"],
+        "row 101 missing from index",
+    ),
     ("an entry is left", ["DELETE FROM held WHERE rowid = 40"], "wrong # of entries in index"),
-    ("an entry without a row", ["INSERT INTO entries VALUES (16384, x'0001', 7000)"], "wrong # of entries in index"),
-    ("two entries of a row", ["INSERT INTO entries VALUES (16384, x'0001', 40)"], "wrong # of entries in index"),
-    ("an entry twice under two numbers", ["INSERT INTO entries SELECT oid, ident, 7000 FROM entries WHERE number = 40"], "wrong # of entries"),
-    ("a row twice", ["INSERT INTO held SELECT * FROM held WHERE rowid = 40"], "row 101 missing from index"),
+    (
+        "an entry without a row",
+        ["INSERT INTO entries VALUES (16384, x'0001', 7000)"],
+        "wrong # of entries in index",
+    ),
+    (
+        "two entries of a row",
+        ["INSERT INTO entries VALUES (16384, x'0001', 40)"],
+        "wrong # of entries in index",
+    ),
+    (
+        "an entry twice under two numbers",
+        ["INSERT INTO entries SELECT oid, ident, 7000 FROM entries WHERE number = 40"],
+        "wrong # of entries",
+    ),
+    (
+        "a row twice",
+        ["INSERT INTO held SELECT * FROM held WHERE rowid = 40"],
+        "row 101 missing from index",
+    ),
     (
         "a row and its entry twice",
-        ["INSERT INTO held SELECT * FROM held WHERE rowid = 40", "INSERT INTO entries SELECT oid, ident, 101 FROM held WHERE rowid = 40"],
+        [
+            "INSERT INTO held SELECT * FROM held WHERE rowid = 40",
+            "INSERT INTO entries SELECT oid, ident, 101 FROM held WHERE rowid = 40",
+        ],
         "non-unique entry in index",
     ),
     (
         "an Update leaves its old entry",
-        ["UPDATE held SET ident = x'00017400000003393939' WHERE rowid = 40", "INSERT INTO entries VALUES (16384, x'00017400000003393939', 40)"],
+        [
+            "UPDATE held SET ident = x'00017400000003393939' WHERE rowid = 40",
+            "INSERT INTO entries VALUES (16384, x'00017400000003393939', 40)",
+        ],
         "wrong # of entries in index",
     ),
-    ("an Update forgets its entry", ["UPDATE held SET ident = x'00017400000003393939' WHERE rowid = 40"], "row 40 missing from index"),
-    ("two entries name each other's rows", ["UPDATE entries SET number = 81 - number WHERE number IN (40, 41)"], "row 40 missing from index"),
-    ("an entry under another relation", ["UPDATE entries SET oid = 16386 WHERE number = 40"], "row 40 missing from index"),
+    (
+        "an Update forgets its entry",
+        ["UPDATE held SET ident = x'00017400000003393939' WHERE rowid = 40"],
+        "row 40 missing from index",
+    ),
+    (
+        "two entries name each other's rows",
+        ["UPDATE entries SET number = 81 - number WHERE number IN (40, 41)"],
+        "row 40 missing from index",
+    ),
+    (
+        "an entry under another relation",
+        ["UPDATE entries SET oid = 16386 WHERE number = 40"],
+        "row 40 missing from index",
+    ),
     (
         "a row under the right key in another relation",
-        ["UPDATE held SET oid = 16386 WHERE rowid = 40", "UPDATE entries SET oid = 16386 WHERE number = 40"],
+        [
+            "UPDATE held SET oid = 16386 WHERE rowid = 40",
+            "UPDATE entries SET oid = 16386 WHERE number = 40",
+        ],
         "row 40, 16386 .*: 2 cells of 1 columns",
     ),
 )
@@ -50,19 +97,34 @@ WRONG_ROWS = (
     ("UPDATE held SET copies = -1 WHERE rowid = 90", "row 90, .*: -1 copies"),
     ("UPDATE held SET copies = 2147483648 WHERE rowid = 90", "row 90, .*: 2147483648 copies"),
     ("UPDATE held SET copies = 2 WHERE rowid = 40", "row 40, .*: 2 copies"),
-    ("UPDATE held SET ident = x'00017400000003393939' WHERE rowid = 40", "the identity of its body is 000174"),
+    (
+        "UPDATE held SET ident = x'00017400000003393939' WHERE rowid = 40",
+        "the identity of its body is 000174",
+    ),
     ("UPDATE held SET body = CAST(body || x'00' AS BLOB) WHERE rowid = 40", "1 bytes too many"),
     ("UPDATE held SET body = x'0001740000000130' WHERE rowid = 40", "1 cells of 2 columns"),
     ("UPDATE held SET body = x'000274000000013075' WHERE rowid = 40", "a cell of the kind b'u'"),
     ("UPDATE held SET body = x'00027400000001306200000009' WHERE rowid = 40", "no 9 bytes at 13"),
     ("UPDATE held SET body = x'000274000000013074ffffffff' WHERE rowid = 40", "no -1 bytes at 13"),
-    ("UPDATE held SET body = x'00027400000001307400000001ff' WHERE rowid = 40", "a text that isn't UTF-8"),
+    (
+        "UPDATE held SET body = x'00027400000001307400000001ff' WHERE rowid = 40",
+        "a text that isn't UTF-8",
+    ),
     ("UPDATE rel SET letter = 120 WHERE oid = 16384", "relation 16384: replica identity 120"),
     ("UPDATE rel SET letter = 356 WHERE oid = 16384", "relation 16384: replica identity 356"),
-    ("UPDATE rel SET oid = 4294967296 WHERE oid = 16384", "relation 4294967296: its OID is no Int32"),
+    (
+        "UPDATE rel SET oid = 4294967296 WHERE oid = 16384",
+        "relation 4294967296: its OID is no Int32",
+    ),
     ("UPDATE rel SET name = name || char(0) WHERE oid = 16384", "a name with a zero byte"),
-    ("UPDATE rel SET cols = CAST(cols || x'00' AS BLOB) WHERE oid = 16384", "relation 16384: 1 bytes too many"),
-    ("UPDATE rel SET cols = substr(cols, 1, 4) WHERE oid = 16384", "relation 16384: no zero byte from 3 on"),
+    (
+        "UPDATE rel SET cols = CAST(cols || x'00' AS BLOB) WHERE oid = 16384",
+        "relation 16384: 1 bytes too many",
+    ),
+    (
+        "UPDATE rel SET cols = substr(cols, 1, 4) WHERE oid = 16384",
+        "relation 16384: no zero byte from 3 on",
+    ),
     ("UPDATE rel SET cols = x'0641' WHERE oid = 16384", "relation 16384: 1601 columns"),
     ("UPDATE rel SET cols = x'000102' WHERE oid = 16384", "relation 16384: key flag 2"),
     ("UPDATE pos SET lsn = x'01020304050607'", r"pos has the identifiers and lengths \[\(0, 7\)\]"),
@@ -86,8 +148,14 @@ class Case(unittest.TestCase):
         self.held.rows.update(full_row(b"%d" % number, 2) for number in range(20))
         Writer(self.path, random.Random(1)).make(512)
         with stored.opened(self.path) as base:
-            base.executemany("INSERT INTO rel VALUES (?, ?, ?, ?, ?)", [(oid, *vars(it).values()) for oid, it in self.held.relations.items()])
-            base.executemany("INSERT INTO held VALUES (?, ?, ?, ?)", [(*key, *vars(row).values()) for key, row in self.held.rows.items()])
+            base.executemany(
+                "INSERT INTO rel VALUES (?, ?, ?, ?, ?)",
+                [(oid, *vars(it).values()) for oid, it in self.held.relations.items()],
+            )
+            base.executemany(
+                "INSERT INTO held VALUES (?, ?, ?, ?)",
+                [(*key, *vars(row).values()) for key, row in self.held.rows.items()],
+            )
             base.execute("UPDATE pos SET lsn = x'0000000000000130'")
 
     def change(self, text: str) -> None:
@@ -123,7 +191,9 @@ class Case(unittest.TestCase):
 
     def test_wrong_pages(self) -> None:
         whole = self.path.read_bytes()
-        leaves = [at for at in range(512, len(whole), 512) if whole[at] == 0x0D and whole[at + 4] > 1]
+        leaves = [
+            at for at in range(512, len(whole), 512) if whole[at] == 0x0D and whole[at + 4] > 1
+        ]
         for at in leaves:
             swapped = bytearray(whole)
             swapped[at + 8 : at + 12] = whole[at + 10 : at + 12] + whole[at + 8 : at + 10]
@@ -200,18 +270,26 @@ class WriterCase(unittest.TestCase):
         return found
 
     def test_pages_of_another_size(self) -> None:
-        writer, wanted = Writer(self.path, random.Random(2)), stored.random_contents(random.Random(2), 60)
+        writer, wanted = Writer(self.path, random.Random(2)), stored.random_contents(
+            random.Random(2), 60
+        )
         writer.make(512)
         writer.write(Contents(), wanted)
         for size in PAGE_SIZES:
             writer.vacuum(size)
-            self.assertEqual((sound.findings(self.path, wanted), self.pragma("page_size")), ([], size))
+            self.assertEqual(
+                (sound.findings(self.path, wanted), self.pragma("page_size")), ([], size)
+            )
             # (a write-ahead log, for those who read and for those who write)
             self.assertEqual(self.path.read_bytes()[18:20], b"\2\2")
 
     def test_a_log_is_left(self) -> None:
         rng = random.Random(3)
-        writer, first, second = Writer(self.path, rng), stored.random_contents(rng, 20), stored.random_contents(rng, 20)
+        writer, first, second = (
+            Writer(self.path, rng),
+            stored.random_contents(rng, 20),
+            stored.random_contents(rng, 20),
+        )
         writer.make(1024)
         writer.write(Contents(), first)
         writer.write_log(first, second)
@@ -236,7 +314,9 @@ class WriterCase(unittest.TestCase):
 class ContentsCase(unittest.TestCase):
     def test_equal_ones_do_not_differ(self) -> None:
         held = stored.random_contents(random.Random(6), 20)
-        self.assertEqual(differences(held, Contents(dict(held.relations), dict(held.rows), held.position)), [])
+        self.assertEqual(
+            differences(held, Contents(dict(held.relations), dict(held.rows), held.position)), []
+        )
 
     def test_long_values_are_shortened(self) -> None:
         row = Row(b"\0\1" + cell(bytes(1000)), 1)

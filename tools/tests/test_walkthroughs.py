@@ -56,7 +56,12 @@ class Reading(unittest.TestCase):
         self.assertEqual(second.commands, (Command("cat \\\nfile", ("..", "last"), 21),))
 
     def test_commands_need_a_mark(self) -> None:
-        for text in ("```\n$ ls\n```\n", "<!--run:nothing-->\n```\n$ ls\n```\n", "<!--run:server,goes-->\n```\n$ ls\n```\n", block("program", "text", "$ ls")):
+        for text in (
+            "```\n$ ls\n```\n",
+            "<!--run:nothing-->\n```\n$ ls\n```\n",
+            "<!--run:server,goes-->\n```\n$ ls\n```\n",
+            block("program", "text", "$ ls"),
+        ):
             with self.subTest(text=text), self.assertRaises(Malformed):
                 blocks_of(text)
 
@@ -90,12 +95,20 @@ class Walking(unittest.TestCase):
         self.assertIn("printed\n    one", wrong[0])
 
     def test_blocks_share_a_folder(self) -> None:
-        text = block("program", "$ echo one > file") + block("hand", "$ rm file") + block("program", "$ cat file", "one")
+        text = (
+            block("program", "$ echo one > file")
+            + block("hand", "$ rm file")
+            + block("program", "$ cat file", "one")
+        )
         self.assertEqual(walked(text, "program"), [[], []])
 
     def test_a_command_stays_until_it_is_stopped(self) -> None:
         text = (
-            block("server,stays", "$ trap 'echo over > end; exit' INT; echo at 0/1; while :; do sleep 0.05; done", "at 0/ABC")
+            block(
+                "server,stays",
+                "$ trap 'echo over > end; exit' INT; echo at 0/1; while :; do sleep 0.05; done",
+                "at 0/ABC",
+            )
             + block("server", "$ test -e end || echo on", "on")
             + block("server,stopped", "$ cat end", "over")
         )

@@ -29,11 +29,17 @@ class Case(unittest.TestCase):
         with zipfile.ZipFile(made) as file:
             names = {it for it in file.namelist() if it.startswith("pgsub_feed/")}
             file.extractall(self.room / "there")
-        wanted = {str(it.relative_to(PACKAGE.parent)) for it in PACKAGE.rglob("*") if it.suffix == ".py" or it.name == "py.typed"}
+        wanted = {
+            str(it.relative_to(PACKAGE.parent))
+            for it in PACKAGE.rglob("*")
+            if it.suffix == ".py" or it.name == "py.typed"
+        }
         self.assertEqual(names, wanted)
         code = "import pgsub_feed, pgsub_feed.command; print(pgsub_feed.version.version())"
         words = ["/usr/bin/python3", "-S", "-c", code]
-        ran = subprocess.run(words, cwd=self.room / "there", capture_output=True, text=True, check=True)
+        ran = subprocess.run(
+            words, cwd=self.room / "there", capture_output=True, text=True, check=True
+        )
         self.assertTrue(ran.stdout.endswith(" 1.2.3+4.gabc\n"), ran.stdout)
 
     def test_the_same_again(self) -> None:

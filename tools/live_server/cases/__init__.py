@@ -1,1 +1,2 @@
-"""What a follower may meet, by theme. Each case has a server with an empty database, and a store."""
+"""What a follower may meet, by theme. Each case has a server with an empty database, and a
+store."""

@@ -1,4 +1,5 @@
-"""`add`: tables are copied one by one beside a running stream, under load, cut at each step, and refused."""
+"""`add`: tables are copied one by one beside a running stream, under load, cut at each step, and
+refused."""
 
 from __future__ import annotations
 
@@ -19,12 +20,23 @@ from .case import Case
 from .common import changing, check_slots, moving, verified, verify
 
 REFUSED = 1
-MORE = ("CREATE TABLE more (id int PRIMARY KEY, note text)", "INSERT INTO more SELECT it, 'note ' || it FROM generate_series(1, 20000) it")
+MORE = (
+    "CREATE TABLE more (id int PRIMARY KEY, note text)",
+    "INSERT INTO more SELECT it, 'note ' || it FROM generate_series(1, 20000) it",
+)
 
 
 def words(place: Place, *tables: str) -> list[str]:
     named = [word for it in tables for word in ("--table", it)]
-    return [str(place.options.connect), "add", "--dsn", place.dsn(), "--store", str(place.store), *named]
+    return [
+        str(place.options.connect),
+        "add",
+        "--dsn",
+        place.dsn(),
+        "--store",
+        str(place.store),
+        *named,
+    ]
 
 
 def add(place: Place, *tables: str, status: int = OK, text: str = "", seconds: float = 90) -> str:
@@ -40,13 +52,17 @@ def check_left(place: Place) -> None:
 
 
 def joined(place: Place) -> None:
-    """A table with rows joins the publication: its rows are there after it was added, and nothing is wrong any more. That an Update had
-    found no row before stays told."""
+    """A table with rows joins the publication: its rows are there after it was added, and nothing
+    is wrong any more. That an Update had found no row before stays told."""
     place.stock()
     place.run(*MORE)
     child = place.start("--create")
     place.catch_up(child)
-    place.run("ALTER PUBLICATION pgsub ADD TABLE more", "INSERT INTO more VALUES (0, E'a\\tb\\\\c\\nd'), (-1, NULL)", "UPDATE more SET note = 'x' WHERE id = 7")
+    place.run(
+        "ALTER PUBLICATION pgsub ADD TABLE more",
+        "INSERT INTO more VALUES (0, E'a\\tb\\\\c\\nd'), (-1, NULL)",
+        "UPDATE more SET note = 'x' WHERE id = 7",
+    )
     place.catch_up(child)
     wait_until(lambda: "publication" in place.found(), "finding it", 30, child.check)
     add(place, "more")
@@ -62,7 +78,8 @@ def joined(place: Place) -> None:
 
 
 def under_load(place: Place) -> None:
-    """Tables are added again and again while moves between accounts are followed; large transactions come in parts before and after."""
+    """Tables are added again and again while moves between accounts are followed; large
+    transactions come in parts before and after."""
     with moving(place) as child:
         for tables in (("account",), ("padding", "move"), ("account", "padding", "move")):
             add(place, *tables)
@@ -75,9 +92,12 @@ def under_load(place: Place) -> None:
 
 
 def under_all(place: Place) -> None:
-    """So they are while changes of every kind are followed, TRUNCATEs and rolled-back subtransactions among them."""
+    """So they are while changes of every kind are followed, TRUNCATEs and rolled-back
+    subtransactions among them."""
     with changing(place, "add") as child:
-        tables = place.value("SELECT string_agg(relname, ' ') FROM pg_class WHERE relkind = 'r' AND relnamespace = 'public'::regnamespace").split()
+        tables = place.value(
+            "SELECT string_agg(relname, ' ') FROM pg_class WHERE relkind = 'r' AND relnamespace = 'public'::regnamespace"
+        ).split()
         for table in tables[:4]:
             add(place, table)
             child.check()
@@ -110,7 +130,8 @@ def clashes(place: Place) -> None:
     place.run("UPDATE stock SET quantity = 4", "ALTER PUBLICATION pgsub SET (publish = 'insert')")
     place.follow()
     place.run(
-        "UPDATE stock SET sku = sku + 10", "ALTER PUBLICATION pgsub SET (publish = 'insert, update, delete, truncate')",
+        "UPDATE stock SET sku = sku + 10",
+        "ALTER PUBLICATION pgsub SET (publish = 'insert, update, delete, truncate')",
         "INSERT INTO stock VALUES (1, 7)",
     )
     place.ends(REJECTED, "Clash")
@@ -145,18 +166,33 @@ cli.run()
 
 
 def killed_at(place: Place, where: str, name: str, after: bool, times: int = 0) -> Child:
-    """Starts the connector, which ends at once where it makes a call of those that add tables for so many times and once more."""
+    """Starts the connector, which ends at once where it makes a call of those that add tables for
+    so many times and once more."""
     before = "real(*words, **more)" if after else "pass"
-    code = KILLED_AT.format(house=str(place.options.connect.parent), where=where, name=name, before=before, times=times)
+    code = KILLED_AT.format(
+        house=str(place.options.connect.parent), where=where, name=name, before=before, times=times
+    )
     return place.started([sys.executable, "-c", code, *place.words()[1:]])
 
 
-# What is cut: a call of those that add tables, whether before or after it was made, and how often it is made before.
+# What is cut: a call of those that add tables, whether before or after it was made, and how often
+# it is made before.
 CUTS = (
-    ("left_out.LeftOut", "fill", False, 0), ("left_out.LeftOut", "fill", True, 0), ("adder.Adder", "prepare", True, 0), ("adder.Adder", "meet", False, 0),
-    ("turn.Source", "make_slot", True, 0), ("turn.Source", "see", True, 0), ("adder.Adder", "meet", True, 0), ("adder.Adder", "send", False, 0),
-    ("turn.RowsSender", "push", True, 3), ("turn.RowsSender", "push", True, 5), ("turn.Rows", "closing", True, 0), ("adder.Adder", "send", True, 0),
-    ("adder.Adder", "finish", False, 0), ("adder.Remembered", "added", True, 0), ("adder.Adder", "forget", True, 0),
+    ("left_out.LeftOut", "fill", False, 0),
+    ("left_out.LeftOut", "fill", True, 0),
+    ("adder.Adder", "prepare", True, 0),
+    ("adder.Adder", "meet", False, 0),
+    ("turn.Source", "make_slot", True, 0),
+    ("turn.Source", "see", True, 0),
+    ("adder.Adder", "meet", True, 0),
+    ("adder.Adder", "send", False, 0),
+    ("turn.RowsSender", "push", True, 3),
+    ("turn.RowsSender", "push", True, 5),
+    ("turn.Rows", "closing", True, 0),
+    ("adder.Adder", "send", True, 0),
+    ("adder.Adder", "finish", False, 0),
+    ("adder.Remembered", "added", True, 0),
+    ("adder.Adder", "forget", True, 0),
 )
 
 
@@ -178,7 +214,8 @@ def cut(place: Place) -> None:
 def change_all(place: Place) -> None:
     place.change()
     place.run(
-        "UPDATE more SET note = note || '.' WHERE id % 1000 = 0", "DELETE FROM more WHERE id = (SELECT max(id) FROM more)",
+        "UPDATE more SET note = note || '.' WHERE id % 1000 = 0",
+        "DELETE FROM more WHERE id = (SELECT max(id) FROM more)",
         "INSERT INTO more SELECT min(id) - 1, 'new' FROM more",
     )
 
@@ -187,7 +224,9 @@ def goes_on(place: Place, what: str) -> None:
     """A start goes on with what was cut, up to the end, and the rows are the server's."""
     child = place.start()
     place.catch_up(child)
-    wait_until(lambda: not place.checkpoint().get("adding"), f"adding the table, {what}", 60, child.check)
+    wait_until(
+        lambda: not place.checkpoint().get("adding"), f"adding the table, {what}", 60, child.check
+    )
     place.run("UPDATE more SET note = note || '!' WHERE id % 2000 = 0")
     place.catch_up(child)
     check_left(place)
@@ -196,7 +235,8 @@ def goes_on(place: Place, what: str) -> None:
 
 
 def parts_killed(place: Place) -> None:
-    """Filter, session and the connection that reads rows are lost while a table is added: it is tried again."""
+    """Filter, session and the connection that reads rows are lost while a table is added: it is
+    tried again."""
     place.stock()
     place.run(*MORE)
     place.run("ALTER PUBLICATION pgsub ADD TABLE more")
@@ -204,7 +244,9 @@ def parts_killed(place: Place) -> None:
     proxy = place.proxy()
 
     def lose(kind: str) -> Callable[[], None]:
-        return lambda: place.run(f"SELECT pg_terminate_backend(pid) FROM pg_stat_activity WHERE {kind} AND pid <> pg_backend_pid()")
+        return lambda: place.run(
+            f"SELECT pg_terminate_backend(pid) FROM pg_stat_activity WHERE {kind} AND pid <> pg_backend_pid()"
+        )
 
     def kill() -> None:
         for it in filters_of(child.process.pid):
@@ -226,9 +268,13 @@ def parts_killed(place: Place) -> None:
 
 
 def too_large(place: Place) -> None:
-    """A table above what may be buffered is refused before anything is done; one that isn't known to be keeps its old rows, and is told."""
+    """A table above what may be buffered is refused before anything is done; one that isn't known
+    to be keeps its old rows, and is told."""
     place.stock()
-    place.run("CREATE TABLE more (id int PRIMARY KEY, note text)", "INSERT INTO more SELECT it, repeat('x', 100) FROM generate_series(1, 5000) it")
+    place.run(
+        "CREATE TABLE more (id int PRIMARY KEY, note text)",
+        "INSERT INTO more SELECT it, repeat('x', 100) FROM generate_series(1, 5000) it",
+    )
     place.follow("--create")
     child = place.start("--max-buffered", "100000")
     child.wait_for("following slot")
@@ -252,11 +298,14 @@ def too_large(place: Place) -> None:
 
 
 def altered(place: Place) -> None:
-    """A table that is truncated between slot and lock is read again; one that is altered then is that of the slot, and it is told."""
+    """A table that is truncated between slot and lock is read again; one that is altered then is
+    that of the slot, and it is told."""
     place.stock()
     place.follow("--create")
     proxy = place.proxy()
-    proxy.before("LOCK TABLE", lambda: place.run("TRUNCATE stock", "INSERT INTO stock VALUES (3, 3)"))
+    proxy.before(
+        "LOCK TABLE", lambda: place.run("TRUNCATE stock", "INSERT INTO stock VALUES (3, 3)")
+    )
     child = place.start(dsn=place.dsn(proxy.folder))
     child.wait_for("following slot")
     add(place, "stock")
@@ -264,7 +313,9 @@ def altered(place: Place) -> None:
         raise Failed(child.said())
     place.catch_up(child)
     verify(place)
-    proxy.before("LOCK TABLE", lambda: place.run("ALTER TABLE stock ADD COLUMN price int DEFAULT 5"))
+    proxy.before(
+        "LOCK TABLE", lambda: place.run("ALTER TABLE stock ADD COLUMN price int DEFAULT 5")
+    )
     add(place, "stock")
     place.finds("values", "price", child.said())
     add(place, "stock")
@@ -278,13 +329,15 @@ ANEW = "a session begins anew"
 
 
 def root_altered(place: Place) -> None:
-    """A partitioned table whose changes are sent under its own name is altered without its partitions before its rows are read, and back
-    after that. A session that has described it isn't told: it ends with the rows, and the next one describes it as it is."""
+    """A partitioned table whose changes are sent under its own name is altered without its
+    partitions before its rows are read, and back after that. A session that has described it isn't
+    told: it ends with the rows, and the next one describes it as it is."""
     place.stock()
     place.run(
         "CREATE TABLE parted (id int PRIMARY KEY, note text) PARTITION BY RANGE (id)",
         "CREATE TABLE parted_1 PARTITION OF parted FOR VALUES FROM (0) TO (1000)",
-        "INSERT INTO parted SELECT it, 'note ' || it FROM generate_series(1, 100) it", "ALTER PUBLICATION pgsub ADD TABLE parted",
+        "INSERT INTO parted SELECT it, 'note ' || it FROM generate_series(1, 100) it",
+        "ALTER PUBLICATION pgsub ADD TABLE parted",
         "ALTER PUBLICATION pgsub SET (publish_via_partition_root = true)",
     )
     place.follow("--create")
@@ -296,11 +349,16 @@ def root_altered(place: Place) -> None:
     def add_both(sessions: int, *commands: str) -> None:
         """Adds both tables, with changes and more between the slots of the first and the second."""
         before = child.said().count(ANEW)
-        proxy.before("LOCK TABLE", lambda: place.run("UPDATE parted SET note = note || '.' WHERE id = 1", *commands))
+        proxy.before(
+            "LOCK TABLE",
+            lambda: place.run("UPDATE parted SET note = note || '.' WHERE id = 1", *commands),
+        )
         add(place, "stock", "parted")
         place.run(
-            "ALTER TABLE parted REPLICA IDENTITY DEFAULT", "UPDATE parted SET note = note || '!' WHERE id < 10",
-            "DELETE FROM parted WHERE id = (SELECT min(id) FROM parted WHERE id > 20)", "UPDATE parted SET id = 1001 - id WHERE id > 90",
+            "ALTER TABLE parted REPLICA IDENTITY DEFAULT",
+            "UPDATE parted SET note = note || '!' WHERE id < 10",
+            "DELETE FROM parted WHERE id = (SELECT min(id) FROM parted WHERE id > 20)",
+            "UPDATE parted SET id = 1001 - id WHERE id > 90",
         )
         place.change()
         place.catch_up(child)
@@ -317,7 +375,8 @@ def root_altered(place: Place) -> None:
 
 
 def long_transaction(place: Place) -> None:
-    """Following goes on while the server makes no slot because of a transaction that runs; the table is added once it has ended."""
+    """Following goes on while the server makes no slot because of a transaction that runs; the
+    table is added once it has ended."""
     place.stock()
     place.follow("--create")
     child = place.start()
@@ -328,7 +387,9 @@ def long_transaction(place: Place) -> None:
         child.wait_for("made no slot", 40)
         place.change()
         end = place.value("SELECT pg_current_wal_insert_lsn()")
-        wait_until(lambda: place.has_confirmed(end, place.cluster), "following meanwhile", 40, child.check)
+        wait_until(
+            lambda: place.has_confirmed(end, place.cluster), "following meanwhile", 40, child.check
+        )
         writer.run("COMMIT")
     place.has_ended(adding, OK, "", 120)
     place.catch_up(child)
@@ -359,30 +420,56 @@ PUBLISHED = ("pgbench_accounts", "pgbench_tellers", "pgbench_branches")
 
 
 def under_kills(place: Place) -> None:
-    """Tables are added, copied anew and taken out of the publication under pgbench's load, while filter, connector, session and server are killed."""
+    """Tables are added, copied anew and taken out of the publication under pgbench's load, while
+    filter, connector, session and server are killed."""
     rng = random.Random(f"add {place.options.seed}")
     load = PgBench(place.cluster, 1, 50)
-    place.run("DROP PUBLICATION pgsub", f"CREATE PUBLICATION pgsub FOR TABLE {', '.join(PUBLISHED)}")
+    place.run(
+        "DROP PUBLICATION pgsub", f"CREATE PUBLICATION pgsub FOR TABLE {', '.join(PUBLISHED)}"
+    )
     supervisor = Supervisor(place.words("--create"), place.log)
     load.begin()
     supervisor.begin()
     try:
         wait_until(place.store.exists, "the first copy", 120, supervisor.check)
         for _ in range(10):
-            is_there = place.value("SELECT count(*) FROM pg_publication_tables WHERE tablename = 'pgbench_history'") == "1"
+            is_there = (
+                place.value(
+                    "SELECT count(*) FROM pg_publication_tables WHERE tablename = 'pgbench_history'"
+                )
+                == "1"
+            )
             if rng.random() < 0.5:
-                place.run(f"ALTER PUBLICATION pgsub {'DROP' if is_there else 'ADD'} TABLE pgbench_history")
+                place.run(
+                    f"ALTER PUBLICATION pgsub {'DROP' if is_there else 'ADD'} TABLE pgbench_history"
+                )
                 is_there = not is_there
             tables = rng.sample([*PUBLISHED, *(["pgbench_history"] if is_there else [])], 2)
             child = place.started(words(place, *tables))
             time.sleep(rng.random() * 3)
-            kill(place, supervisor, rng.choice(("filter", "filter", "connector", "connector", "session", "server", "nothing")))
+            kill(
+                place,
+                supervisor,
+                rng.choice(
+                    ("filter", "filter", "connector", "connector", "session", "server", "nothing")
+                ),
+            )
             status = child.end(120)
             if status not in (OK, PASSING):
                 raise Failed(f"status {status}: {child.said()[-3000:]}")
-        if place.value("SELECT count(*) FROM pg_publication_tables WHERE tablename = 'pgbench_history'") == "0":
+        if (
+            place.value(
+                "SELECT count(*) FROM pg_publication_tables WHERE tablename = 'pgbench_history'"
+            )
+            == "0"
+        ):
             place.run("ALTER PUBLICATION pgsub ADD TABLE pgbench_history")
-        wait_until(lambda: has_added(place, (*PUBLISHED, "pgbench_history")), "adding all tables", 180, supervisor.check)
+        wait_until(
+            lambda: has_added(place, (*PUBLISHED, "pgbench_history")),
+            "adding all tables",
+            180,
+            supervisor.check,
+        )
         load.end()
         verify(place)
     finally:
@@ -403,7 +490,9 @@ def kill(place: Place, supervisor: Supervisor, victim: str) -> None:
     elif victim == "connector":
         supervisor.kill_connector()
     elif victim == "session":
-        place.value("SELECT count(pg_terminate_backend(active_pid)) FROM pg_replication_slots WHERE active")
+        place.value(
+            "SELECT count(pg_terminate_backend(active_pid)) FROM pg_replication_slots WHERE active"
+        )
     elif victim == "server":
         place.cluster.stop("immediate")
         place.cluster.start()
@@ -411,20 +500,37 @@ def kill(place: Place, supervisor: Supervisor, victim: str) -> None:
 
 def refresh(place: Place, status: int = OK) -> list[str]:
     """Has all copied anew that isn't right. Returns what was told, of which table."""
-    words = [str(place.options.connect), "refresh", "--dsn", place.dsn(), "--store", str(place.store), "--yes"]
+    words = [
+        str(place.options.connect),
+        "refresh",
+        "--dsn",
+        place.dsn(),
+        "--store",
+        str(place.store),
+        "--yes",
+    ]
     said = place.has_ended(place.started(words), status, "")
-    return [f"{it['is']} {it.get('table')}" for it in map(json.loads, [it for it in said.splitlines() if it.startswith("{")])]
+    return [
+        f"{it['is']} {it.get('table')}"
+        for it in map(json.loads, [it for it in said.splitlines() if it.startswith("{")])
+    ]
 
 
 def refreshed(place: Place) -> None:
-    """Tables, partitions and columns that were added, and a table that left: all is told, copied anew, and nothing is wrong any more."""
+    """Tables, partitions and columns that were added, and a table that left: all is told, copied
+    anew, and nothing is wrong any more."""
     place.stock()
     place.run(
-        "CREATE TABLE gone (id int PRIMARY KEY)", "INSERT INTO gone VALUES (1)", "ALTER PUBLICATION pgsub ADD TABLE gone",
+        "CREATE TABLE gone (id int PRIMARY KEY)",
+        "INSERT INTO gone VALUES (1)",
+        "ALTER PUBLICATION pgsub ADD TABLE gone",
         "CREATE TABLE parted (id int PRIMARY KEY, note text) PARTITION BY RANGE (id)",
-        "CREATE TABLE parted_1 PARTITION OF parted FOR VALUES FROM (0) TO (10)", "INSERT INTO parted VALUES (1, 'a')",
-        "CREATE TABLE parted_2 (LIKE parted INCLUDING ALL)", "INSERT INTO parted_2 VALUES (11, 'b')",
-        "ALTER PUBLICATION pgsub ADD TABLE parted", "ALTER PUBLICATION pgsub SET (publish_via_partition_root = true)",
+        "CREATE TABLE parted_1 PARTITION OF parted FOR VALUES FROM (0) TO (10)",
+        "INSERT INTO parted VALUES (1, 'a')",
+        "CREATE TABLE parted_2 (LIKE parted INCLUDING ALL)",
+        "INSERT INTO parted_2 VALUES (11, 'b')",
+        "ALTER PUBLICATION pgsub ADD TABLE parted",
+        "ALTER PUBLICATION pgsub SET (publish_via_partition_root = true)",
     )
     place.follow("--create")
     child = place.start()
@@ -432,14 +538,26 @@ def refreshed(place: Place) -> None:
     if refresh(place):
         raise Failed("it tells what isn't so")
     place.run(
-        "CREATE TABLE more (id int PRIMARY KEY, note text)", "INSERT INTO more SELECT it, 'note ' || it FROM generate_series(1, 100) it",
-        "ALTER PUBLICATION pgsub ADD TABLE more", "ALTER PUBLICATION pgsub DROP TABLE gone",
-        "ALTER TABLE stock ADD COLUMN price int DEFAULT 5", "ALTER TABLE parted ATTACH PARTITION parted_2 FOR VALUES FROM (10) TO (20)",
+        "CREATE TABLE more (id int PRIMARY KEY, note text)",
+        "INSERT INTO more SELECT it, 'note ' || it FROM generate_series(1, 100) it",
+        "ALTER PUBLICATION pgsub ADD TABLE more",
+        "ALTER PUBLICATION pgsub DROP TABLE gone",
+        "ALTER TABLE stock ADD COLUMN price int DEFAULT 5",
+        "ALTER TABLE parted ATTACH PARTITION parted_2 FOR VALUES FROM (10) TO (20)",
     )
     told = refresh(place)
-    if told != ["changed public.stock", "missing public.parted", "missing public.more", "extra public.gone"]:
+    if told != [
+        "changed public.stock",
+        "missing public.parted",
+        "missing public.more",
+        "extra public.gone",
+    ]:
         raise Failed(f"told: {told}")
-    place.run("UPDATE parted SET note = 'c'", "UPDATE stock SET price = 6 WHERE sku = 1", "DELETE FROM more WHERE id < 50")
+    place.run(
+        "UPDATE parted SET note = 'c'",
+        "UPDATE stock SET price = 6 WHERE sku = 1",
+        "DELETE FROM more WHERE id < 50",
+    )
     place.catch_up(child)
     verify(place)
     if refresh(place) or place.found():

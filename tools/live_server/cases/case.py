@@ -26,7 +26,9 @@ class Case:
 
     def needs(self) -> str:
         """What it needs."""
-        servers = f"{self.since} and later" if self.until == NEWEST else f"{self.since} to {self.until}"
+        servers = (
+            f"{self.since} and later" if self.until == NEWEST else f"{self.since} to {self.until}"
+        )
         return f"{servers}, as root" if self.root else servers
 
     def can_run(self, version: int, is_root: bool) -> bool:

@@ -1,4 +1,5 @@
-"""A feed beside the store, and tables of SQLite that follow it: what they have, what readers see, and when a start is refused."""
+"""A feed beside the store, and tables of SQLite that follow it: what they have, what readers see,
+and when a start is refused."""
 
 from __future__ import annotations
 
@@ -18,7 +19,15 @@ from feed_replay import commits, lsn_of
 
 from ..child import Child
 from ..errors import Failed
-from ..feeds import base_of, check_images, compare_tables, log_changes, reading, rows_of_feed, segments
+from ..feeds import (
+    base_of,
+    check_images,
+    compare_tables,
+    log_changes,
+    reading,
+    rows_of_feed,
+    segments,
+)
 from ..follower import tables_of, wait_until
 from ..load import LOGGED, SCHEMA, Worker, final_statements
 from ..patience import Patience
@@ -37,15 +46,26 @@ def equal_tables(place: Place) -> None:
 def equal_feed(place: Place, *publications: str) -> int:
     """Fails where a feed doesn't lead to the server's rows. Returns how many changes it has."""
     rows, state = rows_of_feed(feed_of(place))
-    compare(rows_of_server(place.cluster, *(publications or ("pgsub",)), database=place.database), rows)
+    compare(
+        rows_of_server(place.cluster, *(publications or ("pgsub",)), database=place.database), rows
+    )
     return state.changes
 
 
 def one_command(place: Place) -> None:
-    """One command makes publication, slot, copy, feed and tables; `wait` ends once they have what was written; all are told of."""
+    """One command makes publication, slot, copy, feed and tables; `wait` ends once they have what
+    was written; all are told of."""
     place.stock(published=False)
     status = place.folder / "status"
-    child = place.start("--create", "--table", "stock", "--tables", str(rows_file(place)), "--status-file", str(status))
+    child = place.start(
+        "--create",
+        "--table",
+        "stock",
+        "--tables",
+        str(rows_file(place)),
+        "--status-file",
+        str(status),
+    )
     place.catch_up(child)
     wait_until(rows_file(place).exists, "making the tables", check=child.check)
     for _ in range(3):
@@ -77,7 +97,8 @@ def until_now(place: Place) -> None:
 
 
 def refused(place: Place) -> None:
-    """A copy that has a feed isn't followed without it, unless that is said; and then that feed is none of the copy any more."""
+    """A copy that has a feed isn't followed without it, unless that is said; and then that feed is
+    none of the copy any more."""
     place.stock()
     feed = str(feed_of(place))
     Path(feed).mkdir()
@@ -104,7 +125,8 @@ def refused(place: Place) -> None:
 
 
 def older_store(place: Place) -> None:
-    """A store that was put back doesn't cost its feed the commits that it lacks: the right one goes on with it."""
+    """A store that was put back doesn't cost its feed the commits that it lacks: the right one goes
+    on with it."""
     place.stock()
     words = ("--create", "--feed", str(feed_of(place)))
     place.follow(*words)
@@ -134,7 +156,8 @@ def kill_filter(child: Child) -> None:
 
 
 def steady(number: int) -> tuple[str, ...]:
-    """Changes that each burst has, whatever comes at random: of keys, of rows with a TOASTed value that isn't sent, and of equal rows."""
+    """Changes that each burst has, whatever comes at random: of keys, of rows with a TOASTed value
+    that isn't sent, and of equal rows."""
     first = 20000 + 100 * number
     ours = f"BETWEEN {first} AND {first + 99}"
     return (
@@ -152,8 +175,8 @@ def steady(number: int) -> tuple[str, ...]:
 
 
 def burst(place: Place, child: Child, number: int) -> None:
-    """Makes changes of every kind for a second, in which the filter is killed. All is stored before this ends: the end of two filters in
-    one transaction would be that of the follower."""
+    """Makes changes of every kind for a second, in which the filter is killed. All is stored before
+    this ends: the end of two filters in one transaction would be that of the follower."""
     place.run(*steady(number))
     workers = [Worker(place.cluster, f"feed {number} {it}", 0.1) for it in range(2)]
     for it in workers:
@@ -172,10 +195,13 @@ def burst(place: Place, child: Child, number: int) -> None:
 
 
 def under_load(place: Place, *more: str) -> None:
-    """Makes changes of every kind, and kills the filter meanwhile: less often on a machine that is busy."""
+    """Makes changes of every kind, and kills the filter meanwhile: less often on a machine that is
+    busy."""
     place.run(*SCHEMA, "CREATE PUBLICATION pgsub FOR ALL TABLES")
     log_changes(place.cluster, *LOGGED)
-    child = place.start("--create", "--feed", str(feed_of(place)), "--feed-segment-bytes", "50000", *more)
+    child = place.start(
+        "--create", "--feed", str(feed_of(place)), "--feed-segment-bytes", "50000", *more
+    )
     place.catch_up(child)
     for number in range(max(2, round(8 / Patience.factor))):
         burst(place, child, number)
@@ -187,11 +213,14 @@ def under_load(place: Place, *more: str) -> None:
 
 
 def every_change(place: Place) -> None:
-    """With the filter killed, the feed leads to the publisher's rows, each commit once, with the rows that triggers saw before and after."""
+    """With the filter killed, the feed leads to the publisher's rows, each commit once, with the
+    rows that triggers saw before and after."""
     under_load(place)
     changes, images = equal_feed(place), check_images(feed_of(place), *LOGGED)
     if len(segments(feed_of(place))) < 3 or images < 500:
-        raise Failed(f"too little was done: {changes} changes, {images} images, {len(segments(feed_of(place)))} segments")
+        raise Failed(
+            f"too little was done: {changes} changes, {images} images, {len(segments(feed_of(place)))} segments"
+        )
     place.equal()
 
 
@@ -203,13 +232,21 @@ def tables_under_load(place: Place) -> None:
 
 
 def confirmed_holds(place: Place) -> None:
-    """`confirmed` reaches what was written beside a publication that has nothing, and the end of a run leaves it there."""
+    """`confirmed` reaches what was written beside a publication that has nothing, and the end of a
+    run leaves it there."""
     place.stock()
     child = place.start("--create", "--feed", str(feed_of(place)))
     place.catch_up(child)
-    end = place.value("SELECT pg_current_wal_insert_lsn() FROM pg_logical_emit_message(true, '', '')")
+    end = place.value(
+        "SELECT pg_current_wal_insert_lsn() FROM pg_logical_emit_message(true, '', '')"
+    )
     confirmed = feed_of(place) / "confirmed"
-    wait_until(lambda: confirmed.exists() and lsn_of(confirmed.read_text().strip()) >= lsn_of(end), "confirming it", 20, child.check)
+    wait_until(
+        lambda: confirmed.exists() and lsn_of(confirmed.read_text().strip()) >= lsn_of(end),
+        "confirming it",
+        20,
+        child.check,
+    )
     place.change()
     place.catch_up(child)
     child.stop()
@@ -219,10 +256,16 @@ def confirmed_holds(place: Place) -> None:
 
 
 def from_a_base(place: Place) -> None:
-    """A feed leads from the rows of a copy of the store to the publisher's, over an added table and one that is copied anew."""
+    """A feed leads from the rows of a copy of the store to the publisher's, over an added table and
+    one that is copied anew."""
     place.stock()
-    place.run("CREATE TABLE late (id int PRIMARY KEY, word text)", "INSERT INTO late SELECT it, 'word' FROM generate_series(1, 500) it")
-    child = place.start("--create", "--feed", str(feed_of(place)), "--tables", str(rows_file(place)))
+    place.run(
+        "CREATE TABLE late (id int PRIMARY KEY, word text)",
+        "INSERT INTO late SELECT it, 'word' FROM generate_series(1, 500) it",
+    )
+    child = place.start(
+        "--create", "--feed", str(feed_of(place)), "--tables", str(rows_file(place))
+    )
     place.catch_up(child)
     place.change()
     snapshot = place.folder / "snapshot.db"
@@ -263,7 +306,8 @@ class Polling(threading.Thread):
 
 
 def whole_commits(place: Place) -> None:
-    """Readers of the tables see whole commits alone and get no error, while filter, tables and follower are killed."""
+    """Readers of the tables see whole commits alone and get no error, while filter, tables and
+    follower are killed."""
     place.run(*ACCOUNTS)
     place.set(logical_decoding_work_mem="64kB")
     words = ("--create", "--tables", str(rows_file(place)))
@@ -284,7 +328,11 @@ def whole_commits(place: Place) -> None:
             child = place.start(*words)
             child.wait_for("following slot")
         # (on a machine that is busy they are away for most of that)
-        wait_until(lambda: len(polling.seen) >= 20 or bool(polling.wrong), "reading 20 states", check=child.check)
+        wait_until(
+            lambda: len(polling.seen) >= 20 or bool(polling.wrong),
+            "reading 20 states",
+            check=child.check,
+        )
     finally:
         load.ended.set()
         load.thread.join(60)
@@ -310,8 +358,12 @@ def kill_tables(child: Child) -> None:
 
 
 def old_segments_go(place: Place) -> None:
-    """Segments go once the tables have them, a reader that is behind keeps them, and a feed that gets too large does without it."""
-    place.run("CREATE TABLE stock (sku int PRIMARY KEY, quantity text)", "CREATE PUBLICATION pgsub FOR TABLE stock")
+    """Segments go once the tables have them, a reader that is behind keeps them, and a feed that
+    gets too large does without it."""
+    place.run(
+        "CREATE TABLE stock (sku int PRIMARY KEY, quantity text)",
+        "CREATE PUBLICATION pgsub FOR TABLE stock",
+    )
     words = ("--feed-segment-bytes", "20000", "--tables", str(rows_file(place)))
     child = place.start("--create", *words)
     place.catch_up(child)
@@ -320,7 +372,9 @@ def old_segments_go(place: Place) -> None:
     for number in range(5):
         place.run(fill.format(number * 100))
     now_in_tables(place)
-    wait_until(lambda: len(segments(feed_of(place))) < 3, "removing what all have read", 30, child.check)
+    wait_until(
+        lambda: len(segments(feed_of(place))) < 3, "removing what all have read", 30, child.check
+    )
     lsn = json.dumps(place.value("SELECT pg_current_wal_insert_lsn()")).strip('"')
     (feed_of(place) / "readers/slow").write_text(lsn)
     for number in range(5, 10):
@@ -336,7 +390,13 @@ def old_segments_go(place: Place) -> None:
     child.stop()
     if sum(it.stat().st_size for it in segments(feed_of(place))) > 250_000:
         raise Failed("the feed is too large")
-    feed = [str(place.options.connect.parent / "pgsub-feed"), "--feed", str(feed_of(place)), "--from", lsn]
+    feed = [
+        str(place.options.connect.parent / "pgsub-feed"),
+        "--feed",
+        str(feed_of(place)),
+        "--from",
+        lsn,
+    ]
     done = subprocess.run(feed, capture_output=True, text=True, check=False)
     if done.returncode != UNFIT or "aren't in it" not in done.stderr:
         raise Failed(f"the reader that is behind got status {done.returncode}: {done.stderr}")

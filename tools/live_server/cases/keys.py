@@ -17,12 +17,16 @@ from .common import now_in_tables, position_of, rows_file
 
 FULL = "ALTER TABLE {} REPLICA IDENTITY FULL"
 TABLES = (
-    "CREATE TABLE stock (id int PRIMARY KEY, note text)", FULL.format("stock"),
-    "CREATE TABLE pairs (b int, v text, a text, PRIMARY KEY (a, b))", FULL.format("pairs"),
+    "CREATE TABLE stock (id int PRIMARY KEY, note text)",
+    FULL.format("stock"),
+    "CREATE TABLE pairs (b int, v text, a text, PRIMARY KEY (a, b))",
+    FULL.format("pairs"),
     "CREATE TABLE coded (id int PRIMARY KEY, code text NOT NULL UNIQUE, v int)",
     "ALTER TABLE coded REPLICA IDENTITY USING INDEX coded_code_key",
-    "CREATE TABLE later (id int PRIMARY KEY DEFERRABLE, v int)", FULL.format("later"),
-    "CREATE TABLE bag (id int, v int)", FULL.format("bag"),
+    "CREATE TABLE later (id int PRIMARY KEY DEFERRABLE, v int)",
+    FULL.format("later"),
+    "CREATE TABLE bag (id int, v int)",
+    FULL.format("bag"),
     "CREATE TABLE parted (id int PRIMARY KEY, v int) PARTITION BY RANGE (id)",
     "CREATE TABLE parted1 PARTITION OF parted FOR VALUES FROM (1) TO (5)",
     "CREATE TABLE parted2 PARTITION OF parted FOR VALUES FROM (5) TO (99)",
@@ -35,19 +39,29 @@ TABLES = (
     "INSERT INTO coded SELECT it, 'c' || it, 0 FROM generate_series(1, 4) it",
 )
 CHANGES = (
-    "UPDATE stock SET note = NULL WHERE id = 1", "UPDATE stock SET id = 10 - id",
-    "DELETE FROM stock WHERE id = 8", "UPDATE pairs SET b = b + 10 WHERE b > 2",
-    "UPDATE pairs SET v = NULL", "DELETE FROM pairs WHERE b = 1",
+    "UPDATE stock SET note = NULL WHERE id = 1",
+    "UPDATE stock SET id = 10 - id",
+    "DELETE FROM stock WHERE id = 8",
+    "UPDATE pairs SET b = b + 10 WHERE b > 2",
+    "UPDATE pairs SET v = NULL",
+    "DELETE FROM pairs WHERE b = 1",
     "BEGIN; UPDATE coded SET code = 'x' WHERE id = 1; UPDATE coded SET code = 'c1' WHERE id = 2;"
     " UPDATE coded SET code = 'c2', v = 7 WHERE id = 1; COMMIT",
-    "UPDATE later SET id = 5 - id", "INSERT INTO bag SELECT * FROM bag",
+    "UPDATE later SET id = 5 - id",
+    "INSERT INTO bag SELECT * FROM bag",
     "DELETE FROM bag WHERE id = 2",
-    "UPDATE parted SET id = id + 4 WHERE id < 3", "DELETE FROM parted WHERE id = 4",
+    "UPDATE parted SET id = id + 4 WHERE id < 3",
+    "DELETE FROM parted WHERE id = 4",
 )
 # By table the key that it has in SQLite, in the order of its columns.
 Keys = Dict[str, List[str]]
 KEYS: Keys = {
-    "stock": ["id"], "pairs": ["b", "a"], "coded": ["id"], "later": [], "bag": [], "parted": ["id"],
+    "stock": ["id"],
+    "pairs": ["b", "a"],
+    "coded": ["id"],
+    "later": [],
+    "bag": [],
+    "parted": ["id"],
 }
 KEY = "SELECT name FROM pragma_table_info(?) WHERE pk ORDER BY cid"
 ROWS = "SELECT id, note FROM stock ORDER BY 1"
@@ -91,7 +105,8 @@ def kept(place: Place) -> None:
     check_equal(place, KEYS)
     first = position_of(place)
     place.run(
-        "CREATE TABLE fresh (v int, id int PRIMARY KEY)", FULL.format("fresh"),
+        "CREATE TABLE fresh (v int, id int PRIMARY KEY)",
+        FULL.format("fresh"),
         "INSERT INTO fresh VALUES (1, 1), (1, 2)",
     )
     wait_until(lambda: "fresh" in known(place), "looking at the server", 30, child.check)
@@ -143,8 +158,10 @@ def given_up(place: Place) -> None:
     """Where the server drops the key, and rows have equal values of it or null, the table is made
     without one, and goes on."""
     place.run(
-        "CREATE TABLE stock (id int PRIMARY KEY, note text)", FULL.format("stock"),
-        "INSERT INTO stock VALUES (1, 'a')", "CREATE PUBLICATION pgsub FOR ALL TABLES",
+        "CREATE TABLE stock (id int PRIMARY KEY, note text)",
+        FULL.format("stock"),
+        "INSERT INTO stock VALUES (1, 'a')",
+        "CREATE PUBLICATION pgsub FOR ALL TABLES",
     )
     words = "--tables", str(rows_file(place)), "--digests"
     child = place.start("--create", *words)

@@ -1,4 +1,5 @@
-"""Values of each type, in rows and in keys: in an export, in tables that follow a feed, and taken back at the publisher."""
+"""Values of each type, in rows and in keys: in an export, in tables that follow a feed, and taken
+back at the publisher."""
 
 from __future__ import annotations
 
@@ -20,12 +21,50 @@ TYPES: dict[str, tuple[str, ...]] = {
     "int2": ("-32768", "32767", "0"),
     "int4": ("-2147483648", "2147483647", "0"),
     "int8": ("-9223372036854775808", "9223372036854775807", "0", "9007199254740993"),
-    "numeric": ("1.0", "'NaN'", "123456789012345678901234567890.123456789", "-0.000", "1e-20", "1e40"),
+    "numeric": (
+        "1.0",
+        "'NaN'",
+        "123456789012345678901234567890.123456789",
+        "-0.000",
+        "1e-20",
+        "1e40",
+    ),
     "numeric(12, 2)": ("1", "-0.5", "9999999999.99"),
-    "float4": ("0.1", "'NaN'", "-3.4028235e38", "1e-45", "'Infinity'", "'-Infinity'", "'-0'", "16777216", "1234567"),
-    "float8": ("'-0'", "'Infinity'", "'-Infinity'", "'NaN'", "0.1", "5e-324", "1.7976931348623157e308", "9007199254740993", "1e15", "1e-5"),
+    "float4": (
+        "0.1",
+        "'NaN'",
+        "-3.4028235e38",
+        "1e-45",
+        "'Infinity'",
+        "'-Infinity'",
+        "'-0'",
+        "16777216",
+        "1234567",
+    ),
+    "float8": (
+        "'-0'",
+        "'Infinity'",
+        "'-Infinity'",
+        "'NaN'",
+        "0.1",
+        "5e-324",
+        "1.7976931348623157e308",
+        "9007199254740993",
+        "1e15",
+        "1e-5",
+    ),
     "bool": ("true", "false"),
-    "text": ("''", "'ä 漢 😀'", r"E'a\nb\tc\rd\\e\"f\''", "'NULL'", r"'\N'", "'  blanks  '", "'12'", "'1.0'", r"'\x00'"),
+    "text": (
+        "''",
+        "'ä 漢 😀'",
+        r"E'a\nb\tc\rd\\e\"f\''",
+        "'NULL'",
+        r"'\N'",
+        "'  blanks  '",
+        "'12'",
+        "'1.0'",
+        r"'\x00'",
+    ),
     "varchar(5)": ("'abc  '", "'12'", "''"),
     "char(5)": ("'ab'", "''", "'12345'"),
     '"char"': ("'x'", "''"),
@@ -34,12 +73,18 @@ TYPES: dict[str, tuple[str, ...]] = {
     "date": ("'2026-11-25'", "'infinity'", "'-infinity'", "'0044-03-15 BC'", "'5874897-12-31'"),
     "time": ("'24:00'", "'00:00:00.000001'", "'09:30'"),
     "timetz": ("'24:00+05:30'", "'00:00:00.000001-15:59'", "'09:30+00'"),
-    "timestamp": ("'2026-11-25 09:30'", "'-infinity'", "'infinity'", "'294276-12-31 23:59:59.999999'", "'4713-01-01 00:00 BC'"),
+    "timestamp": (
+        "'2026-11-25 09:30'",
+        "'-infinity'",
+        "'infinity'",
+        "'294276-12-31 23:59:59.999999'",
+        "'4713-01-01 00:00 BC'",
+    ),
     "timestamptz": ("'2026-11-25 09:30+05'", "'infinity'", "'-infinity'", "'0001-01-01 00:00 BC'"),
     "interval": ("'1 year -2 days 3.5 seconds'", "'0'", "'-178000000 years'", "'-00:00:01'"),
     "uuid": ("'a0eebc99-9c0b-4ef8-bb6d-6bb9bd380a11'", "'00000000-0000-0000-0000-000000000000'"),
-    "json": ("'{\"b\": 1,  \"a\":2, \"a\": null}'", "'null'", "'[]'", r"""'"\u00e4\n"'"""),
-    "jsonb": ("'{\"b\": 1,  \"a\":2}'", "'1.10'", "'null'", "'[]'", "'\"\"'"),
+    "json": ('\'{"b": 1,  "a":2, "a": null}\'', "'null'", "'[]'", r"""'"\u00e4\n"'"""),
+    "jsonb": ('\'{"b": 1,  "a":2}\'', "'1.10'", "'null'", "'[]'", "'\"\"'"),
     "xml": ("'<a>ä</a>'", "'text'", "''"),
     "inet": ("'::1/64'", "'10.0.0.1'", "'10.0.0.1/8'"),
     "cidr": ("'10.0.0.0/8'", "'2001:db8::/32'"),
@@ -72,8 +117,11 @@ LATER: dict[int, dict[str, tuple[str, ...]]] = {
 UNORDERED = ("json", "xml", "point", "box")
 HSTORE = {"hstore": ("'a=>1, \"b c\"=>NULL'", "''")}
 MADE = (
-    'CREATE SCHEMA "Odd schema"', "CREATE TYPE mood AS ENUM ('sad', 'so so', '')", "CREATE DOMAIN positive AS int CHECK (VALUE > 0)",
-    "CREATE DOMAIN blob AS bytea", "CREATE TYPE pair AS (a int, b text)",
+    'CREATE SCHEMA "Odd schema"',
+    "CREATE TYPE mood AS ENUM ('sad', 'so so', '')",
+    "CREATE DOMAIN positive AS int CHECK (VALUE > 0)",
+    "CREATE DOMAIN blob AS bytea",
+    "CREATE TYPE pair AS (a int, b text)",
 )
 WHOLE, KINDS = '"Odd schema".whole', "kinds"
 
@@ -91,7 +139,8 @@ def types_of(place: Place) -> dict[str, tuple[str, ...]]:
 
 
 class Made:
-    """Tables of each type: `kinds` with a key of its own, one without a key, and one for each type that has it as its key."""
+    """Tables of each type: `kinds` with a key of its own, one without a key, and one for each type
+    that has it as its key."""
 
     def __init__(self, place: Place) -> None:
         self.place = place
@@ -99,17 +148,26 @@ class Made:
         self.types = types_of(place)
         self.columns = [f"c{at}" for at in range(len(self.types))]
         listed = ", ".join(f"{column} {kind}" for column, kind in zip(self.columns, self.types))
-        self.keys = {f"key {at}": kind for at, kind in enumerate(self.types) if kind not in UNORDERED}
+        self.keys = {
+            f"key {at}": kind for at, kind in enumerate(self.types) if kind not in UNORDERED
+        }
         place.run(
-            f"CREATE TABLE {KINDS} (id int PRIMARY KEY, {listed})", f"CREATE TABLE {WHOLE} (n int, {listed})",
-            f"ALTER TABLE {WHOLE} REPLICA IDENTITY FULL", *(f"CREATE TABLE {quoted(it)} (k {kind} PRIMARY KEY, n int)" for it, kind in self.keys.items()),
+            f"CREATE TABLE {KINDS} (id int PRIMARY KEY, {listed})",
+            f"CREATE TABLE {WHOLE} (n int, {listed})",
+            f"ALTER TABLE {WHOLE} REPLICA IDENTITY FULL",
+            *(
+                f"CREATE TABLE {quoted(it)} (k {kind} PRIMARY KEY, n int)"
+                for it, kind in self.keys.items()
+            ),
             "CREATE PUBLICATION pgsub FOR ALL TABLES",
         )
         self.rows = 1 + max(map(len, self.types.values()))
 
     def row(self, number: int) -> str:
         """The values of a row: each type's own in turn, and NULL."""
-        return ", ".join((*values, "NULL")[number % (len(values) + 1)] for values in self.types.values())
+        return ", ".join(
+            (*values, "NULL")[number % (len(values) + 1)] for values in self.types.values()
+        )
 
     def insert(self, part: int) -> None:
         """Adds each second row."""
@@ -127,13 +185,15 @@ class Made:
         self.place.run(
             f"UPDATE {KINDS} SET id = id + 1000 WHERE id % 3 = 0",
             f"UPDATE {KINDS} it SET ({columns}) = (SELECT {columns} FROM {KINDS} o WHERE o.id = it.id + 1) WHERE id % 3 = 1",
-            f"DELETE FROM {KINDS} WHERE id = 2", f"DELETE FROM {WHOLE} WHERE ctid = ANY ({some.format('')})",
+            f"DELETE FROM {KINDS} WHERE id = 2",
+            f"DELETE FROM {WHOLE} WHERE ctid = ANY ({some.format('')})",
             f"UPDATE {WHOLE} SET n = n + 100 WHERE ctid = ANY ({some.format('DESC')})",
         )
         for name, kind in self.keys.items():
             first, *_ = self.types[kind]
             self.place.run(
-                f"DELETE FROM {quoted(name)} WHERE n = 0", f"UPDATE {quoted(name)} SET k = {first} WHERE n = 1",
+                f"DELETE FROM {quoted(name)} WHERE n = 0",
+                f"UPDATE {quoted(name)} SET k = {first} WHERE n = 1",
                 f"UPDATE {quoted(name)} SET n = n + 100",
             )
 
@@ -143,7 +203,8 @@ class Made:
         keys = {"kinds": "id", "Odd schema.whole": None, **dict.fromkeys(self.keys, "k")}
         with contextlib.closing(sqlite3.connect(path)) as base:
             found: dict[str, Tuple[int, object]] = {
-                name: (strict, key) for name, strict, key in base.execute(
+                name: (strict, key)
+                for name, strict, key in base.execute(
                     "SELECT name, strict, (SELECT max(name) FROM pragma_table_info(l.name) WHERE pk) FROM pragma_table_list l"
                     " WHERE schema = 'main' AND name NOT LIKE 'sqlite_%' AND name NOT LIKE 'pgsub_%'"
                 )
@@ -158,7 +219,8 @@ def export(place: Place, path: Path) -> Path:
 
 
 def types(place: Place) -> None:
-    """Export and tables have what COPY prints of each type, of the first copy and of changes; and these are taken back as they were."""
+    """Export and tables have what COPY prints of each type, of the first copy and of changes; and
+    these are taken back as they were."""
     made = Made(place)
     made.insert(0)
     child = place.start("--create", "--tables", str(rows_file(place)))
@@ -168,7 +230,9 @@ def types(place: Place) -> None:
     made.insert(1)
     now_in_tables(place)
     made.check(rows_file(place))
-    before, since = tables_of_server(place.cluster, "pgsub", database=place.database), position_of(place)
+    before, since = tables_of_server(place.cluster, "pgsub", database=place.database), position_of(
+        place
+    )
     made.change()
     now_in_tables(place)
     made.check(rows_file(place))
@@ -190,12 +254,20 @@ def texts(place: Place) -> None:
     made.insert(1)
     place.follow("--create")
     path = place.folder / "export.db"
-    place.subcommand("export", "--text", "--table", KINDS, "--store", str(place.store), "--into", str(path))
-    with contextlib.closing(sqlite3.connect(path)) as base, place.cluster.connect(place.database) as session:
+    place.subcommand(
+        "export", "--text", "--table", KINDS, "--store", str(place.store), "--into", str(path)
+    )
+    with contextlib.closing(sqlite3.connect(path)) as base, place.cluster.connect(
+        place.database
+    ) as session:
         session.run("SET timezone = 'UTC'", "SET lc_monetary = 'C'", "SET search_path = ''")
-        expected = sorted(session.copied(f"SELECT * FROM public.{KINDS}"), key=lambda it: int(it[0] or ""))
+        expected = sorted(
+            session.copied(f"SELECT * FROM public.{KINDS}"), key=lambda it: int(it[0] or "")
+        )
         found = base.execute(f"SELECT * FROM {KINDS} ORDER BY CAST(id AS INTEGER)").fetchall()
-        others = base.execute(f"SELECT count(*) FROM pragma_table_info({literal(KINDS)}) WHERE type <> 'TEXT'").fetchone()
+        others = base.execute(
+            f"SELECT count(*) FROM pragma_table_info({literal(KINDS)}) WHERE type <> 'TEXT'"
+        ).fetchone()
     if found != expected or others != (0,):
         raise Failed(f"{found} in place of {expected}")
 

@@ -15,28 +15,47 @@ COUNT = re.compile(r"^pgsub_missing_total\{[^}]*\} (\d+)$", re.M)
 
 
 def unpublished(place: Place, *commands: str) -> None:
-    """Runs commands while the table isn't in the publication, and accepts that it left: nothing tells any more what the copy lacks."""
-    place.run("ALTER PUBLICATION pgsub DROP TABLE stock", *commands, "ALTER PUBLICATION pgsub ADD TABLE stock")
+    """Runs commands while the table isn't in the publication, and accepts that it left: nothing
+    tells any more what the copy lacks."""
+    place.run(
+        "ALTER PUBLICATION pgsub DROP TABLE stock",
+        *commands,
+        "ALTER PUBLICATION pgsub ADD TABLE stock",
+    )
     place.finds("publication", "left and joined again", place.follow())
     place.follow("--accept", "publication")
 
 
 def check_count(place: Place, count: int) -> None:
-    """Fails unless the checkpoint has so many, and knows of all that is stored what found no row."""
+    """Fails unless the checkpoint has so many, and knows of all that is stored what found no
+    row."""
     _, counted = checkpoint_of(place.store)
     if (counted["count"], counted["gap"]) != (count, None):
         raise Failed(f"the checkpoint has {counted} in place of {count}")
 
 
 def missed_rows(place: Place) -> None:
-    """An Update and a Delete find no row: told, with status 9, in the status file and in the metrics. --strict ends at each start, until
-    that is accepted."""
+    """An Update and a Delete find no row: told, with status 9, in the status file and in the
+    metrics. --strict ends at each start, until that is accepted."""
     place.stock()
     place.follow("--create")
     unpublished(place, "INSERT INTO stock VALUES (7, 7), (8, 8)")
-    place.run("UPDATE stock SET quantity = 1 WHERE sku = 7", "DELETE FROM stock WHERE sku = 8", "INSERT INTO stock VALUES (9, 9)")
+    place.run(
+        "UPDATE stock SET quantity = 1 WHERE sku = 7",
+        "DELETE FROM stock WHERE sku = 8",
+        "INSERT INTO stock VALUES (9, 9)",
+    )
     status, metrics = place.folder / "status", place.folder / "metrics"
-    said = place.ends(MISSED, "found: missing", "--until", "now", "--status-file", str(status), "--metrics-file", str(metrics))
+    said = place.ends(
+        MISSED,
+        "found: missing",
+        "--until",
+        "now",
+        "--status-file",
+        str(status),
+        "--metrics-file",
+        str(metrics),
+    )
     if "found no row, the first one of public.stock" not in said or "publication at" in said:
         raise Failed(f"it tells something else: {said}")
     check_count(place, 2)
@@ -49,7 +68,10 @@ def missed_rows(place: Place) -> None:
     check_count(place, 0)
     place.follow("--strict")
     # (they stay as they are)
-    compare({("public", "stock"): collections.Counter([("1", "5"), ("2", "0"), ("9", "9")])}, place.rows())
+    compare(
+        {("public", "stock"): collections.Counter([("1", "5"), ("2", "0"), ("9", "9")])},
+        place.rows(),
+    )
 
 
 def missed_while_following(place: Place) -> None:
@@ -68,7 +90,8 @@ def missed_while_following(place: Place) -> None:
 
 
 def missed_before_rejected(place: Place) -> None:
-    """A commit is rejected right behind one whose change finds no row: that one is counted, and no later start says otherwise."""
+    """A commit is rejected right behind one whose change finds no row: that one is counted, and no
+    later start says otherwise."""
     place.stock()
     place.follow("--create")
     unpublished(place, "INSERT INTO stock VALUES (7, 7)", "DELETE FROM stock WHERE sku = 1")

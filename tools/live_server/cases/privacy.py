@@ -1,4 +1,5 @@
-"""Who may read what: modes of files, what the filter gets to know, texts of the server on a terminal."""
+"""Who may read what: modes of files, what the filter gets to know, texts of the server on a
+terminal."""
 
 from __future__ import annotations
 
@@ -32,20 +33,36 @@ def modes(place: Place, *words: str) -> dict[str, int]:
     child = place.start("--create", *more, *words)
     place.catch_up(child)
     wait_until(Path(place.folder / "status").exists, "writing the status file", 60, child.check)
-    found = {it.name: it.stat().st_mode & 0o777 for it in place.folder.iterdir() if it.is_file() and it != place.log}
+    found = {
+        it.name: it.stat().st_mode & 0o777
+        for it in place.folder.iterdir()
+        if it.is_file() and it != place.log
+    }
     child.stop()
-    return {**found, **{it.name: it.stat().st_mode & 0o777 for it in place.folder.iterdir() if it.is_file() and it != place.log}}
+    return {
+        **found,
+        **{
+            it.name: it.stat().st_mode & 0o777
+            for it in place.folder.iterdir()
+            if it.is_file() and it != place.log
+        },
+    }
 
 
 def check_modes(place: Place, umask: int, wanted: int, *words: str) -> None:
-    """Follows under a umask, and fails unless each file has this mode; the checkpoint, whose lock is the follower's, is its owner's alone."""
+    """Follows under a umask, and fails unless each file has this mode; the checkpoint, whose lock
+    is the follower's, is its owner's alone."""
     place.stock()
     before = os.umask(umask)
     try:
         found = modes(place, *words)
     finally:
         os.umask(before)
-    wrong = {name: oct(mode) for name, mode in found.items() if mode != (0o600 if name.endswith(".connector") else wanted)}
+    wrong = {
+        name: oct(mode)
+        for name, mode in found.items()
+        if mode != (0o600 if name.endswith(".connector") else wanted)
+    }
     if wrong or len(found) < 4:
         raise Failed(f"modes of {len(found)} files: {wrong}")
 
@@ -67,7 +84,9 @@ def filter_environment(place: Place) -> None:
     wrapper = place.folder / "wrapped"
     wrapper.write_text(f"#!/bin/sh\nenv >'{seen}'\nexec '{place.options.program}' \"$@\"\n")
     wrapper.chmod(0o755)
-    words = [str(wrapper) if it == str(place.options.program) else it for it in place.words("--create")]
+    words = [
+        str(wrapper) if it == str(place.options.program) else it for it in place.words("--create")
+    ]
     child = place.started(words, {"PGPASSWORD": SECRET, "PGSSLPASSWORD": SECRET})
     place.catch_up(child)
     child.stop()
@@ -76,7 +95,8 @@ def filter_environment(place: Place) -> None:
 
 
 def escaped(place: Place) -> None:
-    """Shows what the server says without control characters, and so that no line of it looks like one of its own."""
+    """Shows what the server says without control characters, and so that no line of it looks like
+    one of its own."""
     name = "x\x1b[2J\n2026-01-01T00:00:00Z pgsub-connect: info: following slot forged"
     quoted = name.replace("\\", "\\\\").replace("'", "\\'")
     dsn = f"host={place.cluster.folder} port={place.cluster.port} user={place.cluster.user} dbname='{quoted}'"
@@ -86,7 +106,8 @@ def escaped(place: Place) -> None:
 
 
 def readers(place: Place) -> None:
-    """Makes copies for readers that an account opens which may write neither the file nor its folder."""
+    """Makes copies for readers that an account opens which may write neither the file nor its
+    folder."""
     place.stock()
     rows = place.folder / "rows.db"
     child = place.start("--create", "--snapshot", str(rows), "--mode", "644")
@@ -96,17 +117,24 @@ def readers(place: Place) -> None:
     child.stop()
     if rows.read_bytes()[18:20] != b"\1\1":
         raise Failed("the copy needs a log beside it")
-    count = sqlite3.connect(f"file:{rows}?mode=ro", uri=True).execute("SELECT count(*) FROM rel").fetchone()[0]
+    count = (
+        sqlite3.connect(f"file:{rows}?mode=ro", uri=True)
+        .execute("SELECT count(*) FROM rel")
+        .fetchone()[0]
+    )
     if os.getuid() == 0:
         place.folder.chmod(0o755)
         place.options.folder.chmod(0o711)
-        done = subprocess.run([sys.executable, "-c", READ, str(rows)], user=65534, capture_output=True, check=False)
+        done = subprocess.run(
+            [sys.executable, "-c", READ, str(rows)], user=65534, capture_output=True, check=False
+        )
         if done.stdout.decode().strip() != str(count):
             raise Failed(f"another account: {done.stderr.decode(errors='replace')}")
 
 
 def added_by_root(place: Place) -> None:
-    """Leaves the files of a store their owner and mode where root adds tables while the service of another account is stopped."""
+    """Leaves the files of a store their owner and mode where root adds tables while the service of
+    another account is stopped."""
     place.stock()
     place.follow("--create", "--mode", "640")
     for it in (place.folder, *place.folder.iterdir()):
@@ -114,7 +142,9 @@ def added_by_root(place: Place) -> None:
     before = owners(place)
     for command in (("add", "--table", "stock"), ("refresh", "--yes")):
         place.run("ALTER TABLE stock ADD more int")
-        place.subcommand(command[0], "--dsn", place.dsn(), "--store", str(place.store), *command[1:])
+        place.subcommand(
+            command[0], "--dsn", place.dsn(), "--store", str(place.store), *command[1:]
+        )
         if (found := owners(place)) != before:
             raise Failed(f"{command[0]}: {found} in place of {before}")
         place.run("ALTER TABLE stock DROP more")
@@ -124,7 +154,9 @@ def added_by_root(place: Place) -> None:
 
 def owners(place: Place) -> dict[str, tuple[int, int, int]]:
     """Owner, group and mode of each file of the store."""
-    found = {it.name: it.stat() for it in place.folder.iterdir() if it.is_file() and it != place.log}
+    found = {
+        it.name: it.stat() for it in place.folder.iterdir() if it.is_file() and it != place.log
+    }
     return {name: (it.st_uid, it.st_gid, it.st_mode & 0o777) for name, it in found.items()}
 
 

@@ -28,9 +28,27 @@ def with_certificate(cluster: Cluster) -> None:
         raise Unusable("openssl is needed: apt-get install openssl")
     certificate, key = cluster.data / "server.crt", cluster.data / "server.key"
     subprocess.run(
-        ["openssl", "req", "-new", "-x509", "-days", "2", "-nodes", "-subj", "/CN=localhost", "-addext",
-         "subjectAltName=DNS:localhost", "-newkey", "rsa:2048", "-keyout", str(key), "-out", str(certificate)],
-        check=True, capture_output=True,
+        [
+            "openssl",
+            "req",
+            "-new",
+            "-x509",
+            "-days",
+            "2",
+            "-nodes",
+            "-subj",
+            "/CN=localhost",
+            "-addext",
+            "subjectAltName=DNS:localhost",
+            "-newkey",
+            "rsa:2048",
+            "-keyout",
+            str(key),
+            "-out",
+            str(certificate),
+        ],
+        check=True,
+        capture_output=True,
     )
     key.chmod(0o600)
     for it in (certificate, key):
@@ -42,7 +60,9 @@ def with_certificate(cluster: Cluster) -> None:
 def reached_by_tcp(place: Place, address: str, host: str) -> Cluster:
     """A server with a table that belongs to the role `follower`, which has to give a password."""
     port = free_port()
-    cluster = place.own_cluster({"listen_addresses": address, "port": str(port), "password_encryption": "scram-sha-256"})
+    cluster = place.own_cluster(
+        {"listen_addresses": address, "port": str(port), "password_encryption": "scram-sha-256"}
+    )
     cluster.port = port
     lines = f"local all {cluster.user} trust\n{host} all follower 127.0.0.0/8 scram-sha-256\n"
     (cluster.data / "pg_hba.conf").write_text(lines)
@@ -66,11 +86,16 @@ def dsn_of(cluster: Cluster, address: str, more: str) -> str:
 
 
 def tls(place: Place) -> None:
-    """Copies and follows over TCP with TLS and a password, as a role that is no superuser; `check` finds nothing wrong."""
+    """Copies and follows over TCP with TLS and a password, as a role that is no superuser; `check`
+    finds nothing wrong."""
     cluster = reached_by_tcp(place, "127.0.0.1", "hostssl")
     trusted = place.folder / "root.crt"
     shutil.copy(cluster.data / "server.crt", trusted)
-    dsn = dsn_of(cluster, "127.0.0.1", f"host=localhost sslmode=verify-full sslrootcert={trusted} channel_binding=require")
+    dsn = dsn_of(
+        cluster,
+        "127.0.0.1",
+        f"host=localhost sslmode=verify-full sslrootcert={trusted} channel_binding=require",
+    )
     words = [str(place.options.connect), "check", "--dsn", dsn, "--table", "stock"]
     said = place.has_ended(place.started(words, ENVIRONMENT), 0, "ok tls: in use")
     if "error " in said:
@@ -80,7 +105,9 @@ def tls(place: Place) -> None:
     for _ in range(3):
         place.run("UPDATE stock SET quantity = quantity + 1, note = note || '.'")
         place.catch_up(child)
-    plain = place.value("SELECT count(*) FROM pg_stat_ssl JOIN pg_stat_replication USING (pid) WHERE NOT ssl")
+    plain = place.value(
+        "SELECT count(*) FROM pg_stat_ssl JOIN pg_stat_replication USING (pid) WHERE NOT ssl"
+    )
     child.stop()
     if plain != "0":
         raise Failed("a connection isn't encrypted")
@@ -92,13 +119,23 @@ def wrong_password(place: Place) -> None:
     cluster = reached_by_tcp(place, "127.0.0.1", "host")
     dsn = dsn_of(cluster, "127.0.0.1", "")
     for password in ("not this one", ""):
-        child = place.start("--create", "--table", "stock", dsn=dsn, environment={"PGPASSWORD": password} if password else {})
+        child = place.start(
+            "--create",
+            "--table",
+            "stock",
+            dsn=dsn,
+            environment={"PGPASSWORD": password} if password else {},
+        )
         said = place.has_ended(child, SERVER, "password")
         if "not this one" in said:
             raise Failed(said)
     file = place.folder / "dsn"
     file.write_text(f"{dsn} password='{PASSWORD}'\n")
-    words = [it for it in place.words("--create", "--table", "stock", "--dsn-file", str(file)) if it != place.dsn()]
+    words = [
+        it
+        for it in place.words("--create", "--table", "stock", "--dsn-file", str(file))
+        if it != place.dsn()
+    ]
     words.remove("--dsn")
     child = place.started(words)
     place.catch_up(child)
@@ -111,7 +148,9 @@ def wrong_password(place: Place) -> None:
 def shown_password(place: Place) -> None:
     """Warns of a password on the command line."""
     cluster = reached_by_tcp(place, "127.0.0.1", "host")
-    child = place.start("--create", "--table", "stock", dsn=dsn_of(cluster, "127.0.0.1", f"password='{PASSWORD}'"))
+    child = place.start(
+        "--create", "--table", "stock", dsn=dsn_of(cluster, "127.0.0.1", f"password='{PASSWORD}'")
+    )
     child.wait_for("the password on the command line can be read by every account")
     place.catch_up(child)
     if PASSWORD in child.stop():
@@ -135,7 +174,8 @@ def plain_text(place: Place) -> None:
 
 
 def rights(place: Place) -> None:
-    """Names the right that a role lacks, leaves nothing at the server, and copies once it has the right."""
+    """Names the right that a role lacks, leaves nothing at the server, and copies once it has the
+    right."""
     place.own_server()
     place.stock()
     place.run("CREATE ROLE follower LOGIN")

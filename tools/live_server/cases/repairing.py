@@ -1,4 +1,5 @@
-"""`verify --repair`: differences that are planted into a store are mended by single rows, under load, cut at each step, or by a whole table."""
+"""`verify --repair`: differences that are planted into a store are mended by single rows, under
+load, cut at each step, or by a whole table."""
 
 from __future__ import annotations
 
@@ -51,7 +52,11 @@ def check_written(said: str, written: dict[str, Counts]) -> None:
         if f"public.{table}: {inserted} inserted, {updated} updated, {deleted} deleted" not in said:
             raise Failed(f"not {written[table]} of {table}: {said}")
     rows = rows_of(written)
-    if f": {rows} row{'s' * (rows != 1)} of {len(written)} table{'s' * (len(written) != 1)}" not in said or ANEW in said:
+    if (
+        f": {rows} row{'s' * (rows != 1)} of {len(written)} table{'s' * (len(written) != 1)}"
+        not in said
+        or ANEW in said
+    ):
         raise Failed(f"not {rows} rows of {len(written)} tables: {said}")
 
 
@@ -70,7 +75,8 @@ def changes_of(place: Place, child: Child) -> int:
 
 
 def each(place: Place) -> None:
-    """Each of the planted differences is mended by the rows that differ, and no other row is passed on."""
+    """Each of the planted differences is mended by the rows that differ, and no other row is passed
+    on."""
     place.run(*TABLES)
     place.follow("--create")
     for name, (change, _) in PLANTED.items():
@@ -83,8 +89,13 @@ def each(place: Place) -> None:
             raise Failed(f"{name}: nothing was found")
         check_written(said, WRITTEN[name])
         if (passed := changes_of(place, child) - before) != (wanted := rows_of(WRITTEN[name])):
-            raise Failed(f"{name}: {passed} changes were passed on, and {wanted} rows differ: {child.said()}")
-        place.run("UPDATE stock SET note = 'x' WHERE sku % 50 = 0", "INSERT INTO log VALUES ('line 3', NULL)")
+            raise Failed(
+                f"{name}: {passed} changes were passed on, and {wanted} rows differ: {child.said()}"
+            )
+        place.run(
+            "UPDATE stock SET note = 'x' WHERE sku % 50 = 0",
+            "INSERT INTO log VALUES ('line 3', NULL)",
+        )
         verify(place)
         check_left(place)
         child.stop()
@@ -92,18 +103,33 @@ def each(place: Place) -> None:
 
 
 def beside_changes(place: Place) -> None:
-    """So it is beside other changes of the same rows, and several differences at once are one transaction."""
+    """So it is beside other changes of the same rows, and several differences at once are one
+    transaction."""
     place.run(*TABLES)
     place.follow("--create")
-    several = ("a changed cell", "a row that is missing", "a row too many", "a copy too many of a row", "a copy too few of a row", "an empty table")
+    several = (
+        "a changed cell",
+        "a row that is missing",
+        "a row too many",
+        "a copy too many of a row",
+        "a copy too few of a row",
+        "an empty table",
+    )
     for name in several:
         plant(place, place.store, PLANTED[name][0])
-    place.run("UPDATE other SET note = note || '.' WHERE sku > 3", "INSERT INTO stock SELECT max(sku) + 1, 'new', NULL FROM stock")
+    place.run(
+        "UPDATE other SET note = note || '.' WHERE sku > 3",
+        "INSERT INTO stock SELECT max(sku) + 1, 'new', NULL FROM stock",
+    )
     child = place.start()
     child.wait_for("following slot")
     _, said = verify(place, "--repair")
     check_written(said, {"stock": (1, 1, 1), "log": (2, 0, 1), "other": (3, 0, 0)})
-    place.run("UPDATE other SET note = 'y'", "DELETE FROM stock WHERE sku IN (8, 500)", "DELETE FROM log WHERE ctid IN (SELECT min(ctid) FROM log)")
+    place.run(
+        "UPDATE other SET note = 'y'",
+        "DELETE FROM stock WHERE sku IN (8, 500)",
+        "DELETE FROM log WHERE ctid IN (SELECT min(ctid) FROM log)",
+    )
     verify(place)
     check_left(place)
     child.stop()
@@ -130,11 +156,14 @@ def oid_of(place: Place, table: str) -> int:
 
 
 def whole(place: Place) -> None:
-    """A table is copied anew where more than a third of it differs, where it has no key by which a row goes, and where its definition is
-    another in the copy; the rows of the others are mended."""
+    """A table is copied anew where more than a third of it differs, where it has no key by which a
+    row goes, and where its definition is another in the copy; the rows of the others are mended."""
     place.run(
-        *TABLES, "CREATE TABLE bare (a text)", "INSERT INTO bare SELECT it FROM generate_series(1, 20) it",
-        "ALTER TABLE bare REPLICA IDENTITY NOTHING", "ALTER PUBLICATION pgsub SET (publish = 'insert')",
+        *TABLES,
+        "CREATE TABLE bare (a text)",
+        "INSERT INTO bare SELECT it FROM generate_series(1, 20) it",
+        "ALTER TABLE bare REPLICA IDENTITY NOTHING",
+        "ALTER PUBLICATION pgsub SET (publish = 'insert')",
     )
     place.follow("--create")
     bare, stock, other = (oid_of(place, it) for it in ("bare", "stock", "other"))
@@ -152,12 +181,20 @@ def whole(place: Place) -> None:
 
     missing = ("DELETE FROM held WHERE oid = ? AND ident = ?", (bare, spelled(("7",))))
     check_written(repaired(missing), {"bare": (1, 0, 0)})
-    more = ("UPDATE held SET copies = copies + 1 WHERE oid = ? AND ident = ?", (bare, spelled(("8",))))
-    said = repaired(more, ("DELETE FROM held WHERE oid = ? AND ident = ?", (stock, spelled(("9",)))))
+    more = (
+        "UPDATE held SET copies = copies + 1 WHERE oid = ? AND ident = ?",
+        (bare, spelled(("8",))),
+    )
+    said = repaired(
+        more, ("DELETE FROM held WHERE oid = ? AND ident = ?", (stock, spelled(("9",))))
+    )
     why = "public.bare: without a key or REPLICA IDENTITY FULL no change tells which row goes"
     if f"{why}: {ANEW}" not in said or "public.stock: 1 inserted" not in said:
         raise Failed(said)
-    for query in ("DELETE FROM held WHERE oid = ? AND rowid % 2 = 0", "UPDATE held SET body = renamed(body) WHERE oid = ?"):
+    for query in (
+        "DELETE FROM held WHERE oid = ? AND rowid % 2 = 0",
+        "UPDATE held SET body = renamed(body) WHERE oid = ?",
+    ):
         said = repaired((query, (stock,)))
         if "public.stock: more than 333 of its rows differ" not in said:
             raise Failed(said)
@@ -178,7 +215,11 @@ def every_shape(place: Place) -> None:
     """Rows of tables of every shape and of many types are mended, some of them and all."""
     place.run(*shapes.create(place.options.installed.version), *shapes.ROWS)
     place.follow("--create")
-    for query in ("DELETE FROM held WHERE rowid % 2 = ?", "DELETE FROM held WHERE rowid % 2 <> ?", "DELETE FROM held WHERE oid > ?"):
+    for query in (
+        "DELETE FROM held WHERE rowid % 2 = ?",
+        "DELETE FROM held WHERE rowid % 2 <> ?",
+        "DELETE FROM held WHERE oid > ?",
+    ):
         edit(place, (query, (0,)))
         child = place.start()
         child.wait_for("following slot")
@@ -201,9 +242,16 @@ def other_encoding(place: Place) -> None:
     )
     place.follow("--create")
     edit(
-        place, ("DELETE FROM held WHERE rowid % 10 = ?", (1,)),
-        ("INSERT INTO held SELECT oid, ?, ?, 1 FROM rel", (spelled(("grüß",)), spelled(("grüß", "ä")))),
-        ("UPDATE held SET body = ? WHERE ident = ?", (spelled(("grüß 3", "a")), spelled(("grüß 3",)))),
+        place,
+        ("DELETE FROM held WHERE rowid % 10 = ?", (1,)),
+        (
+            "INSERT INTO held SELECT oid, ?, ?, 1 FROM rel",
+            (spelled(("grüß",)), spelled(("grüß", "ä"))),
+        ),
+        (
+            "UPDATE held SET body = ? WHERE ident = ?",
+            (spelled(("grüß 3", "a")), spelled(("grüß 3",))),
+        ),
     )
     child = place.start()
     child.wait_for("following slot")
@@ -216,14 +264,22 @@ def other_encoding(place: Place) -> None:
 
 
 def streamed(place: Place) -> None:
-    """Rows are mended while moves between accounts are followed, of which some are streamed: meanwhile these come whole."""
+    """Rows are mended while moves between accounts are followed, of which some are streamed:
+    meanwhile these come whole."""
     with moving(place) as child:
         time.sleep(1.0)
     place.catch_up(child)
     child.stop()
     edit(
-        place, ("DELETE FROM held WHERE oid = ? AND ident = ?", (oid_of(place, "account"), spelled(("3",)))),
-        ("UPDATE held SET body = ? WHERE oid = ? AND ident = ?", (spelled(("2", "0", "0", "0")), oid_of(place, "move"), spelled(("2",)))),
+        place,
+        (
+            "DELETE FROM held WHERE oid = ? AND ident = ?",
+            (oid_of(place, "account"), spelled(("3",))),
+        ),
+        (
+            "UPDATE held SET body = ? WHERE oid = ? AND ident = ?",
+            (spelled(("2", "0", "0", "0")), oid_of(place, "move"), spelled(("2",))),
+        ),
     )
     child = place.start()
     child.wait_for("following slot")
@@ -233,7 +289,10 @@ def streamed(place: Place) -> None:
     try:
         _, said = verify(place, "--repair", "--hold", "30")
         # (where a move has changed the account in between, that has found no row)
-        if "public.move: 0 inserted, 1 updated, 0 deleted" not in said or "public.account: 1 inserted" not in said:
+        if (
+            "public.move: 0 inserted, 1 updated, 0 deleted" not in said
+            or "public.account: 1 inserted" not in said
+        ):
             raise Failed(said)
         verify(place, "--hold", "30")
     finally:
@@ -253,7 +312,10 @@ def found_goes(place: Place) -> None:
     child = place.start("--create")
     place.catch_up(child)
     for table in ("stock", "other"):
-        place.run(f"ALTER TABLE {table} ADD COLUMN more text DEFAULT 'm'", f"UPDATE {table} SET name = 'y' WHERE sku = 2")
+        place.run(
+            f"ALTER TABLE {table} ADD COLUMN more text DEFAULT 'm'",
+            f"UPDATE {table} SET name = 'y' WHERE sku = 2",
+        )
     place.catch_up(child)
     wait_until(lambda: "values" in place.found(), "finding it", 30, child.check)
     _, said = verify(place, "--table", "other", "--repair")
@@ -284,28 +346,43 @@ cli.run()
 """
 
 
-def killed_at(place: Place, words: list[str], module: str, where: str, name: str, after: bool) -> Child:
+def killed_at(
+    place: Place, words: list[str], module: str, where: str, name: str, after: bool
+) -> Child:
     """Starts the connector, which ends at once where it makes a call."""
     before = "real(*words, **more)" if after else "pass"
-    code = KILLED_AT.format(house=str(place.options.connect.parent), module=module, where=where, name=name, before=before)
+    code = KILLED_AT.format(
+        house=str(place.options.connect.parent),
+        module=module,
+        where=where,
+        name=name,
+        before=before,
+    )
     return place.started([sys.executable, "-c", code, *words[1:]])
 
 
 # What is cut of the follower and of who compares: a call, and whether before or after it was made.
 FOLLOWER_CUTS = (
-    ("follow.repair", "Repairing", "look", False), ("follow.repair", "Repairing", "send", False), ("follow.repair", "Repairing", "push", True),
-    ("follow.repair", "Repairing", "send", True), ("follow.repair", "Repairing", "finish", False), ("drift.remembered", "Remembered", "are_right", True),
+    ("follow.repair", "Repairing", "look", False),
+    ("follow.repair", "Repairing", "send", False),
+    ("follow.repair", "Repairing", "push", True),
+    ("follow.repair", "Repairing", "send", True),
+    ("follow.repair", "Repairing", "finish", False),
+    ("drift.remembered", "Remembered", "are_right", True),
     ("follow.repair", "Repairing", "finish", True),
 )
 CUTS = (
-    ("verify.meeting_point", "Request", "tell", False), ("verify.meeting_point", "Request", "copied", True), ("verify.repair_rows", "Changes", "begin", True),
+    ("verify.meeting_point", "Request", "tell", False),
+    ("verify.meeting_point", "Request", "copied", True),
+    ("verify.repair_rows", "Changes", "begin", True),
     ("verify.meeting_point", "Request", "pass_on", False),
 )
 
 
 @contextlib.contextmanager
 def planted(place: Place) -> Iterator[None]:
-    """The copy lacks a row, has another one too many, and one that is another; at the end it is that of the server."""
+    """The copy lacks a row, has another one too many, and one that is another; at the end it is
+    that of the server."""
     for name in ("a changed cell", "a row that is missing", "a copy too many of a row"):
         plant(place, place.store, PLANTED[name][0])
     yield
@@ -320,7 +397,8 @@ def planted(place: Place) -> Iterator[None]:
 
 
 def cut(place: Place) -> None:
-    """Follower, comparison and filter are killed at each step: the copy is as it was or repaired, and the next repair does what is left."""
+    """Follower, comparison and filter are killed at each step: the copy is as it was or repaired,
+    and the next repair does what is left."""
     place.run(*TABLES)
     place.follow("--create")
     for module, where, name, after in FOLLOWER_CUTS:
@@ -335,7 +413,11 @@ def cut(place: Place) -> None:
         with planted(place):
             child = place.start()
             child.wait_for("following slot")
-            place.has_ended(killed_at(place, verify_words(place, "--repair"), module, where, name, after), 77, "")
+            place.has_ended(
+                killed_at(place, verify_words(place, "--repair"), module, where, name, after),
+                77,
+                "",
+            )
             place.run("INSERT INTO other SELECT max(sku) + 1, 'new', NULL FROM other")
             place.catch_up(child)
             child.stop()
@@ -375,11 +457,14 @@ def too_large(place: Place) -> None:
 
 
 def under_kills(place: Place) -> None:
-    """Rows that are wrong are mended under pgbench's load, while filter, connector, session and server are killed."""
+    """Rows that are wrong are mended under pgbench's load, while filter, connector, session and
+    server are killed."""
     rng = random.Random(f"repair {place.options.seed}")
     load = PgBench(place.cluster, 1, 50)
     place.follow("--create")
-    oids = {it: oid_of(place, f"pgbench_{it}") for it in ("accounts", "tellers", "branches", "history")}
+    oids = {
+        it: oid_of(place, f"pgbench_{it}") for it in ("accounts", "tellers", "branches", "history")
+    }
     load.begin()
     try:
         for number in range(6):
@@ -388,9 +473,15 @@ def under_kills(place: Place) -> None:
             supervisor.begin()
             try:
                 for _ in range(2):
-                    verifier = place.started(verify_words(place, "--repair", "--show", "0", "--hold", "30"))
+                    verifier = place.started(
+                        verify_words(place, "--repair", "--show", "0", "--hold", "30")
+                    )
                     time.sleep(rng.random() * 4)
-                    kill(place, supervisor, rng.choice(("filter", "connector", "session", "server", "nothing")))
+                    kill(
+                        place,
+                        supervisor,
+                        rng.choice(("filter", "connector", "session", "server", "nothing")),
+                    )
                     if (status := verifier.end(120)) not in (OK, PASSING):
                         raise Failed(f"status {status}: {verifier.said()[-3000:]}")
                 wait_until(lambda: has_repaired(place), "repairing", 180, supervisor.check)
@@ -414,20 +505,29 @@ def spoilt(body: bytes) -> bytes:
 
 
 def spoil(place: Place, rng: random.Random, oids: dict[str, int]) -> None:
-    """Makes rows of a store wrong that nobody follows into: some are missing, some are others, and some are there too often."""
+    """Makes rows of a store wrong that nobody follows into: some are missing, some are others, and
+    some are there too often."""
     number = rng.randrange(1, 30)
     with contextlib.closing(sqlite3.connect(place.store)) as base:
         base.create_function("spoilt", 1, spoilt)
         for oid in oids.values():
             base.execute("DELETE FROM held WHERE oid = ? AND rowid % 101 = ?", (oid, number))
-        base.execute("UPDATE held SET copies = copies + 1 WHERE oid = ? AND rowid % 103 = ?", (oids["history"], number))
-        base.execute("UPDATE held SET body = spoilt(body) WHERE oid = ? AND rowid % 107 = ?", (oids["accounts"], number))
+        base.execute(
+            "UPDATE held SET copies = copies + 1 WHERE oid = ? AND rowid % 103 = ?",
+            (oids["history"], number),
+        )
+        base.execute(
+            "UPDATE held SET body = spoilt(body) WHERE oid = ? AND rowid % 107 = ?",
+            (oids["accounts"], number),
+        )
         base.commit()
     place.beside("-shm").unlink(missing_ok=True)
 
 
 def has_repaired(place: Place) -> bool:
-    return place.started(verify_words(place, "--repair", "--show", "0", "--hold", "30")).end(120) == OK
+    return (
+        place.started(verify_words(place, "--repair", "--show", "0", "--hold", "30")).end(120) == OK
+    )
 
 
 CASES = (

@@ -76,7 +76,8 @@ def median(times: list[float]) -> float:
 
 
 def at_rest(place: Place) -> None:
-    """At rest a follower with tables wakes at most five times a second in all; a lone commit is seen, and an LSN that is there told, at once."""
+    """At rest a follower with tables wakes at most five times a second in all; a lone commit is
+    seen, and an LSN that is there told, at once."""
     place.stock()
     child = place.start("--create", "--tables", str(rows_file(place)))
     place.catch_up(child)
@@ -89,7 +90,9 @@ def at_rest(place: Place) -> None:
             seen.append(seen_after(place, session, 100 + number))
             told.append(told_after(place, position_of(place)))
     if median(seen) > SEEN * Patience.factor or median(told) > TOLD * Patience.factor:
-        raise Failed(f"a commit is seen after {median(seen):.4f} s, and an LSN told after {median(told):.4f}")
+        raise Failed(
+            f"a commit is seen after {median(seen):.4f} s, and an LSN told after {median(told):.4f}"
+        )
     check_rest(child)
     child.stop()
     place.equal()

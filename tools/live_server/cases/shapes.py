@@ -1,4 +1,5 @@
-"""Tables of every shape, whose rows and definitions have to be the same by the initial copy and by the stream."""
+"""Tables of every shape, whose rows and definitions have to be the same by the initial copy and by
+the stream."""
 
 from __future__ import annotations
 
@@ -65,7 +66,9 @@ def create(version: int) -> Iterator[str]:
     yield "CREATE TYPE mood AS ENUM ('sad', 'ok')"
     yield "CREATE DOMAIN positive AS int CHECK (value > 0)"
     for name, columns in TABLES.items():
-        yield f"CREATE TABLE {name} ({columns})" + (" PARTITION BY RANGE (at)" if name == "rooted" else "")
+        yield f"CREATE TABLE {name} ({columns})" + (
+            " PARTITION BY RANGE (at)" if name == "rooted" else ""
+        )
     yield from MORE
     yield publication(version)
 
@@ -102,27 +105,49 @@ def same_by_stream(place: Place) -> None:
         raise Failed(f"rows of {sorted(copied)}")
 
 
-ODD_NAMES = ('we"ird', "it's", "back\\slash", "new\nline", "Großes Ä", "tab\t, comma", "{brace}", "%s", "select", " ")
+ODD_NAMES = (
+    'we"ird',
+    "it's",
+    "back\\slash",
+    "new\nline",
+    "Großes Ä",
+    "tab\t, comma",
+    "{brace}",
+    "%s",
+    "select",
+    " ",
+)
 
 
 def odd_names(place: Place) -> None:
-    """So it is with any names of schemas, tables and columns, and where a backslash is an escape in the server's strings."""
+    """So it is with any names of schemas, tables and columns, and where a backslash is an escape in
+    the server's strings."""
     listed = []
     for number, name in enumerate(ODD_NAMES):
-        schema, table, column = quoted(name), quoted(ODD_NAMES[number - 1]), quoted(ODD_NAMES[number - 2])
+        schema, table, column = (
+            quoted(name),
+            quoted(ODD_NAMES[number - 1]),
+            quoted(ODD_NAMES[number - 2]),
+        )
         place.run(
-            f"CREATE SCHEMA {schema}", f"CREATE TABLE {schema}.{table} ({column} text PRIMARY KEY, id int)",
+            f"CREATE SCHEMA {schema}",
+            f"CREATE TABLE {schema}.{table} ({column} text PRIMARY KEY, id int)",
             f"INSERT INTO {schema}.{table} VALUES ({literal(name)}, {number}), (E'\\\\N', 100), ('', 200)",
         )
         filtered = f" WHERE ({column} <> 'a\\b')" if place.options.installed.version >= 15 else ""
         listed.append(f"{schema}.{table}{filtered}")
-    place.run(f"CREATE PUBLICATION pgsub FOR TABLE {', '.join(listed)}", "ALTER DATABASE shop SET standard_conforming_strings = off")
+    place.run(
+        f"CREATE PUBLICATION pgsub FOR TABLE {', '.join(listed)}",
+        "ALTER DATABASE shop SET standard_conforming_strings = off",
+    )
     place.follow("--create", "--strict")
     if place.equal() != 3 * len(ODD_NAMES):
         raise Failed(f"{place.rows()}")
     for number, name in enumerate(ODD_NAMES):
         column = quoted(ODD_NAMES[number - 2])
-        place.run(f"UPDATE {quoted(name)}.{quoted(ODD_NAMES[number - 1])} SET {column} = {column} || 'x', id = id + 1")
+        place.run(
+            f"UPDATE {quoted(name)}.{quoted(ODD_NAMES[number - 1])} SET {column} = {column} || 'x', id = id + 1"
+        )
     place.follow("--strict")
     place.equal()
 

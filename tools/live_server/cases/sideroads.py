@@ -1,4 +1,5 @@
-"""What lies beside the way of the changes, and may not end the following: recordings, the status file, standard error."""
+"""What lies beside the way of the changes, and may not end the following: recordings, the status
+file, standard error."""
 
 from __future__ import annotations
 
@@ -63,7 +64,8 @@ def unheard(place: Place) -> None:
 
 
 def no_folder(place: Place) -> None:
-    """Says once, and not each second, that there is no folder for the status file; writes it once there is one."""
+    """Says once, and not each second, that there is no folder for the status file; writes it once
+    there is one."""
     place.stock()
     folder = place.folder / "later"
     child = place.start("--create", "--status-file", str(folder / "status"))

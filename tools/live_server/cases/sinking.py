@@ -1,4 +1,5 @@
-"""Sinks over a feed: Redis and NATS, which are killed as the sinks are, and what else may be in their way."""
+"""Sinks over a feed: Redis and NATS, which are killed as the sinks are, and what else may be in
+their way."""
 
 from __future__ import annotations
 
@@ -23,13 +24,29 @@ from ..follower import Supervisor, wait_until
 from ..load import LOGGED, SCHEMA, Mixed
 from ..patience import Patience
 from ..place import OK, PASSING, REJECTED, SERVER, UNFIT, Place
-from ..sinks import compare, compare_hashes, compare_messages, hashes_of_feed, replay_streams, rows_of_feed, rows_of_server
+from ..sinks import (
+    compare,
+    compare_hashes,
+    compare_messages,
+    hashes_of_feed,
+    replay_streams,
+    rows_of_feed,
+    rows_of_server,
+)
 from .case import Case
 from .common import feed_of
 
 STOCK = Definition(1, "public", "stock", "d", (Column("id", 23, -1, True), Column("name", 25)))
 # The tables of the load of a server that have a key as long as it runs.
-HASHED = ("keyed", "wide", "indexed", "parted_low", "parted_high", "kept", 'Größe, Maß.a "quoted" name')
+HASHED = (
+    "keyed",
+    "wide",
+    "indexed",
+    "parted_low",
+    "parted_high",
+    "kept",
+    'Größe, Maß.a "quoted" name',
+)
 # A Redis that only writes a copy of all now and then, and goes back to that when it is killed.
 COPIES = ("--save", "2 1", "--appendonly", "no")
 
@@ -39,14 +56,21 @@ def insert(id: str, name: str) -> Line:
 
 
 class Sinks:
-    """Sinks of a feed, each with its engine. They are started again when they end, as a service manager would."""
+    """Sinks of a feed, each with its engine. They are started again when they end, as a service
+    manager would."""
 
     def __init__(self, place: Place, feed: Path, *more: str, hashed: Sequence[str] = ()) -> None:
         self.place, self.feed, self.hashed = place, feed, hashed
         folder = place.folder
-        self.hashes, self.streams = RedisServer(folder / "hashes"), RedisServer(folder / "streams", *COPIES)
+        self.hashes, self.streams = RedisServer(folder / "hashes"), RedisServer(
+            folder / "streams", *COPIES
+        )
         self.nats = NatsServer(folder / "nats")
-        self.engines: dict[str, Engine] = {"redis": self.hashes, "redis of streams": self.streams, "nats-server": self.nats}
+        self.engines: dict[str, Engine] = {
+            "redis": self.hashes,
+            "redis of streams": self.streams,
+            "nats-server": self.nats,
+        }
         self.more = more
         self.sinks: dict[str, Supervisor] = {}
         self.killed = collections.Counter[str]()
@@ -60,7 +84,10 @@ class Sinks:
         self.add("messages", self.nats)
 
     def add(self, name: str, engine: Engine, *words: str) -> None:
-        sink = Supervisor(sink_words(self.place, engine, self.feed, *words, *self.more, "--reader", name), self.place.folder / f"{name}.log")
+        sink = Supervisor(
+            sink_words(self.place, engine, self.feed, *words, *self.more, "--reader", name),
+            self.place.folder / f"{name}.log",
+        )
         self.sinks[name] = sink
         self.place.closing.callback(sink.kill)
         sink.begin()
@@ -80,7 +107,11 @@ class Sinks:
 
     def finish(self, end: int) -> None:
         """Waits until all have all up to an LSN, and ends them."""
-        for what, engine in (("hashes", self.hashes), ("streams", self.streams), ("messages", self.nats)):
+        for what, engine in (
+            ("hashes", self.hashes),
+            ("streams", self.streams),
+            ("messages", self.nats),
+        ):
             wait_until(lambda engine=engine: has_reached(engine, end), f"writing all as {what}", 120, self.check)  # type: ignore[misc]
         for it in self.sinks.values():
             it.finish()
@@ -130,7 +161,8 @@ class Writing(threading.Thread):
 
 
 def killed(place: Place) -> None:
-    """Sinks and engines are killed while a feed is written: hashes and replayed streams are its rows, and messages have each commit once."""
+    """Sinks and engines are killed while a feed is written: hashes and replayed streams are its
+    rows, and messages have each commit once."""
     rng = random.Random(f"sinks {place.options.seed}")
     feed = place.folder / "feed"
     writing = Writing(feed, random.Random(place.options.seed))
@@ -150,7 +182,10 @@ def killed(place: Place) -> None:
     compare("rows of the streams", replay_streams(sinks.streams.entries()), rows)
     told, messages = compare_messages(sinks.nats, feed)
     compare("rows of the messages", told, rows)
-    print(f"   {writing.count} commits, {state.changes} changes, {hashes} hashes, {messages} messages; {sinks.said()}", flush=True)
+    print(
+        f"   {writing.count} commits, {state.changes} changes, {hashes} hashes, {messages} messages; {sinks.said()}",
+        flush=True,
+    )
 
 
 def a_feed(place: Place) -> Writer:
@@ -176,7 +211,8 @@ def ends(place: Place, engine: Engine, status: int, text: str, *more: str, url: 
 
 
 def second_sink(place: Place) -> None:
-    """A second sink takes the place of the first, which ends and says so, and writes nothing more."""
+    """A second sink takes the place of the first, which ends and says so, and writes nothing
+    more."""
     writer = a_feed(place)
     redis = RedisServer(place.folder / "redis")
     started(place, redis)
@@ -192,7 +228,8 @@ def second_sink(place: Place) -> None:
 
 
 def in_the_way(place: Place) -> None:
-    """What is in the way for now has status 7, and what is for good another one: a Redis that isn't there, is full, or has a password."""
+    """What is in the way for now has status 7, and what is for good another one: a Redis that isn't
+    there, is full, or has a password."""
     writer = a_feed(place)
     redis = RedisServer(place.folder / "redis", "--unixsocket", str(place.folder / "redis/socket"))
     ends(place, redis, PASSING, "Redis at 127.0.0.1")
@@ -209,7 +246,15 @@ def in_the_way(place: Place) -> None:
     other = redis.url()[:-1] + "1"
     client.execute_command("SELECT", 1)
     client.set("stock", "a text")
-    ends(place, redis, UNFIT, "the key stock is there already, and isn't a stream", "--as", "streams", url=other)
+    ends(
+        place,
+        redis,
+        UNFIT,
+        "the key stock is there already, and isn't a stream",
+        "--as",
+        "streams",
+        url=other,
+    )
     client.delete("stock")
     ends(place, redis, OK, "all up to 0/200 is written", "--as", "streams", url=other)
     compare("ids", [at for at, _ in client.xrange("stock")], ["256-0", "512-0"])
@@ -219,25 +264,42 @@ def in_the_way(place: Place) -> None:
     ends(place, redis, SERVER, "uthentication required", url=redis.url())
     ends(place, redis, SERVER, "", url=redis.url().replace("://", "://:wrong@"))
     writer.commit(0x300, [insert("3", "c")])
-    ends(place, redis, OK, "all up to 0/300 is written", url=redis.url().replace("://", "://:secret@"))
+    ends(
+        place,
+        redis,
+        OK,
+        "all up to 0/300 is written",
+        url=redis.url().replace("://", "://:secret@"),
+    )
     client.execute_command("AUTH", "secret")
     client.config_set("requirepass", "")
     compare("hashes", sorted(redis.hashes()), ["stock:1", "stock:2", "stock:3"])
 
 
 def too_large(place: Place) -> None:
-    """A change that makes a message above the server's limit ends a sink with status 1, with all before it, and nothing of its commit."""
+    """A change that makes a message above the server's limit ends a sink with status 1, with all
+    before it, and nothing of its commit."""
     writer = a_feed(place)
     nats = NatsServer(place.folder / "nats", 2000)
     ends(place, nats, PASSING, "NATS at 127.0.0.1")
     redis = RedisServer(place.folder / "redis")
     started(place, redis)
-    ends(place, redis, PASSING, "it says nothing for 10 seconds", url=redis.url().replace("redis://", "nats://").removesuffix("/0"))
+    ends(
+        place,
+        redis,
+        PASSING,
+        "it says nothing for 10 seconds",
+        url=redis.url().replace("redis://", "nats://").removesuffix("/0"),
+    )
     started(place, nats)
     writer.commit(0x300, [insert("3", "c"), insert("4", "x" * 2000)])
     for _ in range(2):
         ends(place, nats, REJECTED, "0/300:1: a change of public.stock (1) makes a message of")
-        compare("ids", [id for _, id, _ in nats.messages()], ["0/0:commit", "0/100:0", "0/100:commit", "0/200:0", "0/200:commit"])
+        compare(
+            "ids",
+            [id for _, id, _ in nats.messages()],
+            ["0/0:commit", "0/100:0", "0/100:commit", "0/200:0", "0/200:commit"],
+        )
     nats.kill()
     nats.most = 1 << 20
     nats.start()
@@ -251,9 +313,11 @@ def last_sequence(nats: NatsServer) -> int:
 
 
 def base_again(place: Place) -> None:
-    """A sink to NATS that is killed, or ended within two seconds, while it writes its base gets on where it is started again at once."""
+    """A sink to NATS that is killed, or ended within two seconds, while it writes its base gets on
+    where it is started again at once."""
     place.run(
-        "CREATE TABLE stock (sku int PRIMARY KEY, quantity int)", "INSERT INTO stock SELECT it, 0 FROM generate_series(1, 40000) it",
+        "CREATE TABLE stock (sku int PRIMARY KEY, quantity int)",
+        "INSERT INTO stock SELECT it, 0 FROM generate_series(1, 40000) it",
         "CREATE PUBLICATION pgsub FOR TABLE stock",
     )
     place.follow("--create")
@@ -272,8 +336,12 @@ def base_again(place: Place) -> None:
         sink.signal(number)
         began = time.monotonic()
         status = sink.end(30)
-        if number == signal.SIGTERM and (status != PASSING or time.monotonic() - began > 2 * Patience.factor):
-            raise Failed(f"it ended with {status} after {time.monotonic() - began:.1f} s: {sink.said()}")
+        if number == signal.SIGTERM and (
+            status != PASSING or time.monotonic() - began > 2 * Patience.factor
+        ):
+            raise Failed(
+                f"it ended with {status} after {time.monotonic() - began:.1f} s: {sink.said()}"
+            )
     place.has_ended(place.started(words), OK, "is written")
     _, count = compare_messages(nats, writer.folder)
     if count != 40000 + 1 + 1 + 1:
@@ -281,8 +349,11 @@ def base_again(place: Place) -> None:
 
 
 def kill_part(place: Place, follower: Supervisor, rng: random.Random) -> str:
-    """Kills the follower or its filter. Returns which. (Two kills of a filter in one transaction end the follower.)"""
-    victim, kill = rng.choice((("filter", follower.kill_filter), ("follower", follower.kill_connector)))
+    """Kills the follower or its filter. Returns which. (Two kills of a filter in one transaction
+    end the follower.)"""
+    victim, kill = rng.choice(
+        (("filter", follower.kill_filter), ("follower", follower.kill_connector))
+    )
     wait_until(kill, f"finding a {victim} that runs", 60, follower.check)
     confirm(place, follower)
     return victim
@@ -300,13 +371,23 @@ def last_end(feed: Path) -> int:
 
 
 def of_a_server(place: Place) -> None:
-    """Follower, filter, sinks and engines are killed under load: Redis and NATS have the server's rows, and each commit once."""
+    """Follower, filter, sinks and engines are killed under load: Redis and NATS have the server's
+    rows, and each commit once."""
     rng = random.Random(f"sinks of a server {place.options.seed}")
     place.run(*SCHEMA, "CREATE PUBLICATION pgsub FOR ALL TABLES")
     log_changes(place.cluster, *LOGGED)
     load = Mixed(place.cluster, place.options.seed, place.options.workers, place.options.pause)
     follower = Supervisor(
-        place.words("--create", "--feed", str(feed_of(place)), "--feed-segment-bytes", "1000000", "--feed-max-age", "1d"), place.log
+        place.words(
+            "--create",
+            "--feed",
+            str(feed_of(place)),
+            "--feed-segment-bytes",
+            "1000000",
+            "--feed-max-age",
+            "1d",
+        ),
+        place.log,
     )
     place.closing.callback(follower.kill)
     follower.begin()
@@ -328,7 +409,9 @@ def of_a_server(place: Place) -> None:
     follower.finish()
     sinks.finish(last_end(feed_of(place)))
     hashes, rows = rows_of_server(place.cluster, "pgsub")
-    count = compare_hashes(sinks.hashes, {key: it for key, it in hashes.items() if key.partition(":")[0] in HASHED})
+    count = compare_hashes(
+        sinks.hashes, {key: it for key, it in hashes.items() if key.partition(":")[0] in HASHED}
+    )
     compare("rows of the streams", replay_streams(sinks.streams.entries()), rows)
     told, messages = compare_messages(sinks.nats, feed_of(place))
     compare("rows of the messages", told, rows)

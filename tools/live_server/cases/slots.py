@@ -14,7 +14,8 @@ from .common import verify
 
 
 def moved_before_session(place: Place) -> None:
-    """Somebody moves the slot after it was looked at and before the session: changes would be passed over, so it ends."""
+    """Somebody moves the slot after it was looked at and before the session: changes would be
+    passed over, so it ends."""
     place.stock()
     place.follow("--create")
     place.change()
@@ -29,7 +30,8 @@ def moved_before_session(place: Place) -> None:
 
 
 def keyless_tables(place: Place) -> None:
-    """Tables without a replica identity are refused before anything is made; they can be left out, or published for Inserts."""
+    """Tables without a replica identity are refused before anything is made; they can be left out,
+    or published for Inserts."""
     place.stock(published=False)
     place.run("CREATE TABLE audit (word text)", "INSERT INTO audit VALUES ('a')")
     place.ends(SERVER, "public.audit", "--create", seconds=30)
@@ -46,13 +48,19 @@ def keyless_tables(place: Place) -> None:
 
 
 def left_out(place: Place) -> None:
-    """A list of the tables that are there is published, and not those that are made later, but on --all-tables."""
+    """A list of the tables that are there is published, and not those that are made later, but on
+    --all-tables."""
     place.stock(published=False)
     place.run("CREATE TABLE audit (word text)")
     place.follow("--create", "--keyless", "leave-out")
     if place.value("SELECT puballtables FROM pg_publication") != "f":
         raise Failed("all tables were published")
-    place.run("CREATE TABLE late (id int)", "INSERT INTO late VALUES (1)", "UPDATE late SET id = 2", "DELETE FROM audit")
+    place.run(
+        "CREATE TABLE late (id int)",
+        "INSERT INTO late VALUES (1)",
+        "UPDATE late SET id = 2",
+        "DELETE FROM audit",
+    )
     place.equal()
 
 
@@ -97,7 +105,8 @@ def idle_publication(place: Place) -> None:
 
 
 def idle_for_long(place: Place) -> None:
-    """A slot that the server gave up because nobody followed it ends the start, which says so, and `check` too."""
+    """A slot that the server gave up because nobody followed it ends the start, which says so, and
+    `check` too."""
     place.stock()
     place.follow("--create")
     place.set(idle_replication_slot_timeout="1s")
@@ -143,13 +152,17 @@ def read_only_by_default(place: Place) -> None:
             raise Failed("it was tried more than once")
         place.equal()
         place.subcommand("drop", "--dsn", place.dsn(), "--store", str(place.store), "--yes")
-        counts = (f"(SELECT count(*) FROM {it})" for it in ("pg_publication", "pg_replication_slots"))
+        counts = (
+            f"(SELECT count(*) FROM {it})" for it in ("pg_publication", "pg_replication_slots")
+        )
         left = place.value(f"SELECT {' + '.join(counts)}")
     finally:
         reset = f"{database} RESET default_transaction_read_only"
         place.run("SET default_transaction_read_only = off", reset)
     if left != "0":
         raise Failed("publication or slot are left")
+
+
 def idle_while_copied(place: Place) -> None:
     """A copy that takes longer than the server leaves an idle slot keeps its slot."""
     place.own_server({"idle_replication_slot_timeout": "6s"})

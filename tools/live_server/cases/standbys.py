@@ -1,4 +1,5 @@
-"""Several servers of one cluster: a standby that is followed, a primary that is away for a moment, slots that outlive a primary."""
+"""Several servers of one cluster: a standby that is followed, a primary that is away for a moment,
+slots that outlive a primary."""
 
 from __future__ import annotations
 
@@ -28,7 +29,8 @@ def standby_of(place: Place, primary: Cluster, **settings: str) -> Standby:
 
 @contextmanager
 def running_transactions(primary: Cluster) -> Iterator[None]:
-    """Has the primary log its running transactions again and again, which a slot at a standby waits for."""
+    """Has the primary log its running transactions again and again, which a slot at a standby waits
+    for."""
     ended = threading.Event()
 
     def log() -> None:
@@ -50,12 +52,19 @@ def standby(place: Place) -> None:
     place.stock()
     second = standby_of(place, primary)
     with running_transactions(primary):
-        child = place.start("--create", "--status-file", str(place.folder / "status"), dsn=second.dsn())
+        child = place.start(
+            "--create", "--status-file", str(place.folder / "status"), dsn=second.dsn()
+        )
         for _ in range(2):
             place.change()
             end = primary.log_end()
             place.run("SELECT pg_logical_emit_message(true, 'live', 'end')")
-            wait_until(partial(is_confirmed, second, place.slot, end), f"confirming {end}", 120, child.check)
+            wait_until(
+                partial(is_confirmed, second, place.slot, end),
+                f"confirming {end}",
+                120,
+                child.check,
+            )
             # (the status thread looks at the log's end each five seconds)
             time.sleep(6)
         child.stop()
@@ -66,11 +75,15 @@ def standby(place: Place) -> None:
 
 
 def hosts(place: Place) -> None:
-    """Waits for a restarted primary where the connection string names its standby too, and goes on."""
+    """Waits for a restarted primary where the connection string names its standby too, and goes
+    on."""
     primary = place.own_server()
     place.stock()
     second = standby_of(place, primary)
-    child = place.start("--create", dsn=primary.dsn().replace(str(primary.folder), f"{primary.folder},{second.folder}"))
+    child = place.start(
+        "--create",
+        dsn=primary.dsn().replace(str(primary.folder), f"{primary.folder},{second.folder}"),
+    )
     child.wait_for("following slot")
     place.catch_up(child)
     primary.stop("immediate")
@@ -85,11 +98,15 @@ def hosts(place: Place) -> None:
 
 
 def is_failover(cluster: Cluster, slot: str) -> bool:
-    return cluster.value(f"SELECT failover FROM pg_replication_slots WHERE slot_name = '{slot}'") == "t"
+    return (
+        cluster.value(f"SELECT failover FROM pg_replication_slots WHERE slot_name = '{slot}'")
+        == "t"
+    )
 
 
 def failover(place: Place) -> None:
-    """Makes a failover slot, is held back while the standby is away, and goes on at the standby once it is promoted."""
+    """Makes a failover slot, is held back while the standby is away, and goes on at the standby
+    once it is promoted."""
     primary = place.own_server()
     place.stock()
     second = standby_of(place, primary)
@@ -120,11 +137,17 @@ def failover(place: Place) -> None:
 
 
 def failover_too_early(place: Place) -> None:
-    """Ends at a promoted standby that lacks a commit which the copy has, although it has the slot."""
+    """Ends at a promoted standby that lacks a commit which the copy has, although it has the
+    slot."""
     primary = place.own_server()
-    place.run("CREATE TABLE stock (sku int PRIMARY KEY, quantity int)", "CREATE PUBLICATION pgsub FOR TABLE stock")
+    place.run(
+        "CREATE TABLE stock (sku int PRIMARY KEY, quantity int)",
+        "CREATE PUBLICATION pgsub FOR TABLE stock",
+    )
     second = standby_of(place, primary)
-    place.run(f"SELECT pg_create_logical_replication_slot('{place.slot}', 'pgoutput', failover => true)")
+    place.run(
+        f"SELECT pg_create_logical_replication_slot('{place.slot}', 'pgoutput', failover => true)"
+    )
     place.change()
     child = place.start("--no-copy")
     place.catch_up(child)

@@ -1,4 +1,5 @@
-"""What a start does in situations that a store, its slot and their server can be in: goes on, begins anew, or rejects."""
+"""What a start does in situations that a store, its slot and their server can be in: goes on,
+begins anew, or rejects."""
 
 from __future__ import annotations
 
@@ -97,7 +98,7 @@ def torn_checkpoint(place: Place) -> None:
     """Rejects a checkpoint that another program wrote."""
     place.stock()
     place.follow("--create")
-    place.beside(".connector").write_bytes(b"{\"phase\": ")
+    place.beside(".connector").write_bytes(b'{"phase": ')
     place.ends(FILE, "not a checkpoint")
 
 
@@ -128,7 +129,10 @@ def signals(place: Place) -> None:
             child = place.start(*words)
             wait_until(lambda: place.value(waiting) == "1", "making a slot", 60, child.check)
             child.stop(signal.SIGINT, within=5)
-            wait_until(lambda: place.value("SELECT count(*) FROM pg_replication_slots") == "0", "dropping the slot")
+            wait_until(
+                lambda: place.value("SELECT count(*) FROM pg_replication_slots") == "0",
+                "dropping the slot",
+            )
     place.follow("--create")
     place.equal()
 
@@ -162,7 +166,8 @@ def odd_names(place: Place) -> None:
 
 
 def store_gone(place: Place) -> None:
-    """Rejects where the store is gone, and begins anew where its slot and checkpoint are gone too."""
+    """Rejects where the store is gone, and begins anew where its slot and checkpoint are gone
+    too."""
     place.stock()
     place.ends(UNFIT, "there is no store")
     place.follow("--create")
@@ -201,16 +206,21 @@ def others(place: Place) -> None:
 
 
 def not_there(place: Place) -> None:
-    """Ends where the server isn't there at the start, where it has no such database, and at a usage error."""
+    """Ends where the server isn't there at the start, where it has no such database, and at a usage
+    error."""
     place.ends(PASSING, "No such file", "--create", dsn="host=/nowhere dbname=shop")
     place.ends(SERVER, "does not exist", "--create", dsn=place.cluster.dsn("nothing"))
     place.ends(USAGE, "--table needs --create", "--table", "stock")
 
 
 def rejected(place: Place) -> None:
-    """Ends where the stream is rejected, at each start, until the slot is moved and the gap accepted."""
+    """Ends where the stream is rejected, at each start, until the slot is moved and the gap
+    accepted."""
     place.stock()
-    place.run("CREATE TABLE large (id int PRIMARY KEY, word text)", "ALTER PUBLICATION pgsub ADD TABLE large")
+    place.run(
+        "CREATE TABLE large (id int PRIMARY KEY, word text)",
+        "ALTER PUBLICATION pgsub ADD TABLE large",
+    )
     place.follow("--create")
     place.run("ALTER TABLE large ALTER word SET STORAGE EXTERNAL", many(1, 20))
     after = place.cluster.log_end()
@@ -232,7 +242,10 @@ def many(first: int, count: int) -> str:
 
 def open_transactions(place: Place) -> None:
     """Takes transactions whole where they are too much to be open at a time."""
-    place.run("CREATE TABLE large (id int PRIMARY KEY, word text)", "ALTER TABLE large ALTER word SET STORAGE EXTERNAL")
+    place.run(
+        "CREATE TABLE large (id int PRIMARY KEY, word text)",
+        "ALTER TABLE large ALTER word SET STORAGE EXTERNAL",
+    )
     place.run("CREATE PUBLICATION pgsub FOR TABLE large")
     place.follow("--create")
     with place.cluster.connect() as first, place.cluster.connect() as second:
@@ -275,7 +288,11 @@ def without_copy(place: Place) -> None:
 def cut_copy(name: str, after: bool, place: Place) -> None:
     """Begins anew or goes on after a copy that was cut off there."""
     place.stock()
-    place.run("CREATE TABLE other (id int PRIMARY KEY)", "INSERT INTO other VALUES (1), (2)", "ALTER PUBLICATION pgsub ADD TABLE other")
+    place.run(
+        "CREATE TABLE other (id int PRIMARY KEY)",
+        "INSERT INTO other VALUES (1), (2)",
+        "ALTER PUBLICATION pgsub ADD TABLE other",
+    )
     killed_at(place, name, after)
     place.change()
     place.run("DELETE FROM other WHERE id = 1", "INSERT INTO other VALUES (3)")

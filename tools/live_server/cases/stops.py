@@ -18,12 +18,16 @@ from .case import Case
 
 
 def rejected_commit(place: Place) -> None:
-    """A commit that is rejected is told with its transaction, LSN and tables; --skip passes over exactly that one."""
+    """A commit that is rejected is told with its transaction, LSN and tables; --skip passes over
+    exactly that one."""
     place.stock(published=False)
     place.run("CREATE TABLE other (id int PRIMARY KEY)")
     place.run("CREATE PUBLICATION pgsub FOR TABLE stock, other WITH (publish = 'insert')")
     place.follow("--create")
-    place.run("DELETE FROM stock WHERE sku = 1", "BEGIN; INSERT INTO other VALUES (1); INSERT INTO stock VALUES (1, 7); COMMIT")
+    place.run(
+        "DELETE FROM stock WHERE sku = 1",
+        "BEGIN; INSERT INTO other VALUES (1); INSERT INTO stock VALUES (1, 7); COMMIT",
+    )
     place.run("INSERT INTO other VALUES (2)")
     said = place.ends(REJECTED, "pgsub: store 1 Clash")
     told = re.search(r"rejected: transaction \d+, final LSN ([0-9A-F/]+), (.*)", said)
@@ -32,7 +36,10 @@ def rejected_commit(place: Place) -> None:
     place.ends(REJECTED, told[1])
     if f"final LSN {told[1]}" not in place.follow("--skip", told[1]):
         raise Failed("it doesn't tell what was skipped")
-    if place.rows()["public", "other"] != {("2",): 1} or ("1", "5") not in place.rows()["public", "stock"]:
+    if (
+        place.rows()["public", "other"] != {("2",): 1}
+        or ("1", "5") not in place.rows()["public", "stock"]
+    ):
         raise Failed(f"it skipped another one: {place.rows()}")
     if place.checkpoint()["skipped"] != told[1]:
         raise Failed(f"the checkpoint has {place.checkpoint()}")
@@ -41,7 +48,10 @@ def rejected_commit(place: Place) -> None:
 
 def large_transaction(place: Place) -> None:
     """A transaction above 64 MiB is followed, and a row above 16 MiB."""
-    place.run("CREATE TABLE large (id int PRIMARY KEY, word text)", "ALTER TABLE large ALTER word SET STORAGE EXTERNAL")
+    place.run(
+        "CREATE TABLE large (id int PRIMARY KEY, word text)",
+        "ALTER TABLE large ALTER word SET STORAGE EXTERNAL",
+    )
     place.run("CREATE PUBLICATION pgsub FOR TABLE large")
     place.follow("--create")
     place.run("INSERT INTO large SELECT it, repeat('y', 1000000) FROM generate_series(1, 70) it")
@@ -52,7 +62,10 @@ def large_transaction(place: Place) -> None:
 
 def long_row(place: Place) -> None:
     """A row of 100 MB takes at most three times its length in the connector."""
-    place.run("CREATE TABLE large (id int PRIMARY KEY, word text)", "ALTER TABLE large ALTER word SET STORAGE EXTERNAL")
+    place.run(
+        "CREATE TABLE large (id int PRIMARY KEY, word text)",
+        "ALTER TABLE large ALTER word SET STORAGE EXTERNAL",
+    )
     place.run("CREATE PUBLICATION pgsub FOR TABLE large")
     child = place.start("--create")
     place.catch_up(child)
@@ -111,7 +124,8 @@ def not_built(place: Place) -> None:
 
 
 def heard_in_catalog(place: Place) -> None:
-    """SIGTERM is heard while making the publication waits for a lock, and no publication is made afterwards."""
+    """SIGTERM is heard while making the publication waits for a lock, and no publication is made
+    afterwards."""
     place.stock(published=False)
     with place.cluster.connect() as writer:
         writer.run("BEGIN", "LOCK TABLE stock IN ACCESS EXCLUSIVE MODE")
@@ -148,10 +162,16 @@ def heard_while_connecting(place: Place) -> None:
 
 
 def filter_killed(place: Place) -> None:
-    """A filter that is killed twice in the same transaction ends the following, and its size is told."""
-    place.run("CREATE TABLE large (id int PRIMARY KEY, word text)", "CREATE PUBLICATION pgsub FOR TABLE large")
+    """A filter that is killed twice in the same transaction ends the following, and its size is
+    told."""
+    place.run(
+        "CREATE TABLE large (id int PRIMARY KEY, word text)",
+        "CREATE PUBLICATION pgsub FOR TABLE large",
+    )
     place.follow("--create")
-    place.run("BEGIN; INSERT INTO large SELECT it, repeat('y', 1000) FROM generate_series(1, 20000) it; COMMIT")
+    place.run(
+        "BEGIN; INSERT INTO large SELECT it, repeat('y', 1000) FROM generate_series(1, 20000) it; COMMIT"
+    )
     proxy = place.proxy()
     proxy.limit = 4_000_000
     child = place.start("--proto", "1", dsn=place.dsn(proxy.folder))
@@ -171,12 +191,21 @@ def disk_full(place: Place) -> None:
     """A disk that is full passes: it goes on once there is room."""
     folder = place.small_disk(16)
     place.store, filler = folder / "copy.db", folder / "filler"
-    place.run("CREATE TABLE more (id int PRIMARY KEY, word text)", "CREATE PUBLICATION pgsub FOR TABLE more")
+    place.run(
+        "CREATE TABLE more (id int PRIMARY KEY, word text)",
+        "CREATE PUBLICATION pgsub FOR TABLE more",
+    )
     place.follow("--create")
     fill(filler)
     place.run("INSERT INTO more SELECT it, repeat('y', 1000) FROM generate_series(1, 200) it")
     child = place.start()
-    wait_until(lambda: not child.is_running() or "tried again" in child.said() or "started again" in child.said(), "failing", 30)
+    wait_until(
+        lambda: not child.is_running()
+        or "tried again" in child.said()
+        or "started again" in child.said(),
+        "failing",
+        30,
+    )
     filler.unlink()
     if "store 8 Refused" in child.said() and "pgsub: the disk is full" not in child.said():
         raise Failed(f"it doesn't tell that the disk is full: {child.said()}")

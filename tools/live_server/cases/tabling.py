@@ -1,4 +1,5 @@
-"""Tables of SQLite that follow a feed: tables that are altered or set aside, repairs, and readers of another account."""
+"""Tables of SQLite that follow a feed: tables that are altered or set aside, repairs, and readers
+of another account."""
 
 from __future__ import annotations
 
@@ -16,43 +17,79 @@ from ..place import Place
 from .case import Case
 from .common import PLANTED, TABLES, now_in_tables, plant, rows_file, verify
 
-STOCK = "CREATE TABLE stock (sku int PRIMARY KEY, quantity int, note text)", "INSERT INTO stock VALUES (1, 5, 'a'), (2, 0, NULL)"
+STOCK = (
+    "CREATE TABLE stock (sku int PRIMARY KEY, quantity int, note text)",
+    "INSERT INTO stock VALUES (1, 5, 'a'), (2, 0, NULL)",
+)
 # What is done to a table, step by step: the rows are equal after each.
 STEPS: dict[str, Tuple[str, ...]] = {
     "a column more": ("ALTER TABLE stock ADD price numeric(10, 2)", "UPDATE stock SET price = sku"),
-    "a column less": ("ALTER TABLE stock DROP note", "UPDATE stock SET quantity = quantity + 1 WHERE sku = 1"),
-    "one that was there again": ("ALTER TABLE stock ADD note text", "UPDATE stock SET note = 'again'"),
-    "another name of a column": ("ALTER TABLE stock RENAME quantity TO \"Quantity, of it\"", "UPDATE stock SET \"Quantity, of it\" = 3"),
-    "another type": ("ALTER TABLE stock ALTER \"Quantity, of it\" TYPE text", "INSERT INTO stock VALUES (3, 'three')"),
+    "a column less": (
+        "ALTER TABLE stock DROP note",
+        "UPDATE stock SET quantity = quantity + 1 WHERE sku = 1",
+    ),
+    "one that was there again": (
+        "ALTER TABLE stock ADD note text",
+        "UPDATE stock SET note = 'again'",
+    ),
+    "another name of a column": (
+        'ALTER TABLE stock RENAME quantity TO "Quantity, of it"',
+        'UPDATE stock SET "Quantity, of it" = 3',
+    ),
+    "another type": (
+        'ALTER TABLE stock ALTER "Quantity, of it" TYPE text',
+        "INSERT INTO stock VALUES (3, 'three')",
+    ),
     "and one of numbers": (
-        "DELETE FROM stock WHERE sku = 3", "ALTER TABLE stock ALTER \"Quantity, of it\" TYPE float8 USING 3", "INSERT INTO stock VALUES (3, '-0')",
+        "DELETE FROM stock WHERE sku = 3",
+        'ALTER TABLE stock ALTER "Quantity, of it" TYPE float8 USING 3',
+        "INSERT INTO stock VALUES (3, '-0')",
     ),
     "another key": (
-        "UPDATE stock SET note = sku", "ALTER TABLE stock DROP CONSTRAINT stock_pkey, ADD PRIMARY KEY (note)",
+        "UPDATE stock SET note = sku",
+        "ALTER TABLE stock DROP CONSTRAINT stock_pkey, ADD PRIMARY KEY (note)",
         "UPDATE stock SET note = note || 'x' WHERE sku < 3",
     ),
     "no key": (
-        "ALTER TABLE stock REPLICA IDENTITY FULL", "INSERT INTO stock SELECT 7, 7, 7, 'seven' || it FROM generate_series(1, 2) it",
+        "ALTER TABLE stock REPLICA IDENTITY FULL",
+        "INSERT INTO stock SELECT 7, 7, 7, 'seven' || it FROM generate_series(1, 2) it",
         "DELETE FROM stock WHERE note = 'seven1'",
     ),
     "a key again": ("ALTER TABLE stock REPLICA IDENTITY DEFAULT", "UPDATE stock SET price = 0"),
-    "another name": ("ALTER TABLE stock RENAME TO \"Stock\"", "UPDATE \"Stock\" SET price = 1 WHERE sku = 1"),
-    "another schema": ("CREATE SCHEMA s", "ALTER TABLE \"Stock\" SET SCHEMA s", "UPDATE s.\"Stock\" SET price = 2 WHERE sku = 1"),
-    "another table with the first name": ("CREATE TABLE stock (a text CONSTRAINT third_pkey PRIMARY KEY)", "INSERT INTO stock VALUES ('new')"),
+    "another name": (
+        'ALTER TABLE stock RENAME TO "Stock"',
+        'UPDATE "Stock" SET price = 1 WHERE sku = 1',
+    ),
+    "another schema": (
+        "CREATE SCHEMA s",
+        'ALTER TABLE "Stock" SET SCHEMA s',
+        'UPDATE s."Stock" SET price = 2 WHERE sku = 1',
+    ),
+    "another table with the first name": (
+        "CREATE TABLE stock (a text CONSTRAINT third_pkey PRIMARY KEY)",
+        "INSERT INTO stock VALUES ('new')",
+    ),
     "names that change places": (
-        "ALTER TABLE stock RENAME TO third", "ALTER TABLE s.\"Stock\" SET SCHEMA public", "ALTER TABLE \"Stock\" RENAME TO stock",
-        "INSERT INTO third VALUES ('x')", "UPDATE stock SET price = 3",
+        "ALTER TABLE stock RENAME TO third",
+        'ALTER TABLE s."Stock" SET SCHEMA public',
+        'ALTER TABLE "Stock" RENAME TO stock',
+        "INSERT INTO third VALUES ('x')",
+        "UPDATE stock SET price = 3",
     ),
     "a truncation": ("TRUNCATE stock, third", "INSERT INTO third VALUES ('after')"),
     "a table that is made anew": ("DROP TABLE stock", *STOCK, "DELETE FROM stock WHERE sku = 1"),
     "a table without columns": (
-        "CREATE TABLE bare ()", "ALTER TABLE bare REPLICA IDENTITY FULL", "INSERT INTO bare DEFAULT VALUES", "DELETE FROM bare",
+        "CREATE TABLE bare ()",
+        "ALTER TABLE bare REPLICA IDENTITY FULL",
+        "INSERT INTO bare DEFAULT VALUES",
+        "DELETE FROM bare",
     ),
 }
 
 
 def shapes(place: Place) -> None:
-    """Tables that are altered, renamed, dropped and made anew have the server's rows after each step."""
+    """Tables that are altered, renamed, dropped and made anew have the server's rows after each
+    step."""
     place.run(*STOCK, "CREATE PUBLICATION pgsub FOR ALL TABLES")
     child = place.start("--create", "--tables", str(rows_file(place)))
     place.catch_up(child)
@@ -72,7 +109,12 @@ def read_as(place: Place, query: str) -> str:
     other, group = pwd.getpwnam("nobody").pw_uid, rows_file(place).stat().st_gid
     words = ["sqlite3", "-readonly", "-cmd", ".timeout 5000", str(rows_file(place)), query]
     done = subprocess.run(
-        words, user=other, group=group, extra_groups=[], capture_output=True, text=True,
+        words,
+        user=other,
+        group=group,
+        extra_groups=[],
+        capture_output=True,
+        text=True,
         check=False,
     )
     return done.stdout + done.stderr
@@ -85,7 +127,8 @@ def kill_tables(child: Child) -> None:
 
 
 def other_account(place: Place) -> None:
-    """With --mode 640, an account of the file's group reads the tables while they follow, after a kill, and after the end; no other does."""
+    """With --mode 640, an account of the file's group reads the tables while they follow, after a
+    kill, and after the end; no other does."""
     place.stock()
     place.folder.chmod(0o711)
     child = place.start("--create", "--tables", str(rows_file(place)), "--mode", "640")
@@ -106,7 +149,9 @@ def other_account(place: Place) -> None:
     place.catch_up(child)
     now_in_tables(place)
     child.stop()
-    if (found := read_as(place, query)) != "8,3\n" or rows_file(place).with_name("rows.db-wal").exists():
+    if (found := read_as(place, query)) != "8,3\n" or rows_file(place).with_name(
+        "rows.db-wal"
+    ).exists():
         raise Failed(f"after the end another account reads {found}")
     rows_file(place).chmod(0o600)
     if "unable to open" not in (found := read_as(place, query)):
@@ -137,19 +182,26 @@ def check_equal(place: Place) -> None:
 
 
 def check_aside(place: Place, child: Child, why: str) -> None:
-    """The table `t` isn't there, and is named everywhere; the others and the reader of the feed go on."""
+    """The table `t` isn't there, and is named everywhere; the others and the reader of the feed go
+    on."""
     place.run("UPDATE other SET v = v + 1")
     now_in_tables(place)
     with reading(rows_file(place)) as base:
-        if (found := base.execute("SELECT schema, \"table\" FROM pgsub_aside").fetchall()) != [("public", "t")]:
+        if (found := base.execute('SELECT schema, "table" FROM pgsub_aside').fetchall()) != [
+            ("public", "t")
+        ]:
             raise Failed(f"set aside are {found}")
         if base.execute("SELECT count(*) FROM sqlite_schema WHERE name = 't'").fetchone() != (0,):
             raise Failed("rows that aren't right can be read")
-        if base.execute("SELECT v FROM other").fetchone() != (int(place.value("SELECT v FROM other")),):
+        if base.execute("SELECT v FROM other").fetchone() != (
+            int(place.value("SELECT v FROM other")),
+        ):
             raise Failed("the others don't go on")
     wait_until(lambda: why in asides(place).get("public.t", ""), f"showing {why}", 20, child.check)
     check_status(place, 1, "public.t")
-    said = place.subcommand("verify", "--dsn", place.dsn(), "--tables", str(rows_file(place)), status=1)
+    said = place.subcommand(
+        "verify", "--dsn", place.dsn(), "--tables", str(rows_file(place)), status=1
+    )
     if "public.t is set aside" not in said or "--table public.t" not in said:
         raise Failed(said)
     before = reader_of(place)
@@ -159,23 +211,41 @@ def check_aside(place: Place, child: Child, why: str) -> None:
 
 
 def set_aside(place: Place) -> None:
-    """One table whose rows nobody sends any more is set aside, the others go on, also after a restart, and it comes again by `add`."""
+    """One table whose rows nobody sends any more is set aside, the others go on, also after a
+    restart, and it comes again by `add`."""
     place.run(
-        "CREATE TABLE t (id int PRIMARY KEY, v text)", "INSERT INTO t SELECT it, repeat('x', it) FROM generate_series(1, 9) it",
-        "CREATE TABLE other (id int PRIMARY KEY, v int)", "INSERT INTO other VALUES (1, 1)", "CREATE TABLE bare ()",
-        "ALTER TABLE bare REPLICA IDENTITY FULL", "INSERT INTO bare DEFAULT VALUES", "INSERT INTO bare DEFAULT VALUES",
-        "CREATE TABLE pgsub_position (id int PRIMARY KEY)", "INSERT INTO pgsub_position VALUES (7)", "CREATE PUBLICATION pgsub FOR ALL TABLES",
+        "CREATE TABLE t (id int PRIMARY KEY, v text)",
+        "INSERT INTO t SELECT it, repeat('x', it) FROM generate_series(1, 9) it",
+        "CREATE TABLE other (id int PRIMARY KEY, v int)",
+        "INSERT INTO other VALUES (1, 1)",
+        "CREATE TABLE bare ()",
+        "ALTER TABLE bare REPLICA IDENTITY FULL",
+        "INSERT INTO bare DEFAULT VALUES",
+        "INSERT INTO bare DEFAULT VALUES",
+        "CREATE TABLE pgsub_position (id int PRIMARY KEY)",
+        "INSERT INTO pgsub_position VALUES (7)",
+        "CREATE PUBLICATION pgsub FOR ALL TABLES",
     )
     words = ("--tables", str(rows_file(place)), "--status-file", str(place.folder / "status"))
     child = place.start("--create", *words)
     place.catch_up(child)
     wait_until(rows_file(place).exists, "making the tables", check=child.check)
-    place.run("CREATE TABLE \"T\" (id int PRIMARY KEY)", "INSERT INTO \"T\" VALUES (1)", "INSERT INTO t VALUES (10, 'x')")
+    place.run(
+        'CREATE TABLE "T" (id int PRIMARY KEY)',
+        'INSERT INTO "T" VALUES (1)',
+        "INSERT INTO t VALUES (10, 'x')",
+    )
     # (a table without columns that has rows, and gets one)
-    place.run("ALTER TABLE bare ADD COLUMN a int", "DELETE FROM bare WHERE ctid = '(0,1)'", "INSERT INTO bare VALUES (7)")
+    place.run(
+        "ALTER TABLE bare ADD COLUMN a int",
+        "DELETE FROM bare WHERE ctid = '(0,1)'",
+        "INSERT INTO bare VALUES (7)",
+    )
     check_equal(place)
     check_status(place, 0, "ok")
-    place.run("ALTER TABLE t ALTER COLUMN v TYPE int USING length(v)", "INSERT INTO t VALUES (11, 5)")
+    place.run(
+        "ALTER TABLE t ALTER COLUMN v TYPE int USING length(v)", "INSERT INTO t VALUES (11, 5)"
+    )
     check_aside(place, child, "the column v has a value that isn't one of its type")
     place.run("UPDATE t SET v = v + 1", "DELETE FROM t WHERE id = 3")
     child.stop()
@@ -191,9 +261,16 @@ def set_aside(place: Place) -> None:
 
 
 def repaired(place: Place) -> None:
-    """A repair of what somebody changed in the store leaves tables that never had it as they are right."""
+    """A repair of what somebody changed in the store leaves tables that never had it as they are
+    right."""
     place.run(*TABLES)
-    words = ("--tables", str(rows_file(place)), "--digests", "--status-file", str(place.folder / "status"))
+    words = (
+        "--tables",
+        str(rows_file(place)),
+        "--digests",
+        "--status-file",
+        str(place.folder / "status"),
+    )
     child = place.start("--create", *words)
     place.catch_up(child)
     wait_until(rows_file(place).exists, "making the tables", check=child.check)
@@ -206,14 +283,19 @@ def repaired(place: Place) -> None:
         child = place.start(*words)
         child.wait_for("following slot")
         verify(place, "--repair")
-        place.run("UPDATE stock SET note = note || '.' WHERE sku < 20", "INSERT INTO log VALUES ('line 3', NULL)")
+        place.run(
+            "UPDATE stock SET note = note || '.' WHERE sku < 20",
+            "INSERT INTO log VALUES ('line 3', NULL)",
+        )
         try:
             check_equal(place)
         except Failed as failed:
             raise Failed(f"{name}: {failed}") from None
         if found := asides(place):
             raise Failed(f"{name}: set aside are {found}")
-        place.subcommand("verify", "--dsn", place.dsn(), "--tables", str(rows_file(place)), "--digests")
+        place.subcommand(
+            "verify", "--dsn", place.dsn(), "--tables", str(rows_file(place)), "--digests"
+        )
     child.stop()
     place.equal()
 

@@ -90,7 +90,8 @@ def check(place: Place, it: Scenario) -> None:
 def publish(place: Place, scenarios: Sequence[Scenario]) -> None:
     listed = ", ".join(
         f"{name}{f' ({it.columns})' if it.columns and name == it.table else ''}"
-        for it in scenarios for name in it.tables()
+        for it in scenarios
+        for name in it.tables()
     )
     generated = place.options.installed.version >= GENERATED
     more = " WITH (publish_generated_columns = stored)" if generated else ""

@@ -9,7 +9,8 @@ from .case import Case
 
 
 def promoted(place: Place, older: Cluster) -> None:
-    """Goes on with a copy of the server's files, promoted, whose log has grown past that of the server."""
+    """Goes on with a copy of the server's files, promoted, whose log has grown past that of the
+    server."""
     older.promote()
     place.cluster = older
     for _ in range(3):
@@ -18,7 +19,8 @@ def promoted(place: Place, older: Cluster) -> None:
 
 
 def lacks_changes(place: Place) -> None:
-    """A promoted server that lacks changes of the store ends the following, at each start, until somebody accepts it.
+    """A promoted server that lacks changes of the store ends the following, at each start, until
+    somebody accepts it.
 
     Where rows differ, its changes may find none then, and that is told.
     """
@@ -47,7 +49,8 @@ def lacks_changes(place: Place) -> None:
 
 
 def ends_before(place: Place) -> None:
-    """A promoted server that has all changes is followed, though its log ends before what a keepalive has confirmed."""
+    """A promoted server that has all changes is followed, though its log ends before what a
+    keepalive has confirmed."""
     server = place.own_server()
     place.stock()
     place.run("CREATE TABLE unpublished (word text)")
@@ -56,7 +59,8 @@ def ends_before(place: Place) -> None:
     older = place.copy_of(server)
     server.start()
     for _ in range(3):
-        # (a large transaction would be streamed, and its commit be one of the store's, though it is empty)
+        # (a large transaction would be streamed, and its commit be one of the store's, though it is
+        # empty)
         place.run("INSERT INTO unpublished VALUES ('x')", "SELECT pg_switch_wal()")
     place.follow()
     server.stop()
@@ -87,7 +91,8 @@ def has_all_changes(place: Place) -> None:
 
 
 def older_timeline(place: Place) -> None:
-    """So does the server of before a promotion, where it comes back beside the one that was promoted."""
+    """So does the server of before a promotion, where it comes back beside the one that was
+    promoted."""
     server = place.own_server()
     place.stock()
     place.follow("--create")

@@ -1,4 +1,5 @@
-"""`verify`: equal copies under load, differences that are planted into a store, and how it ends where something is in the way."""
+"""`verify`: equal copies under load, differences that are planted into a store, and how it ends
+where something is in the way."""
 
 from __future__ import annotations
 
@@ -14,7 +15,18 @@ from ..errors import Failed
 from ..follower import wait_until
 from ..place import NO_SLOT, OK, PASSING, SERVER, Place
 from .case import Case
-from .common import PLANTED, TABLES, changing, check_slots, moving, plant, spelled, verified, verify, verify_words
+from .common import (
+    PLANTED,
+    TABLES,
+    changing,
+    check_slots,
+    moving,
+    plant,
+    spelled,
+    verified,
+    verify,
+    verify_words,
+)
 
 DIFFERENT = 1
 
@@ -31,7 +43,8 @@ def check_tidy(place: Place) -> None:
 
 
 def equal_under_moves(place: Place) -> None:
-    """Is equal at five moments while moves between accounts are followed, of which some are streamed."""
+    """Is equal at five moments while moves between accounts are followed, of which some are
+    streamed."""
     with moving(place) as child:
         for _ in range(5):
             time.sleep(0.5)
@@ -44,7 +57,8 @@ def equal_under_moves(place: Place) -> None:
 
 
 def equal_under_all(place: Place) -> None:
-    """Is equal at five moments while changes of every kind are followed, TRUNCATEs and rolled-back subtransactions among them."""
+    """Is equal at five moments while changes of every kind are followed, TRUNCATEs and rolled-back
+    subtransactions among them."""
     with changing(place, "verify") as child:
         for _ in range(5):
             time.sleep(1.0)
@@ -57,9 +71,12 @@ def equal_under_all(place: Place) -> None:
 
 
 def loads(place: Place) -> None:
-    """A table that loads truncate again and again is compared, or named; the others are compared each time."""
+    """A table that loads truncate again and again is compared, or named; the others are compared
+    each time."""
     place.stock()
-    place.run("CREATE TABLE staging (id int PRIMARY KEY)", "ALTER PUBLICATION pgsub ADD TABLE staging")
+    place.run(
+        "CREATE TABLE staging (id int PRIMARY KEY)", "ALTER PUBLICATION pgsub ADD TABLE staging"
+    )
     child = place.start("--create")
     place.catch_up(child)
     load = "TRUNCATE staging", "INSERT INTO staging SELECT generate_series(1, 500)"
@@ -85,9 +102,18 @@ def loads(place: Place) -> None:
             verifier = place.started(verify_words(place, "--hold", "30"))
             statuses.add(status := verifier.end())
             said = verifier.said()
-            if status not in (OK, PASSING) or "2 rows" not in said and "502 rows" not in said or "differ" in said:
+            if (
+                status not in (OK, PASSING)
+                or "2 rows" not in said
+                and "502 rows" not in said
+                or "differ" in said
+            ):
                 raise Failed(f"status {status}: {said}")
-            if status == PASSING and "not compared: public.staging was truncated or written anew meanwhile" not in said:
+            if (
+                status == PASSING
+                and "not compared: public.staging was truncated or written anew meanwhile"
+                not in said
+            ):
                 raise Failed(said)
     finally:
         ended.set()
@@ -122,29 +148,40 @@ def planted(place: Place) -> None:
 
 
 def published_part(place: Place) -> None:
-    """Compares what is published: lists of columns, row filters, partitions under the root's name, two publications of a table."""
+    """Compares what is published: lists of columns, row filters, partitions under the root's name,
+    two publications of a table."""
     place.run(
-        "CREATE TABLE listed (id int PRIMARY KEY, secret text, word char(9))", "CREATE TABLE filtered (id int PRIMARY KEY, n int)",
+        "CREATE TABLE listed (id int PRIMARY KEY, secret text, word char(9))",
+        "CREATE TABLE filtered (id int PRIMARY KEY, n int)",
         "CREATE TABLE parted (id int PRIMARY KEY, word text) PARTITION BY RANGE (id)",
         "CREATE TABLE low PARTITION OF parted FOR VALUES FROM (MINVALUE) TO (100)",
         "CREATE TABLE high PARTITION OF parted FOR VALUES FROM (100) TO (MAXVALUE)",
         "CREATE TABLE computed (id int PRIMARY KEY, twice int GENERATED ALWAYS AS (2 * id) STORED, word text)",
-        "CREATE TABLE bare ()", "ALTER TABLE bare REPLICA IDENTITY FULL",
+        "CREATE TABLE bare ()",
+        "ALTER TABLE bare REPLICA IDENTITY FULL",
         "CREATE PUBLICATION pgsub FOR TABLE listed (id, word), filtered WHERE (id < 50), parted, computed, bare WITH (publish_via_partition_root)",
         "CREATE PUBLICATION second FOR TABLE filtered WHERE (id > 70)",
     )
     rows = (
         "INSERT INTO listed SELECT it, 'secret', it FROM generate_series({0}, {1}) it",
-        "INSERT INTO filtered SELECT it, it FROM generate_series({0}, {1}) it", "INSERT INTO parted SELECT it, 'w' FROM generate_series({0}, {1}) it",
-        "INSERT INTO computed (id, word) SELECT it, 'w' FROM generate_series({0}, {1}) it", "INSERT INTO bare DEFAULT VALUES",
+        "INSERT INTO filtered SELECT it, it FROM generate_series({0}, {1}) it",
+        "INSERT INTO parted SELECT it, 'w' FROM generate_series({0}, {1}) it",
+        "INSERT INTO computed (id, word) SELECT it, 'w' FROM generate_series({0}, {1}) it",
+        "INSERT INTO bare DEFAULT VALUES",
     )
     place.run(*(it.format(1, 60) for it in rows))
     child = place.start("--create", "--publication", "pgsub", "--publication", "second")
     place.catch_up(child)
-    place.run(*(it.format(61, 120) for it in rows), "UPDATE filtered SET n = 0", "DELETE FROM parted WHERE id IN (50, 110)")
+    place.run(
+        *(it.format(61, 120) for it in rows),
+        "UPDATE filtered SET n = 0",
+        "DELETE FROM parted WHERE id IN (50, 110)",
+    )
     verify(place)
     # (what isn't published is no difference)
-    place.run("UPDATE listed SET secret = 'other'", "UPDATE filtered SET n = 7 WHERE id BETWEEN 55 AND 65")
+    place.run(
+        "UPDATE listed SET secret = 'other'", "UPDATE filtered SET n = 7 WHERE id BETWEEN 55 AND 65"
+    )
     verify(place)
     child.stop()
 
@@ -153,7 +190,8 @@ def other_encoding(place: Place) -> None:
     """Compares the texts of a database that isn't in UTF-8."""
     place.own_server(encoding="LATIN1")
     place.run(
-        "CREATE TABLE t (id int PRIMARY KEY, word text)", "INSERT INTO t SELECT it, U&'gr\\00fc\\00df ' || it FROM generate_series(1, 1000) it",
+        "CREATE TABLE t (id int PRIMARY KEY, word text)",
+        "INSERT INTO t SELECT it, U&'gr\\00fc\\00df ' || it FROM generate_series(1, 1000) it",
         "CREATE PUBLICATION pgsub FOR ALL TABLES",
     )
     child = place.start("--create")
@@ -164,7 +202,9 @@ def other_encoding(place: Place) -> None:
     good = place.folder / "good.db"
     shutil.copyfile(place.store, good)
     with contextlib.closing(sqlite3.connect(place.store)) as base:
-        base.execute("UPDATE held SET body = ? WHERE ident = ?", (spelled(("3", "grüss 3")), spelled(("3",))))
+        base.execute(
+            "UPDATE held SET body = ? WHERE ident = ?", (spelled(("3", "grüss 3")), spelled(("3",)))
+        )
         base.commit()
     place.beside("-shm").unlink(missing_ok=True)
     child = place.start()
@@ -183,7 +223,12 @@ def altered(place: Place) -> None:
     place.catch_up(child)
     place.run("ALTER TABLE stock ADD COLUMN word text")
     found, said = verify(place, status=DIFFERENT)
-    if found != [{"table": "public.stock", "columns": {"server": ["sku", "quantity", "word"], "copy": ["sku", "quantity"]}}]:
+    if found != [
+        {
+            "table": "public.stock",
+            "columns": {"server": ["sku", "quantity", "word"], "copy": ["sku", "quantity"]},
+        }
+    ]:
         raise Failed(said)
     place.change()
     verify(place)
@@ -240,7 +285,10 @@ def no_slot(place: Place) -> None:
     with open_transaction(place):
         began = time.monotonic()
         _, said = verify(place, "--hold", "2", status=NO_SLOT)
-        if "the slot waits for the transaction of process" not in said or "the server made no slot in 2 seconds" not in said:
+        if (
+            "the slot waits for the transaction of process" not in said
+            or "the server made no slot in 2 seconds" not in said
+        ):
             raise Failed(said)
         if time.monotonic() - began > 15:
             raise Failed("it took too long to give up")
@@ -254,11 +302,17 @@ def no_slot(place: Place) -> None:
 
 def is_held(place: Place) -> bool:
     """Whether the stream is held: then the slot is made."""
-    return place.value("SELECT count(*) FROM pg_replication_slots WHERE starts_with(slot_name, 'pgsub_verify')") == "1"
+    return (
+        place.value(
+            "SELECT count(*) FROM pg_replication_slots WHERE starts_with(slot_name, 'pgsub_verify')"
+        )
+        == "1"
+    )
 
 
 def killed(place: Place) -> None:
-    """Killed while the stream is held, or while it compares: the follower goes on, and the server keeps no slot."""
+    """Killed while the stream is held, or while it compares: the follower goes on, and the server
+    keeps no slot."""
     place.stock()
     child = place.start("--create")
     place.catch_up(child)
@@ -290,7 +344,8 @@ def killed(place: Place) -> None:
 
 
 def follower_killed(place: Place) -> None:
-    """The follower is killed, or ends, while it holds the stream: the comparison ends, and a new follower goes on."""
+    """The follower is killed, or ends, while it holds the stream: the comparison ends, and a new
+    follower goes on."""
     place.stock()
     child = place.start("--create")
     place.catch_up(child)
@@ -321,7 +376,8 @@ def follower_killed(place: Place) -> None:
 
 
 def filter_killed(place: Place) -> None:
-    """The filter is killed under load while comparisons are made: each of these is equal, or says why there is none."""
+    """The filter is killed under load while comparisons are made: each of these is equal, or says
+    why there is none."""
     place.stock()
     child = place.start("--create")
     place.catch_up(child)
@@ -354,7 +410,8 @@ def filter_killed(place: Place) -> None:
 
 
 def synchronous(place: Place) -> None:
-    """Commits that wait for the follower go on while the slot is made, and don't keep it from that."""
+    """Commits that wait for the follower go on while the slot is made, and don't keep it from
+    that."""
     place.stock()
     child = place.start("--create")
     place.catch_up(child)

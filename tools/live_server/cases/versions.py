@@ -10,12 +10,18 @@ INSERT = "INSERT INTO stock SELECT it, 1 FROM generate_series({}, {}) it"
 
 
 def aborted(place: Place) -> None:
-    """Follows in version 1 a server that aborts a transaction which it never sent, as it does of one known to be rolled back."""
+    """Follows in version 1 a server that aborts a transaction which it never sent, as it does of
+    one known to be rolled back."""
     place.stock()
     place.follow("--create")
     with place.cluster.connect() as session:
         session.run(
-            "BEGIN", INSERT.format(10, 10), "SAVEPOINT s", INSERT.format(20, 40), "RELEASE s", INSERT.format(100, 5000),
+            "BEGIN",
+            INSERT.format(10, 10),
+            "SAVEPOINT s",
+            INSERT.format(20, 40),
+            "RELEASE s",
+            INSERT.format(100, 5000),
             "ROLLBACK",
         )
     place.change()
@@ -44,14 +50,17 @@ def version_1_alone(place: Place) -> None:
 
 
 def unsent_value(place: Place) -> None:
-    """Tells which commit is rejected where a row with a value that isn't sent enters a row filter; identity FULL is the cure."""
+    """Tells which commit is rejected where a row with a value that isn't sent enters a row filter;
+    identity FULL is the cure."""
     for name in ("wide", "cured"):
         place.run(
-            f"CREATE TABLE {name} (k int PRIMARY KEY, big text)", f"ALTER TABLE {name} ALTER big SET STORAGE EXTERNAL",
+            f"CREATE TABLE {name} (k int PRIMARY KEY, big text)",
+            f"ALTER TABLE {name} ALTER big SET STORAGE EXTERNAL",
             f"INSERT INTO {name} SELECT it, repeat('x', 9000) FROM generate_series(1, 12) it",
         )
     place.run(
-        "ALTER TABLE cured REPLICA IDENTITY FULL", "CREATE PUBLICATION cured FOR TABLE cured WHERE (k > 10)",
+        "ALTER TABLE cured REPLICA IDENTITY FULL",
+        "CREATE PUBLICATION cured FOR TABLE cured WHERE (k > 10)",
         "CREATE PUBLICATION pgsub FOR TABLE wide WHERE (k > 10)",
     )
     place.follow("--create", "--publication", "cured")
@@ -69,7 +78,8 @@ def unsent_value(place: Place) -> None:
 
 
 def prepared(place: Place) -> None:
-    """Tells within seconds which prepared transaction a copy waits for, of another database too, and goes on once it has ended."""
+    """Tells within seconds which prepared transaction a copy waits for, of another database too,
+    and goes on once it has ended."""
     place.own_server()
     place.stock()
     place.cluster.run("CREATE TABLE other (id int)", database="postgres")
