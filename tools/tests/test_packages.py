@@ -56,7 +56,7 @@ class Case(unittest.TestCase):
             subprocess.run(["dpkg", "--compare-versions", first, "lt", second], check=True)
 
     def test_the_version_of_the_program_is_that_of_the_connector(self) -> None:
-        connector, program = (TOP / "connect/pgsub_connect/__init__.py").read_text(), (
+        connector, program = (TOP / "connect/pgsub_feed/version.py").read_text(), (
             TOP / "crates/pgcommand/src/commands.rt"
         ).read_text()
         version = re.findall(r'^VERSION = "(.+)"$', connector, re.M)
