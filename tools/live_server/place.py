@@ -285,6 +285,9 @@ from pgsub_connect import cli
 from pgsub_connect.copy import copier
 real = {name}
 def last(*words, **more):
+    # (the socket gets its name within its folder)
+    if "src_dir_fd" in more:
+        return real(*words, **more)
     {before}
     os._exit(77)
 {name} = last
