@@ -19,6 +19,7 @@ from ..copy.slots import create_slot
 from ..drift.remembered import Remembered
 from ..drift.tolerance import Tolerance
 from ..errors import MISSED
+from ..follow.common import Common
 from ..follow.feed import Feeding
 from ..follow.follower import Follower
 from ..follow.request_socket import RequestSocket
@@ -283,7 +284,7 @@ def made(options: Options, check: Check) -> Parts:
     subscription, tolerance = options.subscription(), Tolerance(options.accept, options.strict)
     progress, remembered = Progress(notifier_of(os.environ)), Remembered(store, mode)
     settings = options.feed_settings(store, mode)
-    feeding = Feeding(settings, subscription, tolerance, checkpoint, progress, remembered)
+    feeding = Feeding(settings, Common(subscription, tolerance, checkpoint, progress, remembered))
     feeding.check()
     part, child = (make_filter(options, checkpoint, it) for it in (part_of(store), store))
     copier = Copier(options.copy_settings(), subscription, checkpoint, part, progress, remembered)
