@@ -40,12 +40,13 @@ from ..store.snapshot import part_of
 from ..stream.filter import Filter
 from .arguments import exit_status
 from .arguments.feed import FeedOptions, add_feed, check_feed
-from .arguments.files import check_files, use_mode
+from .arguments.files import check_files
 from .arguments.needs import check_needs
 from .arguments.publishing import CopyOptions, add_copying, check_creates, check_publishing
 from .arguments.recording import add_longest
-from .arguments.server import PLAINTEXT, ServerOptions, add_server, settled_server
+from .arguments.server import ServerOptions, add_server, settled_server
 from .arguments.sizes import SizeOptions, add_sizes, settled_sizes
+from .arguments.store import PLAINTEXT
 from .arguments.texts import each
 from .arguments.types import lsn_or_now, seconds
 from .arguments.watching import WatchOptions, add_watching
@@ -197,9 +198,7 @@ def settled(options: Options) -> Options:
     ]
     if not os.path.exists(options.store):
         told.append(("--store", part_of(options.store)))
-    options = settled_server(options, options.store, options.keyless, told)
-    use_mode(options.mode)
-    return settled_sizes(options)
+    return settled_sizes(settled_server(options, options.store, options.keyless, told))
 
 
 def run(options: Options) -> int:
