@@ -20,6 +20,7 @@ from pgsub_connect.drift.remembered import Remembered
 from pgsub_connect.drift.tolerance import Tolerance
 from pgsub_connect.follow import feed as feed_module
 from pgsub_connect.follow import feed_keeper, tables_process
+from pgsub_connect.follow.common import Common
 from pgsub_connect.follow.feed import Feeding, FeedSettings
 from pgsub_connect.follow.feed_keeper import Keeper
 from pgsub_connect.follow.follower import Follower
@@ -81,11 +82,13 @@ class Followed(Case):
     def feeding_of(self, follower: Follower, feed: str | None = None, **settings: Any) -> Feeding:
         return Feeding(
             FeedSettings(self.store, self.feed if feed is None else feed, **settings),
-            follower.subscription,
-            follower.start.tolerance,
-            self.checkpoint,
-            self.progress,
-            follower.watch.remembered,
+            Common(
+                follower.subscription,
+                follower.start.tolerance,
+                self.checkpoint,
+                self.progress,
+                follower.watch.remembered,
+            ),
         )
 
     def follower(self, **options: Any) -> Follower:
@@ -347,11 +350,7 @@ class Refused(Quiet):
                 feed,
                 tables=TablesSettings(tables, feed, self.store) if tables else None,
             ),
-            Subscription(),
-            Tolerance(),
-            mock.Mock(),
-            Progress(),
-            Remembered(self.store),
+            Common(Subscription(), Tolerance(), mock.Mock(), Progress(), Remembered(self.store)),
         )
 
     def setUp(self) -> None:

@@ -12,6 +12,7 @@ from pgsub_connect.drift.remembered import Remembered
 from pgsub_connect.drift.tolerance import Tolerance
 from pgsub_connect.errors import ServerError
 from pgsub_connect.follow import drift_watch as watch_module
+from pgsub_connect.follow.common import Common
 from pgsub_connect.follow.drift_watch import Watch
 from pgsub_connect.server.catalog import Catalog
 from pgsub_connect.server.subscription import Subscription
@@ -45,11 +46,13 @@ class Case(unittest.TestCase):
         """That of a new run."""
         self.progress, self.remembered = Progress(), Remembered(self.store)
         watch = Watch(
-            Subscription(publications=["pgsub"]),
-            Tolerance(accept, strict),
-            self.checkpoint,
-            self.progress,
-            self.remembered,
+            Common(
+                Subscription(publications=["pgsub"]),
+                Tolerance(accept, strict),
+                self.checkpoint,
+                self.progress,
+                self.remembered,
+            )
         )
         watch.begin()
         return watch

@@ -34,15 +34,7 @@ from ..server.subscription import Subscription
 from ..store.at_rest import check_there, follower_of, is_followed
 from ..store.checkpoint_at_rest import locked, read_known
 from .arguments.exit_status import ADDED
-from .arguments.files import check_files, use_mode
-from .arguments.server import (
-    ServerOptions,
-    TrustOptions,
-    add_server,
-    add_trust,
-    settled_server,
-    trust_store,
-)
+from .arguments.store import StoreOptions, add_store, settled_store
 from .arguments.texts import each
 
 ABOUT = "copy tables anew beside what is followed: new ones of the publication, or any whose rows are wrong"
@@ -57,24 +49,15 @@ WAIT = 0.3
 
 
 @dataclasses.dataclass(frozen=True)
-class Options(ServerOptions, TrustOptions):
+class Options(StoreOptions):
     """Which tables are added, to which store."""
 
-    store: str = ""
     table: Sequence[str] = ()
 
 
 def add_options(parser: argparse.ArgumentParser) -> None:
-    add_server(parser)
-    add_trust(parser)
-    add = parser.add_argument
-    add(
-        "--store",
-        metavar="FILE",
-        required=True,
-        help="the store; its follower adds them, or does so at its next start",
-    )
-    add(
+    add_store(parser, "the store; its follower adds them, or does so at its next start")
+    parser.add_argument(
         "--table",
         action="append",
         required=True,
@@ -84,17 +67,12 @@ def add_options(parser: argparse.ArgumentParser) -> None:
 
 def settled(options: Options) -> Options:
     """The options with what they leave out."""
-    check_files(options.store, {}, {"--dsn-file": options.dsn_file})
-    options = settled_server(options, options.store, told=each("--table", options.table))
-    use_mode(options.mode)
-    return options
+    return settled_store(options, told=each("--table", options.table))
 
 
 def run(options: Options) -> int:
     """Adds tables; the exit status."""
-    options = settled(options)
-    trust_store(options.store, options.accept)
-    return add_tables(options, check_signals())
+    return add_tables(settled(options), check_signals())
 
 
 def add_tables(options: Options, check: Check) -> int:

@@ -16,16 +16,8 @@ from ..preconditions.judged import results
 from ..preconditions.result import ERROR, Purpose
 from ..server.preflight import all_facts
 from ..server.transport import OWN
-from .arguments.files import check_files, use_mode
 from .arguments.publishing import CopyOptions, add_copying, check_publishing
-from .arguments.server import (
-    ServerOptions,
-    TrustOptions,
-    add_server,
-    add_trust,
-    settled_server,
-    trust_store,
-)
+from .arguments.store import StoreOptions, add_store_server, settled_store
 from .arguments.texts import each
 
 ABOUT = "tell what following needs of the server, and change nothing"
@@ -36,10 +28,9 @@ file can't be used; 5 TLS was in use before, and is gone; 6 a bug; 7 the server 
 
 
 @dataclasses.dataclass(frozen=True)
-class Options(ServerOptions, TrustOptions, CopyOptions):
+class Options(StoreOptions, CopyOptions):
     """What the server is to be used for."""
 
-    store: str = ""
     json: bool = False
 
     def purpose(self) -> Purpose:
@@ -56,8 +47,7 @@ class Options(ServerOptions, TrustOptions, CopyOptions):
 
 
 def add_options(parser: argparse.ArgumentParser) -> None:
-    add_server(parser)
-    add_trust(parser)
+    add_store_server(parser)
     add_copying(parser)
     add = parser.add_argument
     add(
@@ -77,18 +67,12 @@ def check_options(parser: argparse.ArgumentParser, options: Options) -> Options:
 
 def settled(options: Options) -> Options:
     """The options with what they leave out."""
-    check_files(options.store, {}, {"--dsn-file": options.dsn_file})
-    told = each("--table", options.table)
-    options = settled_server(options, options.store, options.keyless, told)
-    use_mode(options.mode)
-    return options
+    return settled_store(options, options.keyless, each("--table", options.table))
 
 
 def run(options: Options) -> int:
     """Prints all preconditions; the exit status."""
-    options = settled(options)
-    trust_store(options.store, options.accept)
-    return print_results(options, check_signals())
+    return print_results(settled(options), check_signals())
 
 
 def print_results(options: Options, check: Check = never) -> int:

@@ -30,15 +30,7 @@ from ..server.session import Server, database_oid, is_same_database, settle
 from ..server.ticks import TICK
 from ..store.checkpoint_at_rest import locked, read_known
 from ..store.placing import OF_COPY, OF_STORE
-from .arguments.files import check_files, use_mode
-from .arguments.server import (
-    ServerOptions,
-    TrustOptions,
-    add_server,
-    add_trust,
-    settled_server,
-    trust_store,
-)
+from .arguments.store import StoreOptions, add_store, settled_store
 
 ABOUT = "drop slot, publications and files"
 ENDS = """\
@@ -55,36 +47,19 @@ PATIENCE = 5.0
 
 
 @dataclasses.dataclass(frozen=True)
-class Options(ServerOptions, TrustOptions):
+class Options(StoreOptions):
     """Whose slot, publications and files go."""
 
-    store: str = ""
     yes: bool = False
 
 
 def add_options(parser: argparse.ArgumentParser) -> None:
-    add_server(parser)
-    add_trust(parser)
-    add = parser.add_argument
-    add(
-        "--store",
-        metavar="FILE",
-        required=True,
-        help="the store whose slot, publications and files go",
-    )
-    add(
+    add_store(parser, "the store whose slot, publications and files go")
+    parser.add_argument(
         "--yes",
         action="store_true",
         help="don't ask; what somebody else may have made or may use stays",
     )
-
-
-def settled(options: Options) -> Options:
-    """The options with what they leave out."""
-    check_files(options.store, {}, {"--dsn-file": options.dsn_file})
-    options = settled_server(options, options.store)
-    use_mode(options.mode)
-    return options
 
 
 def read_remembered(path: str) -> dict[str, Any]:
@@ -279,8 +254,7 @@ class Dropper:
 
 def run(options: Options) -> int:
     """Drops it all; the exit status."""
-    options = settled(options)
-    trust_store(options.store, options.accept)
+    options = settled_store(options)
     check = check_signals()
 
     def ask(question: str) -> bool:

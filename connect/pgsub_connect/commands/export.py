@@ -10,7 +10,7 @@ from pgsub_feed.program import check_signals
 from ..store.export import ExportSettings, export_store
 from .arguments.exit_status import COPIED
 from .arguments.store_copy import StoreCopyOptions, add_store_copy, settled_store_copy
-from .arguments.texts import check_texts, each
+from .arguments.texts import add_repeated, check_texts, each
 
 ABOUT = "make ordinary tables of SQLite from the rows of a store, or of a copy of one"
 ENDS = COPIED.replace(
@@ -30,12 +30,7 @@ def add_options(parser: argparse.ArgumentParser) -> None:
     add_store_copy(parser)
     add = parser.add_argument
     add("--text", action="store_true", help="each value as TEXT, as the server prints it")
-    add(
-        "--table",
-        action="append",
-        default=[],
-        help="export this table, may be repeated (default: all)",
-    )
+    add_repeated(add, "--table", "export this table", "all")
 
 
 def settled(options: Options) -> Options:

@@ -19,6 +19,7 @@ from ..copy.slots import create_slot
 from ..drift.remembered import Remembered
 from ..drift.tolerance import Tolerance
 from ..errors import MISSED
+from ..follow.common import Common
 from ..follow.feed import Feeding
 from ..follow.follower import Follower
 from ..follow.request_socket import RequestSocket
@@ -39,12 +40,13 @@ from ..store.snapshot import part_of
 from ..stream.filter import Filter
 from .arguments import exit_status
 from .arguments.feed import FeedOptions, add_feed, check_feed
-from .arguments.files import check_files, use_mode
+from .arguments.files import check_files
 from .arguments.needs import check_needs
 from .arguments.publishing import CopyOptions, add_copying, check_creates, check_publishing
 from .arguments.recording import add_longest
-from .arguments.server import PLAINTEXT, ServerOptions, add_server, settled_server
+from .arguments.server import ServerOptions, add_server, settled_server
 from .arguments.sizes import SizeOptions, add_sizes, settled_sizes
+from .arguments.store import PLAINTEXT
 from .arguments.texts import each
 from .arguments.types import lsn_or_now, seconds
 from .arguments.watching import WatchOptions, add_watching
@@ -196,9 +198,7 @@ def settled(options: Options) -> Options:
     ]
     if not os.path.exists(options.store):
         told.append(("--store", part_of(options.store)))
-    options = settled_server(options, options.store, options.keyless, told)
-    use_mode(options.mode)
-    return settled_sizes(options)
+    return settled_sizes(settled_server(options, options.store, options.keyless, told))
 
 
 def run(options: Options) -> int:
@@ -283,7 +283,7 @@ def made(options: Options, check: Check) -> Parts:
     subscription, tolerance = options.subscription(), Tolerance(options.accept, options.strict)
     progress, remembered = Progress(notifier_of(os.environ)), Remembered(store, mode)
     settings = options.feed_settings(store, mode)
-    feeding = Feeding(settings, subscription, tolerance, checkpoint, progress, remembered)
+    feeding = Feeding(settings, Common(subscription, tolerance, checkpoint, progress, remembered))
     feeding.check()
     part, child = (make_filter(options, checkpoint, it) for it in (part_of(store), store))
     copier = Copier(options.copy_settings(), subscription, checkpoint, part, progress, remembered)

@@ -13,7 +13,7 @@ from ..copy.slots import create_slot, maker_of
 from ..record.recorder import Recorder, RecordSettings
 from ..record.recording import LONGEST, Recording
 from .arguments import exit_status
-from .arguments.files import check_files, use_mode
+from .arguments.files import check_files
 from .arguments.needs import check_needs
 from .arguments.publishing import PublishingOptions, add_publishing, check_creates, check_publishing
 from .arguments.recording import add_longest
@@ -132,9 +132,7 @@ def settled(options: Options) -> Options:
     """The options with what they leave out."""
     check_files("", {"--record": options.record}, {"--dsn-file": options.dsn_file})
     told = each("--table", options.table)
-    options = settled_server(options, keyless=options.keyless, told=told)
-    use_mode(options.mode)
-    return options
+    return settled_server(options, keyless=options.keyless, told=told)
 
 
 def run(options: Options) -> int:

@@ -38,15 +38,7 @@ from ..store.at_rest import check_there
 from ..store.checkpoint_at_rest import read_known
 from . import add
 from .arguments.exit_status import ADDED
-from .arguments.files import check_files, use_mode
-from .arguments.server import (
-    ServerOptions,
-    TrustOptions,
-    add_server,
-    add_trust,
-    settled_server,
-    trust_store,
-)
+from .arguments.store import StoreOptions, add_store, settled_store
 from .drop import ask_terminal
 
 ABOUT = "tell which tables lack rows, were altered, or left the publication, and mend it"
@@ -57,39 +49,20 @@ MISSING, CHANGED, EXTRA, OTHER = "missing", "changed", "extra", "other"
 
 
 @dataclasses.dataclass(frozen=True)
-class Options(ServerOptions, TrustOptions):
+class Options(StoreOptions):
     """Which store is compared, and whether it is mended without asking."""
 
-    store: str = ""
     yes: bool = False
 
 
 def add_options(parser: argparse.ArgumentParser) -> None:
-    add_server(parser)
-    add_trust(parser)
-    add = parser.add_argument
-    add(
-        "--store",
-        metavar="FILE",
-        required=True,
-        help="the store that is compared with what is published",
-    )
-    add("--yes", action="store_true", help="mend it without asking")
-
-
-def settled(options: Options) -> Options:
-    """The options with what they leave out."""
-    check_files(options.store, {}, {"--dsn-file": options.dsn_file})
-    options = settled_server(options, options.store)
-    use_mode(options.mode)
-    return options
+    add_store(parser, "the store that is compared with what is published")
+    parser.add_argument("--yes", action="store_true", help="mend it without asking")
 
 
 def run(options: Options) -> int:
     """Compares, asks and has it done; the exit status."""
-    options = settled(options)
-    trust_store(options.store, options.accept)
-    return refresh(options, check_signals())
+    return refresh(settled_store(options), check_signals())
 
 
 class Told(NamedTuple):

@@ -5,25 +5,22 @@ from __future__ import annotations
 import argparse
 import contextlib
 import dataclasses
-from collections.abc import Sequence
 
 from pgsub_feed import log
-from pgsub_feed.arguments import lsn, plain_name
+from pgsub_feed.arguments import lsn
 from pgsub_feed.errors import UsageError
 from pgsub_feed.interruption import Check
 from pgsub_feed.ownership import readable_by, readable_text
 from pgsub_feed.program import check_signals
-from pgsub_feed.reader.reading import Reading
 from pgsub_feed.sinks import nats_engine, redis_calls, redis_hashes, redis_streams
 from pgsub_feed.sinks.engine import Engine
 from pgsub_feed.sinks.following import keep
 from pgsub_feed.sinks.redis_engine import Redis
 from pgsub_feed.texts import lsn_text
 
-from .arguments.files import check_files, use_mode
+from .arguments.files import add_mode, use_mode
+from .arguments.following import FollowingOptions, add_beginning, add_end, add_kept
 from .arguments.texts import check_texts, each
-from .arguments.types import mode
-from .beside import StoreBeside
 
 ABOUT = """\
 write a feed to Redis or to NATS JetStream
@@ -76,33 +73,14 @@ def stream_name(text: str) -> str:
 
 
 @dataclasses.dataclass(frozen=True)
-class Options:
+class Options(FollowingOptions):
     """Which feed is followed, into which engine, and up to where."""
 
     url: str = ""
     url_file: str | None = None
-    feed: str = ""
-    base: str | None = None
-    store: str = ""
     form: str | None = None
     stream: str | None = None
-    table: Sequence[str] = ()
-    reader: str | None = None
-    once: bool = False
     until: int | None = None
-    mode: int = 0o600
-
-    def reading(self) -> Reading:
-        return Reading(
-            self.feed,
-            tuple(sorted(set(self.table))),
-            follows=not self.once,
-            until=self.until,
-            base=self.base,
-            store=StoreBeside(self.store, self.mode) if self.store else None,
-            name=self.reader,
-            mode=self.mode,
-        )
 
 
 def add_options(parser: argparse.ArgumentParser) -> None:
@@ -121,24 +99,7 @@ def add_options(parser: argparse.ArgumentParser) -> None:
         help="a file whose first line is the URL, for one with a password",
     )
     add("--feed", metavar="FOLDER", required=True, help="the feed")
-    begin = parser.add_mutually_exclusive_group().add_argument
-    begin(
-        "--base",
-        metavar="FILE",
-        help="begin with the rows of this export, made by `export --text`, where nothing is kept there yet",
-    )
-    begin(
-        "--store",
-        metavar="FILE",
-        default="",
-        help="begin with the rows of this store; its follower is asked for a copy",
-    )
-    add_kept(parser)
-
-
-def add_kept(parser: argparse.ArgumentParser) -> None:
-    """Options on what the engine gets, and for how long."""
-    add = parser.add_argument
+    add_beginning(parser, "made by `export --text`, where nothing is kept there yet")
     add(
         "--as",
         dest="form",
@@ -151,42 +112,10 @@ def add_kept(parser: argparse.ArgumentParser) -> None:
         type=stream_name,
         help="the stream of JetStream, made where it isn't there (default: pgsub)",
     )
-    add(
-        "--table",
-        action="append",
-        default=[],
-        help="keep this table, may be repeated (default: all)",
-    )
-    add(
-        "--reader",
-        metavar="NAME",
-        type=plain_name,
-        help="keep the LSN as FOLDER/readers/NAME too, once the engine's disk has the rows",
-    )
-    add_end(parser)
-
-
-def add_end(parser: argparse.ArgumentParser) -> None:
-    """Options on for how long it follows."""
-    whole = parser.add_mutually_exclusive_group().add_argument
-    whole(
-        "--follow",
-        dest="once",
-        action="store_false",
-        default=False,
-        help="follow the feed until a signal asks for the end (default)",
-    )
-    whole("--once", dest="once", action="store_true", help="end once all that is there is written")
-    parser.add_argument(
-        "--until", type=lsn, metavar="LSN", help="end before the first commit above this LSN"
-    )
-    parser.add_argument(
-        "--mode",
-        type=mode,
-        default=0o600,
-        metavar="OCTAL",
-        help="mode of a file that is made (default: 600)",
-    )
+    add_kept(add, "the engine's disk")
+    add_end(parser, "written")
+    add("--until", type=lsn, metavar="LSN", help="end before the first commit above this LSN")
+    add_mode(add, "mode of a file that is made")
 
 
 def check_options(parser: argparse.ArgumentParser, options: Options) -> Options:
@@ -197,7 +126,6 @@ def check_options(parser: argparse.ArgumentParser, options: Options) -> Options:
 
 
 def settled(options: Options) -> Options:
-    check_files(options.store, {}, {"--url-file": options.url_file, "--base": options.base})
     check_texts(each("--table", options.table))
     use_mode(options.mode)
     return options
@@ -243,5 +171,5 @@ def with_url(options: Options) -> Options:
 def write_feed(options: Options, check: Check) -> None:
     options = with_url(options)
     with contextlib.closing(engine_of(options, check)) as engine:
-        keep(options.reading(), engine, check)
+        keep(options.reading(sorted(set(options.table)), options.until), engine, check)
         log.info(f"all up to {lsn_text(engine.at)} is written")

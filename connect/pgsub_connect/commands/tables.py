@@ -7,14 +7,12 @@ import argparse
 import dataclasses
 import os
 import sqlite3
-from collections.abc import Sequence
 
 from pgsub_feed import log
-from pgsub_feed.arguments import lsn, plain_name
+from pgsub_feed.arguments import lsn
 from pgsub_feed.interruption import Check
 from pgsub_feed.program import check_signals
 from pgsub_feed.reader.polling import Parent
-from pgsub_feed.reader.reading import Reading
 from pgsub_feed.tables.first_rows import check_file
 from pgsub_feed.tables.following import Wanted, keep
 from pgsub_feed.tables.set_aside import cure, store_at
@@ -24,10 +22,9 @@ from pgsub_feed.texts import lsn_text
 from ..server.publication_setup import names_of
 from ..store.known_keys import KnownKeys
 from .arguments.exit_status import FED
-from .arguments.files import check_files, use_mode
+from .arguments.files import add_mode, check_files, use_mode
+from .arguments.following import FollowingOptions, add_beginning, add_end, add_kept
 from .arguments.texts import check_texts, each
-from .arguments.types import mode
-from .beside import StoreBeside
 
 ABOUT = """\
 keep ordinary tables of SQLite that follow a feed
@@ -42,35 +39,19 @@ LEFT = 1
 
 
 @dataclasses.dataclass(frozen=True)
-class Options:
+class Options(FollowingOptions):
     """Which feed is followed, into which file, and up to where."""
 
-    feed: str = ""
     into: str = ""
-    base: str | None = None
-    store: str = ""
     init: str | None = None
-    table: Sequence[str] = ()
-    reader: str | None = None
     digests: bool = False
-    once: bool = False
     while_input: bool = False
     at: int | None = None
-    mode: int = 0o600
 
     def wanted(self) -> Wanted:
         """What is kept, and the rows that it begins with."""
         store = self.store or store_at(os.path.abspath(self.feed))
-        reading = Reading(
-            self.feed,
-            tuple(self.table),
-            follows=not self.once,
-            until=self.at,
-            base=self.base,
-            store=StoreBeside(self.store, self.mode) if self.store else None,
-            name=self.reader,
-            mode=self.mode,
-        )
+        reading = self.reading(self.table, self.at)
         keys = KnownKeys(store) if store else None
         return Wanted(self.into, reading, self.init, self.digests, keys)
 
@@ -79,78 +60,27 @@ def add_options(parser: argparse.ArgumentParser) -> None:
     add = parser.add_argument
     add("--feed", metavar="FOLDER", required=True, help="the feed")
     add("--into", metavar="FILE", required=True, help="the file with the tables")
-    begin = parser.add_mutually_exclusive_group().add_argument
-    begin(
-        "--base",
-        metavar="FILE",
-        help="begin with the rows of this export, or file of tables, where the file isn't there yet",
-    )
-    begin(
-        "--store",
-        metavar="FILE",
-        default="",
-        help="begin with the rows of this store; its follower is asked for a copy",
-    )
-    add_kept(parser)
-
-
-def add_kept(parser: argparse.ArgumentParser) -> None:
-    """Options on what the file has, and for how long it follows."""
-    add = parser.add_argument
+    add_beginning(parser, "or file of tables, where the file isn't there yet")
     add(
         "--init",
         metavar="FILE",
         help="run this SQL once a table was made or altered, for indexes and views: CREATE INDEX IF NOT EXISTS ..",
     )
-    add(
-        "--table",
-        action="append",
-        default=[],
-        help="keep this table, may be repeated (default: all)",
-    )
-    add(
-        "--reader",
-        metavar="NAME",
-        type=plain_name,
-        help="keep the LSN as FOLDER/readers/NAME too, once the disk has the rows",
-    )
+    add_kept(add, "the disk")
     add(
         "--digests",
         action="store_true",
         help="keep a digest of each table, for `verify`; a file that has them keeps them",
     )
-    add_end(parser)
-
-
-def add_end(parser: argparse.ArgumentParser) -> None:
-    """Options on for how long it follows."""
-    whole = parser.add_mutually_exclusive_group().add_argument
-    whole(
-        "--follow",
-        dest="once",
-        action="store_false",
-        default=False,
-        help="follow the feed until a signal asks for the end (default)",
-    )
-    whole(
-        "--once", dest="once", action="store_true", help="end once all that is there is in the file"
-    )
-    parser.add_argument(
-        "--while-input", action="store_true", help="end once standard input ends, too"
-    )
-    parser.add_argument(
+    add_end(parser, "in the file")
+    add("--while-input", action="store_true", help="end once standard input ends, too")
+    add(
         "--at",
         type=lsn,
         metavar="LSN",
         help="the tables as of this LSN: end before the first commit above it, or go back to there",
     )
-    parser.add_argument(
-        "--mode",
-        type=mode,
-        default=0o600,
-        metavar="OCTAL",
-        help="mode of a file that is made (default: 600)",
-    )
+    add_mode(add, "mode of a file that is made")
 
 
 def check_options(parser: argparse.ArgumentParser, options: Options) -> Options:

@@ -21,16 +21,8 @@ from ..verify.store import StoreComparison, compare, repair
 from ..verify.tables_comparison import TablesComparison
 from ..verify.tables_file import compare_tables, store_of
 from . import add
-from .arguments.files import check_files, use_mode
-from .arguments.server import (
-    ServerOptions,
-    TrustOptions,
-    add_server,
-    add_trust,
-    settled_server,
-    trust_store,
-)
-from .arguments.texts import each
+from .arguments.store import StoreOptions, add_store, settled_store
+from .arguments.texts import add_repeated, each
 from .arguments.types import within, within_seconds
 
 ABOUT = "compare the copy of a follower that runs with its server, both at one LSN"
@@ -40,10 +32,9 @@ exit status: 0 equal, or repaired; 1 the copy differs; 8 the server made no slot
 
 
 @dataclasses.dataclass(frozen=True)
-class Options(ServerOptions, TrustOptions):
+class Options(StoreOptions):
     """What is compared, and what is told of it."""
 
-    store: str = ""
     tables: str = ""
     other: str = ""
     feed: str = ""
@@ -71,15 +62,12 @@ class Options(ServerOptions, TrustOptions):
 
 
 def add_options(parser: argparse.ArgumentParser) -> None:
-    add_server(parser)
-    add_trust(parser)
-    add = parser.add_argument
-    add(
-        "--store",
-        metavar="FILE",
-        default="",
-        help="the store, which has to be followed meanwhile; with --tables whose publications are meant (default: that of the feed STORE.feed)",
+    add_store(
+        parser,
+        "the store, which has to be followed meanwhile; with --tables whose publications are meant (default: that of the feed STORE.feed)",
+        required=False,
     )
+    add = parser.add_argument
     add(
         "--tables",
         metavar="FILE",
@@ -109,12 +97,7 @@ def add_options(parser: argparse.ArgumentParser) -> None:
 
 def add_told(add: Callable[..., object]) -> None:
     """Options on which tables are compared, and what becomes of what differs."""
-    add(
-        "--table",
-        action="append",
-        default=[],
-        help="compare this table, may be repeated (default: all that are published)",
-    )
+    add_repeated(add, "--table", "compare this table", "all that are published")
     add(
         "--repair",
         action="store_true",
@@ -156,18 +139,14 @@ def check_options(parser: argparse.ArgumentParser, options: Options) -> Options:
 
 def settled(options: Options) -> Options:
     """The options with what they leave out."""
-    check_files(options.store, {}, {"--dsn-file": options.dsn_file})
-    store = options.store or (store_of(options.tables) if options.tables else "")
-    options = settled_server(options, store, told=each("--table", options.table))
-    use_mode(options.mode)
-    return dataclasses.replace(options, store=store)
+    if options.tables and not options.store:
+        options = dataclasses.replace(options, store=store_of(options.tables))
+    return settled_store(options, told=each("--table", options.table))
 
 
 def run(options: Options) -> int:
     """Compares; the exit status."""
-    options = settled(options)
-    trust_store(options.store, options.accept)
-    return compare_all(options, check_signals())
+    return compare_all(settled(options), check_signals())
 
 
 def compare_all(options: Options, check: Check) -> int:

@@ -11,18 +11,15 @@ from pgsub_feed.interruption import Check
 
 from ..drift.doubts import resolved
 from ..drift.findings import NAMES
-from ..drift.remembered import Remembered
 from ..drift.tell_once import warnings
-from ..drift.tolerance import Tolerance
 from ..errors import ServerError
 from ..server.catalog import Catalog
 from ..server.catalog_reader import read_catalog
 from ..server.connection import QUICK, Connection
 from ..server.session import settle
-from ..server.subscription import Subscription
-from ..status.progress import Progress
-from ..store.checkpoint import MISSING, Checkpoint
+from ..store.checkpoint import MISSING
 from ..stream.missed_rows import texts_of
+from .common import Common
 
 # After how many seconds the file is written where nothing in it is urgent, the publications are
 # looked at again, and that is tried again where it failed; and after how many they are looked at
@@ -39,16 +36,8 @@ LOCK_TIMEOUT = "55P03"
 class Watch:
     """What was found, and the looks at the server's publications."""
 
-    def __init__(
-        self,
-        subscription: Subscription,
-        tolerance: Tolerance,
-        checkpoint: Checkpoint,
-        progress: Progress,
-        remembered: Remembered,
-    ) -> None:
-        self.subscription, self.tolerance = subscription, tolerance
-        self.checkpoint, self.progress, self.remembered = checkpoint, progress, remembered
+    def __init__(self, common: Common) -> None:
+        self.subscription, self.tolerance, self.checkpoint, self.progress, self.remembered = common
         self.next_look = self.next_save = 0.0
         # when the publications were looked at last
         self.looked = time.monotonic()

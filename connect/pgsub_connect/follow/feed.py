@@ -32,17 +32,14 @@ from pgsub_feed.reader.positions import make_folder
 from pgsub_feed.reader.segments import Reader, read_confirmed, segments
 from pgsub_feed.texts import counted, lsn_text
 
-from ..drift.remembered import Remembered
-from ..drift.tolerance import Tolerance
 from ..server.connection import Connection
 from ..server.session import identify, settle
-from ..server.subscription import Subscription
 from ..store.at_rest import has_log
-from ..store.checkpoint import Checkpoint
 from ..store.snapshot import position_in
 from ..stream.filter import Filter
 from ..stream.filter_end import FilterEnded
 from ..stream.statuses import Reached
+from .common import Common
 from .feed_keeper import Keeper
 from .retention import Limits
 from .tables_process import Beside, TablesSettings
@@ -86,17 +83,9 @@ class FeedSettings:
 class Feeding:
     """The folder. Nothing is written there before a filter has opened the feed."""
 
-    def __init__(
-        self,
-        settings: FeedSettings,
-        subscription: Subscription,
-        tolerance: Tolerance,
-        checkpoint: Checkpoint,
-        progress: Progress,
-        remembered: Remembered,
-    ) -> None:
-        self.settings, self.subscription, self.tolerance = settings, subscription, tolerance
-        self.checkpoint, self.progress, self.remembered = checkpoint, progress, remembered
+    def __init__(self, settings: FeedSettings, common: Common) -> None:
+        self.settings = settings
+        self.subscription, self.tolerance, self.checkpoint, self.progress, self.remembered = common
         self.folder = os.path.abspath(settings.folder) if settings.folder else ""
         self.keeper: Keeper | None = None
         self.beside: Beside | None = None

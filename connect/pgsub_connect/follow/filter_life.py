@@ -6,7 +6,6 @@ from __future__ import annotations
 import contextlib
 import itertools
 import time
-from collections.abc import Sequence
 
 from pgsub_feed import log
 from pgsub_feed.errors import FileError, Passing, Stopped
@@ -15,7 +14,7 @@ from pgsub_feed.texts import counted
 from ..errors import FilterFault
 from ..status.progress import Progress
 from ..stream import too_large
-from ..stream.awake import Awake
+from ..stream.awake import Awake, Numbers, Served
 from ..stream.filter import Filter
 from ..stream.filter_end import MISSED, FilterEnded
 from ..stream.memory_limit import BufferLimits
@@ -87,12 +86,8 @@ class FilterLife:
             time.sleep(min(left, SLEEP))
 
     def serve(
-        self,
-        timeout: float,
-        reads: Sequence[int] = (),
-        writes: Sequence[int] = (),
-        awake: Awake | None = None,
-    ) -> tuple[list[int], list[int], list[bytes]]:
+        self, timeout: float, reads: Numbers = (), writes: Numbers = (), awake: Awake | None = None
+    ) -> Served:
         """Serves the filter. What it says of changes that found no row is on the disk before
         anybody sees the statuses that follow."""
         statuses: list[bytes] = []
@@ -102,7 +97,7 @@ class FilterLife:
         finally:
             self.confirming.note_missing(statuses)
 
-    def serve_alone(self, seconds: float, reads: Sequence[int]) -> None:
+    def serve_alone(self, seconds: float, reads: Numbers) -> None:
         """Serves the filter while no session is open, until one of these can be read at most."""
         try:
             self.confirming.note_statuses(self.serve(seconds, reads)[2])

@@ -22,6 +22,7 @@ from ..stream.missed_rows import Misses
 from ..stream.skip import Skipping
 from ..stream.statuses import Confirming
 from ..stream.stream_log import Noting
+from .common import Common
 from .drift_watch import Watch
 from .ending import Ending
 from .feed import Feeding
@@ -64,7 +65,7 @@ class Follower:
         self.ending = ending = Ending(progress, settings.until)
         self.noting = noting = Noting(progress.stream, remembered)
         known = checkpoint, progress, remembered
-        self.watch = watch = Watch(subscription, tolerance, *known)
+        self.watch = watch = Watch(Common(subscription, tolerance, *known))
         self.misses = misses = Misses(tolerance, *known)
         self.confirming = confirming = Confirming(checkpoint, child, progress, noting, misses)
         form = StreamForm(settings.proto, Skipping(settings.skip, *known))

@@ -21,6 +21,9 @@ MOMENT, RARELY = 0.0005, 1023
 NEEDED = 2.0
 GROUPS = Path("/sys/fs/cgroup")
 GROUP = Path("/proc/self/cgroup")
+# Descriptors of files; and which ones can be read and written, with the filter's new statuses.
+Numbers = Sequence[int]
+Served = tuple[list[int], list[int], list[bytes]]
 
 
 def processors() -> float:
@@ -44,7 +47,7 @@ class Awake:
         self.sleeps = self.left = 0
 
     def select(
-        self, reads: Sequence[int], writes: Sequence[int], timeout: float
+        self, reads: Numbers, writes: Numbers, timeout: float
     ) -> tuple[list[int], list[int]]:
         """What is ready of these within the time, as `select.select` tells it."""
         if timeout and not self.left:

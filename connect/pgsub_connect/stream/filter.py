@@ -15,7 +15,7 @@ from pgsub_feed.interruption import Check, never
 
 from .. import version
 from ..errors import FilterFault
-from .awake import Awake
+from .awake import Awake, Numbers, Served
 from .filter_end import FilterEnded, Missing
 from .filter_input import PIECE, ROOM, FilterInput
 from .filter_said import FilterSaid
@@ -161,12 +161,8 @@ class Filter:
         self.input.finish()
 
     def serve(
-        self,
-        timeout: float,
-        reads: Sequence[int] = (),
-        writes: Sequence[int] = (),
-        awake: Awake | None = None,
-    ) -> tuple[list[int], list[int], list[bytes]]:
+        self, timeout: float, reads: Numbers = (), writes: Numbers = (), awake: Awake | None = None
+    ) -> Served:
         """Waits until something is ready, asleep or awake at first, moves bytes both ways, and
         returns what of `reads` and `writes` is ready and the filter's new statuses. What it said
         before these is read then, too."""

@@ -3,8 +3,10 @@
 from __future__ import annotations
 
 import os
+from collections.abc import Callable
 
 from ...store.placing import check_apart
+from .types import mode as mode_of
 
 
 def check_files(
@@ -14,6 +16,10 @@ def check_files(
     option."""
     named = ([(option, it) for option, it in some.items() if it] for some in (written, read or {}))
     check_apart(store, *named)
+
+
+def add_mode(add: Callable[..., object], about: str) -> None:
+    add("--mode", type=mode_of, default=0o600, metavar="OCTAL", help=f"{about} (default: 600)")
 
 
 def use_mode(mode: int) -> None:

@@ -7,6 +7,7 @@ import dataclasses
 from collections.abc import Callable, Sequence
 
 from ...server.publication_setup import Wanted
+from .texts import add_repeated
 from .types import within
 
 
@@ -34,12 +35,7 @@ class CopyOptions(PublishingOptions):
 
 def add_publishing(add: Callable[..., object]) -> None:
     """Options on the publication and the slot that --create makes."""
-    add(
-        "--table",
-        action="append",
-        default=[],
-        help="with --create: a table to publish, may be repeated (default: those that are there)",
-    )
+    add_repeated(add, "--table", "with --create: a table to publish", "those that are there")
     add(
         "--all-tables",
         action="store_true",

@@ -12,16 +12,13 @@ from pgsub_feed import log
 from pgsub_feed.ownership import readable_by, readable_text
 
 from ...drift.remembered import Remembered
-from ...server import transport
 from ...server.addresses import parameters
 from ...server.name_length import check_lengths
 from ...server.publication_setup import inserts_of
 from ...server.subscription import Subscription
-from ...store.checkpoint_at_rest import read_known
-from .texts import check_texts, each
-from .types import mode, seconds
-
-PLAINTEXT = "plaintext"
+from .files import add_mode, use_mode
+from .texts import add_repeated, check_texts, each
+from .types import seconds
 
 
 @dataclasses.dataclass(frozen=True)
@@ -40,13 +37,6 @@ class ServerOptions:
         return Subscription(self.dsn, self.slot, list(self.publication))
 
 
-@dataclasses.dataclass(frozen=True)
-class TrustOptions:
-    """What a command may accept that connects to the server of a store."""
-
-    accept: Sequence[str] = ()
-
-
 def add_server(parser: argparse.ArgumentParser) -> None:
     """Options on the server and the slot."""
     add = parser.add_argument
@@ -57,11 +47,8 @@ def add_server(parser: argparse.ArgumentParser) -> None:
         help="a file whose first line is the connection string, for one with a password",
     )
     add("--slot", default="pgsub", help="replication slot (default: pgsub)")
-    add(
-        "--publication",
-        action="append",
-        default=[],
-        help="publication, may be repeated (default: those that the store has followed, else pgsub)",
+    add_repeated(
+        add, "--publication", "publication", "those that the store has followed, else pgsub"
     )
     add(
         "--proto",
@@ -77,25 +64,7 @@ def add_server(parser: argparse.ArgumentParser) -> None:
         metavar="N",
         help="seconds between statuses (default: 10, and at most a third of wal_sender_timeout)",
     )
-    add(
-        "--mode",
-        type=mode,
-        default=0o600,
-        metavar="OCTAL",
-        help="mode of the files that are made (default: 600)",
-    )
-
-
-def add_trust(parser: argparse.ArgumentParser) -> None:
-    """What a command may accept that connects to the server of a store."""
-    add = parser.add_argument
-    add(
-        "--accept",
-        action="append",
-        default=[],
-        choices=(PLAINTEXT,),
-        help="connect without TLS although it was in use before",
-    )
+    add_mode(add, "mode of the files that are made")
 
 
 Settled = TypeVar("Settled", bound=ServerOptions)
@@ -108,7 +77,8 @@ def settled_server(
     told: Iterable[tuple[str, str]] = (),
 ) -> Settled:
     """The options with the connection string of a file, and with the publications that a store has
-    followed where none is named. `told`: what else the server or the program is told."""
+    followed where none is named; and has files get their mode. `told`: what else the server or
+    the program is told."""
     dsn, readable = options.dsn, ""
     if options.dsn_file:
         with open(options.dsn_file, encoding="utf-8", errors="surrogateescape") as file:
@@ -118,6 +88,7 @@ def settled_server(
     warn_of_password(options, dsn, readable)
     remembered = Remembered(store).publications() if store and os.path.exists(store) else []
     names = followed_again(options.publication, keyless, remembered) or remembered or ["pgsub"]
+    use_mode(options.mode)
     return dataclasses.replace(options, dsn=dsn, publication=names)
 
 
@@ -146,10 +117,3 @@ def followed_again(
             if it == name or it in remembered
         ]
     return list(dict.fromkeys(names))
-
-
-def trust_store(store: str, accept: Iterable[str]) -> None:
-    """Has a command that connects to the server of a store without its checkpoint know whether TLS
-    was in use."""
-    if store:
-        transport.OWN.begin(read_known(store + ".connector").encrypted, accept)

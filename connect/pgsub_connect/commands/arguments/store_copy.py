@@ -6,8 +6,7 @@ import argparse
 import dataclasses
 from typing import TypeVar
 
-from .files import check_files, use_mode
-from .types import mode
+from .files import add_mode, check_files, use_mode
 
 
 @dataclasses.dataclass(frozen=True)
@@ -37,7 +36,7 @@ def add_store_copy(parser: argparse.ArgumentParser) -> None:
         required=True,
         help="the file to write; one of an earlier run is replaced",
     )
-    add("--mode", type=mode, default=0o600, metavar="OCTAL", help="its mode (default: 600)")
+    add_mode(add, "its mode")
 
 
 def settled_store_copy(options: Settled) -> Settled:

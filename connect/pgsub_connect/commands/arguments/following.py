@@ -1,0 +1,74 @@
+"""Options on what follows a feed."""
+
+from __future__ import annotations
+
+import argparse
+import dataclasses
+from collections.abc import Callable, Iterable, Sequence
+
+from pgsub_feed.arguments import plain_name
+from pgsub_feed.reader.reading import Reading
+
+from ..beside import StoreBeside
+from .texts import add_repeated
+
+
+@dataclasses.dataclass(frozen=True)
+class FollowingOptions:
+    """Which feed is followed, with which rows it begins, and of which tables."""
+
+    feed: str = ""
+    base: str | None = None
+    store: str = ""
+    table: Sequence[str] = ()
+    reader: str | None = None
+    once: bool = False
+    mode: int = 0o600
+
+    def reading(self, tables: Iterable[str], until: int | None) -> Reading:
+        return Reading(
+            self.feed,
+            tuple(tables),
+            follows=not self.once,
+            until=until,
+            base=self.base,
+            store=StoreBeside(self.store, self.mode) if self.store else None,
+            name=self.reader,
+            mode=self.mode,
+        )
+
+
+def add_beginning(parser: argparse.ArgumentParser, base: str) -> None:
+    """Options on the rows with which it begins."""
+    add = parser.add_mutually_exclusive_group().add_argument
+    add("--base", metavar="FILE", help=f"begin with the rows of this export, {base}")
+    add(
+        "--store",
+        metavar="FILE",
+        default="",
+        help="begin with the rows of this store; its follower is asked for a copy",
+    )
+
+
+def add_kept(add: Callable[..., object], disk: str) -> None:
+    """Options on which tables are kept, and on where it is noted how far they are."""
+    add_repeated(add, "--table", "keep this table", "all")
+    add(
+        "--reader",
+        metavar="NAME",
+        type=plain_name,
+        help=f"keep the LSN as FOLDER/readers/NAME too, once {disk} has the rows",
+    )
+
+
+def add_end(parser: argparse.ArgumentParser, done: str) -> None:
+    """Options on for how long it follows."""
+    add = parser.add_mutually_exclusive_group().add_argument
+    add(
+        "--follow",
+        dest="once",
+        action="store_false",
+        default=False,
+        help="follow the feed until a signal asks for the end (default)",
+    )
+    add("--once", dest="once", action="store_true", help=f"end once all that is there is {done}")
