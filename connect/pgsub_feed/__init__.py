@@ -5,13 +5,19 @@
 are texts of commits, which `command` prints. `errors` says why something ends.
 """
 
-from .changes import Change, Commit, Delete, Insert, Missed, Row, Truncate, Update
-from .consumer import read
-from .errors import FileError, Passing, Unfit
-from .faults import Damaged
-from .python_values import python_value
-from .relation import Column, Relation
-from .texts import lsn_text, parse_lsn
+from __future__ import annotations
+
+import importlib
+from typing import TYPE_CHECKING, Any
+
+if TYPE_CHECKING:
+    from .changes import Change, Commit, Delete, Insert, Missed, Row, Truncate, Update
+    from .consumer import read
+    from .errors import FileError, Passing, Unfit
+    from .faults import Damaged
+    from .python_values import python_value
+    from .relation import Column, Relation
+    from .texts import lsn_text, parse_lsn
 
 __all__ = [
     "Change",
@@ -33,3 +39,30 @@ __all__ = [
     "python_value",
     "read",
 ]
+# Where each is; it is imported once it is asked for, so that a short command begins at once.
+HOMES = {
+    "Change": "changes",
+    "Commit": "changes",
+    "Delete": "changes",
+    "Insert": "changes",
+    "Missed": "changes",
+    "Row": "changes",
+    "Truncate": "changes",
+    "Update": "changes",
+    "read": "consumer",
+    "FileError": "errors",
+    "Passing": "errors",
+    "Unfit": "errors",
+    "Damaged": "faults",
+    "python_value": "python_values",
+    "Column": "relation",
+    "Relation": "relation",
+    "lsn_text": "texts",
+    "parse_lsn": "texts",
+}
+
+
+def __getattr__(name: str) -> Any:
+    if name not in HOMES:
+        raise AttributeError(f"module {__name__} has no attribute {name}")
+    return getattr(importlib.import_module(f".{HOMES[name]}", __name__), name)

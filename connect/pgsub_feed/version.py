@@ -8,7 +8,6 @@ checkout has none, nor has a wheel.
 from __future__ import annotations
 
 import os
-import subprocess
 
 from . import log
 
@@ -38,6 +37,9 @@ def version() -> str:
         return f"{log.PROGRAM} {OWN.get('version')} (commit {OWN.get('commit')}, {OWN.get('kit')})"
     if not os.path.isdir(os.path.join(TOP, "crates")):
         return f"{log.PROGRAM} {VERSION}"
+    # (imported here, since most commands tell no version)
+    import subprocess
+
     try:
         done = subprocess.run(
             ["git", "-C", TOP, "describe", "--always", "--dirty"],

@@ -402,15 +402,18 @@ class Waited(FeedCase):
         self.assertEqual(self.wait("0/100"), 0)
 
     def test_what_it_imports(self) -> None:
-        """Who waits after each commit pays for its start, in which psycopg would be the most."""
+        """Who waits after each commit pays for its start: without psycopg, and without what gives
+        commits to a program."""
         look = "import sys, pgsub_connect.commands.wait; print(*sys.modules)"
         words = [sys.executable, "-c", look]
         done = subprocess.run(
             words, capture_output=True, text=True, check=True, cwd=Path(__file__).parents[1]
         )
-        imported = {it.partition(".")[0] for it in done.stdout.split()}
-        self.assertIn("pgsub_connect", imported)
+        imported = set(done.stdout.split())
+        self.assertIn("pgsub_connect.commands.wait", imported)
         self.assertEqual({it for it in imported if it.startswith("psycopg")}, set())
+        self.assertNotIn("pgsub_feed.changes", imported)
+        self.assertNotIn("subprocess", imported)
 
     def test_a_signal(self) -> None:
         with contextlib.closing(RequestSocket(self.store)) as requests:
