@@ -16,7 +16,7 @@ from .errors import Stopped
 from .formats.bulk import Bulk
 from .formats.lines import FORMATS, Format
 from .interruption import Check
-from .program import Start, guarded, stop_by_signals
+from .program import Worker, guarded, stop_by_signals
 from .reader.commits import Commit
 from .reader.polling import Poll
 from .reader.segments import Reader
@@ -186,13 +186,13 @@ def print_commits(poll: Poll, options: Options, form: Format | Bulk, chosen: Cho
 
 def main(words: Sequence[str]) -> int:
     options = arguments(words)
-    start = Start()
+    start = Worker()
     stop_by_signals(start)
-    return guarded(lambda: run(options, start.check))
+    return guarded(lambda: run(options, start.check_stop))
 
 
 def start() -> None:
-    log.PROGRAM = "pgsub-feed"
+    log.name_program("pgsub-feed")
     # (who reads it may end first)
     signal.signal(signal.SIGPIPE, signal.SIG_DFL)
     sys.exit(main(sys.argv[1:]))

@@ -26,25 +26,29 @@ def never() -> None:
 class Calls:
     """Whether such a call runs."""
 
-    are_waiting = False
+    def __init__(self) -> None:
+        self.are_waiting = False
+
+    @contextlib.contextmanager
+    def interruptible(self, check: Check) -> Iterator[None]:
+        """Has a signal end what runs in it by a Stopped."""
+        before, self.are_waiting = self.are_waiting, True
+        try:
+            # (of a signal that came just before)
+            check()
+            yield
+        finally:
+            self.are_waiting = before
+
+    def interrupt(self) -> None:
+        """What a signal that asks for the end does, once that is noted."""
+        if self.are_waiting:
+            raise Stopped
 
 
-@contextlib.contextmanager
-def interruptible(check: Check) -> Iterator[None]:
-    """Has a signal end what runs in it by a Stopped."""
-    before, Calls.are_waiting = Calls.are_waiting, True
-    try:
-        # (of a signal that came just before)
-        check()
-        yield
-    finally:
-        Calls.are_waiting = before
-
-
-def interrupt() -> None:
-    """What a signal that asks for the end does, once that is noted."""
-    if Calls.are_waiting:
-        raise Stopped
+# Those of this process.
+CALLS = Calls()
+interruptible, interrupt = CALLS.interruptible, CALLS.interrupt
 
 
 @contextlib.contextmanager

@@ -10,6 +10,12 @@ import time
 PROGRAM = "pgsub-connect"
 
 
+def name_program(name: str) -> None:
+    """Has the lines of this process begin with this name."""
+    global PROGRAM
+    PROGRAM = name
+
+
 def shown(character: str) -> str:
     """A character that a terminal only shows."""
     if character.isprintable():

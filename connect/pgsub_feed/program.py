@@ -7,7 +7,6 @@ import os
 import signal
 import traceback
 from collections.abc import Callable
-from typing import Protocol
 
 from . import log
 from .errors import BUG, FILE, PASSING, Failure, Stopped
@@ -27,18 +26,15 @@ PASSING_ERRORS = (
 )
 
 
-class Worker(Protocol):
+class Worker:
     """What ends when it is asked to."""
-
-    stop_asked: bool
-
-
-class Start:
-    """Asked to end before there is anything else to ask."""
 
     stop_asked = False
 
-    def check(self) -> None:
+    def ask_to_stop(self) -> None:
+        self.stop_asked = True
+
+    def check_stop(self) -> None:
         if self.stop_asked:
             raise Stopped
 
@@ -50,7 +46,7 @@ def stop_by_signals(*workers: Worker) -> None:
         for worker in workers:
             if worker.stop_asked:
                 os._exit(128 + number)
-            worker.stop_asked = True
+            worker.ask_to_stop()
         interrupt()
 
     for number in (signal.SIGINT, signal.SIGTERM):
@@ -59,9 +55,9 @@ def stop_by_signals(*workers: Worker) -> None:
 
 def check_signals() -> Check:
     """What raises Stopped once a signal has asked for the end."""
-    start = Start()
+    start = Worker()
     stop_by_signals(start)
-    return start.check
+    return start.check_stop
 
 
 def guarded(call: Callable[[], int]) -> int:

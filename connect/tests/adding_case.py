@@ -140,7 +140,7 @@ class Run:
         return answers[0]
 
     def end(self) -> None:
-        self.follower.stop_asked = True
+        self.follower.ending.stop_asked = True
         self.thread.join(20)
 
     def until(self, holds: Callable[[], bool], seconds: float = 20.0) -> bool:

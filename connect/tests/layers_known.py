@@ -4,22 +4,10 @@ from __future__ import annotations
 
 KNOWN: frozenset[str] = frozenset(
     (
-        "pgsub_connect.commands.check sets OWN.is_quiet",
-        "pgsub_connect.commands.follow sets parts.copier.stop_asked",
-        "pgsub_connect.commands.follow sets parts.follower.stop_asked",
-        "pgsub_connect.follow.follower sets self.snapshots.adds",
-        "pgsub_connect.follow.follower sets self.snapshots.delays_commits",
-        "pgsub_connect.follow.follower sets self.snapshots.is_streaming",
-        "pgsub_connect.follow.follower sets self.snapshots.reached",
-        "pgsub_connect.follow.repair sets self.hold.is_sent",
-        "pgsub_connect.record.recorder sets self.progress.asks",
         "pgsub_connect.store.export sets target.is_keyed",
         "pgsub_connect.store.export sets target.rows",
         "pgsub_connect.store.export sets target.waiting",
-        "pgsub_feed.command sets log.PROGRAM",
         "pgsub_feed.command.add_options is long",
-        "pgsub_feed.interruption sets Calls.are_waiting",
-        "pgsub_feed.program sets worker.stop_asked",
         "pgsub_feed.sinks.nats_engine sets self.stream.wire.check",
         "pgsub_feed.sinks.redis_engine sets self.calls.check",
         "pgsub_feed.sinks.redis_engine sets self.relations.is_changed",

@@ -283,7 +283,7 @@ class Altered(Case):
 
         def wants_session(adder: Adder) -> bool:
             if adder.ends_session:
-                run.follower.stop_asked = True
+                run.follower.ending.stop_asked = True
             return real(adder)
 
         real = Adder.wants_session

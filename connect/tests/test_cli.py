@@ -19,6 +19,7 @@ from pgsub_connect.store.placing import check_meant
 from pgsub_feed.command import arguments as feed_arguments
 from pgsub_feed.errors import FileError, UsageError
 from pgsub_feed.files import replace_file
+from pgsub_feed.program import Worker
 
 from .fake_server import Quiet
 from .settled import options_of, settled
@@ -42,8 +43,8 @@ class Signalled(Quiet):
             self.addCleanup(signal.signal, number, signal.getsignal(number))
         store = f"{self.make_folder()}/copy.db"
         Path(store).touch()
-        follower = mock.Mock(stop_asked=False)
-        follower.run.side_effect = lambda: self.assertTrue(follower.stop_asked)
+        follower = mock.Mock(ending=Worker())
+        follower.run.side_effect = lambda: self.assertTrue(follower.ending.stop_asked)
         follower.misses.count = 0
 
         def made(*_: object) -> mock.Mock:

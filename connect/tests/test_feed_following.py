@@ -25,7 +25,7 @@ from pgsub_connect.commands.tables import Options
 from pgsub_feed.errors import Passing, Unfit
 from pgsub_feed.faults import Damaged
 from pgsub_feed.interruption import never
-from pgsub_feed.program import Start, stop_by_signals
+from pgsub_feed.program import Worker, stop_by_signals
 from pgsub_feed.reader import following
 from pgsub_feed.reader.commits import Commit
 from pgsub_feed.reader.polling import Poll
@@ -133,9 +133,9 @@ class FollowingCase(FeedCase):
         """Starts a process that follows."""
 
         def call() -> int:
-            start = Start()
+            start = Worker()
             stop_by_signals(start)
-            return tables_module.follow_feed(self.options, start.check)
+            return tables_module.follow_feed(self.options, start.check_stop)
 
         self.child = self.fork(call)
 

@@ -130,7 +130,7 @@ class Case(Quiet):
         while not holds() and thread.is_alive() and time.monotonic() < until:
             time.sleep(0.005)
         held = holds()
-        follower.stop_asked = True
+        follower.ending.stop_asked = True
         thread.join(seconds)
         self.assertFalse(thread.is_alive())
         if raised:
@@ -222,7 +222,7 @@ class Sessions(Case):
         for standbys, kinds in (("", {None}), ("*", {"status", "commit"})):
             waits.clear()
             self.brain.answer("SHOW synchronous_standby_names", [[standbys]])
-            follower.stop_asked, end = False, self.confirmed() + 0x100
+            follower.ending.stop_asked, end = False, self.confirmed() + 0x100
             self.server.to_send = [begin(end - 8, 7), insert(1), commit(end - 8, end)]
             self.run_until(follower, lambda: self.confirmed() == end)
             self.assertEqual({kind for _, kind in waits}, kinds)
@@ -279,7 +279,7 @@ class Sessions(Case):
             ]
             follower = self.follower(until=until)
             self.run_until(follower, lambda follower=follower, end=end: follower.life.filter.status != b"" and follower.life.filter.confirmed() >= end)  # type: ignore[misc]
-            self.assertTrue(follower.stop_asked)
+            self.assertTrue(follower.ending.stop_asked)
             self.patch(Checkpoint, "lock", lambda *_: None)
 
     def test_silence(self) -> None:

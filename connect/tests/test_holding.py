@@ -43,7 +43,7 @@ class Holds(unittest.TestCase):
         self.filter, self.snapshots, self.noting = mock.Mock(), mock.Mock(), mock.Mock()
         self.progress = Progress()
         self.ending = Ending(self.progress, None)
-        upkeep = mock.Mock(filter=self.filter, serve_server=self.ending.check)
+        upkeep = mock.Mock(filter=self.filter, serve_server=self.ending.check_stop)
         upkeep.life.progress, upkeep.life.feeding = self.progress, None
         upkeep.confirming = Confirming(
             mock.Mock(), self.filter, self.progress, self.noting, mock.Mock()
@@ -91,7 +91,7 @@ class Holds(unittest.TestCase):
         self.snapshots.is_due.return_value = False
         self.assertFalse(self.holds())
         self.snapshots.is_due.return_value = True
-        self.ending.ask()
+        self.ending.ask_to_stop()
         self.assertFalse(self.holds())
         self.assertEqual(self.taken(), [])
 
@@ -118,7 +118,7 @@ class Holds(unittest.TestCase):
 
         def take(_: int, tick: Callable[[], None]) -> None:
             tick()
-            self.ending.ask()
+            self.ending.ask_to_stop()
             tick()
             self.fail("the signal isn't heard")
 

@@ -159,7 +159,7 @@ class Following(Case):
         self.assertNotIn("READY=1", self.manager.lines())
         self.assertIn(ALIVE[1], self.manager.lines())
         self.server.lets_in = True
-        follower.stop_asked = False
+        follower.ending.stop_asked = False
         self.run_until(follower, lambda: "READY=1" in self.manager.lines())
         self.manager.close()
         lines = self.manager.lines()

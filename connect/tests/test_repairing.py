@@ -314,7 +314,7 @@ class Repaired(Repairs):
     def test_the_end_is_asked_for(self) -> None:
         run = self.running()
         with self.compared() as request:
-            run.follower.stop_asked = True
+            run.follower.ending.stop_asked = True
             with self.assertRaises(Passing):
                 request.pass_on([T])
         run.end()

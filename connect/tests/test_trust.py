@@ -188,7 +188,7 @@ class Connects(Case):
             for _ in range(2):
                 self.connect(f"sslmode=verify-full sslrootcert={self.server.certificate}.crt")
             self.connect()
-            self.own.is_quiet = True
+            self.own.keep_quiet()
             self.connect(f"sslmode=verify-ca sslrootcert={self.server.certificate}.crt")
         unverified = (
             "warning: the connection is encrypted, but nothing of the server is verified, so it may"

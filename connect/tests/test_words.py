@@ -276,7 +276,7 @@ class Ends(Quiet):
     def test_signals(self) -> None:
         """The first one asks for the end, the second one is the end."""
         code = (
-            "import os, sys, time\nfrom pgsub_feed.program import Start, stop_by_signals\nstart = Start()\nstop_by_signals(start)\n"
+            "import os, sys, time\nfrom pgsub_feed.program import Worker, stop_by_signals\nstart = Worker()\nstop_by_signals(start)\n"
             "print('ready', flush=True)\nwhile not start.stop_asked:\n    time.sleep(0.01)\n"
             "print('asked', flush=True)\nwhile True:\n    time.sleep(0.01)\n"
         )

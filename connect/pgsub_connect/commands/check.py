@@ -77,7 +77,7 @@ def run(options: Options) -> int:
 
 def print_results(options: Options, check: Check = never) -> int:
     # (that of TLS is among them)
-    OWN.is_quiet = True
+    OWN.keep_quiet()
     facts = all_facts(options.dsn, options.slot, options.wanted(options.publication), check)
     found = results(facts, options.purpose())
     if options.json:

@@ -12,7 +12,7 @@ from collections.abc import Callable
 from pgsub_feed.arguments import lsn
 from pgsub_feed.errors import Stopped, Unfit
 from pgsub_feed.interruption import Check
-from pgsub_feed.program import Start, stop_by_signals
+from pgsub_feed.program import Worker, stop_by_signals
 
 from ..copy.copier import Copier, CopySettings
 from ..copy.slots import create_slot
@@ -207,14 +207,16 @@ def run(options: Options) -> int:
 
 
 def follow(options: Options) -> int:
-    start = Start()
+    start = Worker()
     stop_by_signals(start)
     check_start(options)
-    parts = made(options, start.check)
+    parts = made(options, start.check_stop)
     signal.signal(signal.SIGUSR1, lambda *_: parts.snapshots.ask())
-    stop_by_signals(parts.copier, parts.follower)
+    workers = parts.copier, parts.follower.ending
+    stop_by_signals(*workers)
     if start.stop_asked:
-        parts.copier.stop_asked = parts.follower.stop_asked = True
+        for worker in workers:
+            worker.ask_to_stop()
     for it in parts.threads:
         it.start()
     try:
@@ -356,9 +358,9 @@ def follow_with(options: Options, parts: Parts) -> None:
         follower.begin_after(parts.copier.was_connected)
     elif options.table or options.all_tables:
         wanted = options.wanted(options.publication)
-        require_published(parts.subscription, wanted, follower.check_stop)
+        require_published(parts.subscription, wanted, follower.ending.check_stop)
     stored, wake = follower.confirming.stored, parts.requests.wake
-    parts.feeding.begin(parts.child, stored, follower.check_stop, wake)
+    parts.feeding.begin(parts.child, stored, follower.ending.check_stop, wake)
     follower.run()
 
 
@@ -378,7 +380,7 @@ def begin(options: Options, parts: Parts) -> None:
             parts.subscription,
             options.wanted(options.publication),
             options.failover,
-            parts.follower.check_stop,
+            parts.follower.ending.check_stop,
             parts.remembered,
         )
     else:

@@ -24,7 +24,8 @@ import dataclasses
 import time
 
 from pgsub_feed import log
-from pgsub_feed.errors import FileError, Passing, Stopped, Unfit
+from pgsub_feed.errors import FileError, Passing, Unfit
+from pgsub_feed.program import Worker
 from pgsub_feed.texts import counted, lsn_text
 
 from ..drift.remembered import Remembered
@@ -70,7 +71,7 @@ class CopySettings:
     mode: int = 0o600
 
 
-class Copier:
+class Copier(Worker):
     """Makes publication, store and slot."""
 
     def __init__(
@@ -85,7 +86,7 @@ class Copier:
         self.settings, self.subscription = settings, subscription
         self.checkpoint, self.filter = checkpoint, child
         self.progress, self.remembered = progress, remembered
-        self.stop_asked = self.was_connected = False
+        self.was_connected = False
         self.files = CopyFiles(settings.store, settings.mode)
         self.slot = CopySlot(subscription, self.check_stop)
         self.sender = Sender(child, self.slot)
@@ -168,8 +169,7 @@ class Copier:
 
     def check_stop(self) -> None:
         self.progress.beat()
-        if self.stop_asked:
-            raise Stopped
+        super().check_stop()
 
     def attempt(self) -> None:
         """Copies, or goes on where the slot is there already."""

@@ -2,29 +2,24 @@
 
 from __future__ import annotations
 
-from pgsub_feed.errors import Stopped
+from pgsub_feed.program import Worker
 
 from ..status.progress import Progress
 
 
-class Ending:
+class Ending(Worker):
     """A run ends where it was asked to, or once the store has all up to an LSN. `until`: that LSN,
     or `now` for the end that the server's log has at the first session."""
 
     def __init__(self, progress: Progress, until: int | str | None) -> None:
         self.progress = progress
-        self.is_asked = False
         self.until = until if isinstance(until, int) else None
         self.wants_log_end = until == "now"
 
-    def ask(self, is_asked: bool = True) -> None:
-        self.is_asked = is_asked
-
-    def check(self) -> None:
+    def check_stop(self) -> None:
         """Called wherever the main loop waits. Raises where the end was asked for."""
         self.progress.beat()
-        if self.is_asked:
-            raise Stopped
+        super().check_stop()
 
     def note_log_end(self, lsn: int) -> None:
         self.until, self.wants_log_end = lsn, False

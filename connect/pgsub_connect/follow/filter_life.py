@@ -68,7 +68,7 @@ class FilterLife:
         """Starts the filter. A store that somebody else has open, to dump it say, is waited for."""
         for tried in itertools.count():
             try:
-                return self.filter.start(self.ending.check)
+                return self.filter.start(self.ending.check_stop)
             except FilterEnded as ended:
                 if not ended.is_unopened():
                     raise
@@ -82,7 +82,7 @@ class FilterLife:
     def sleep(self, seconds: float) -> None:
         until = time.monotonic() + seconds
         while (left := until - time.monotonic()) > 0:
-            self.ending.check()
+            self.ending.check_stop()
             time.sleep(min(left, SLEEP))
 
     def serve(
@@ -160,7 +160,7 @@ class FilterLife:
         if not ended.is_of_stream():
             return
         with contextlib.suppress(FilterEnded, Stopped):
-            position = self.filter.start(self.ending.check)
+            position = self.filter.start(self.ending.check_stop)
             self.misses.begin_filter(position, ended.has_told_all())
             self.filter.finish()
             if ended.is_of_commit() and (text := self.noting.rejected_text(position)):

@@ -91,25 +91,17 @@ class Follower:
 
     def serve_copies(self, form: StreamForm) -> None:
         """Tells who copies the store for others what that depends on."""
-        self.snapshots.adds, self.snapshots.is_streaming = self.adder.take, form.is_streaming
-        self.snapshots.reached = self.confirming.reached
-        self.snapshots.delays_commits = self.progress.server.note_standbys
-
-    @property
-    def stop_asked(self) -> bool:
-        return self.ending.is_asked
-
-    @stop_asked.setter
-    def stop_asked(self, is_asked: bool) -> None:
-        self.ending.ask(is_asked)
+        self.snapshots.note_follower(
+            self.adder.take,
+            form.is_streaming,
+            self.confirming.reached,
+            self.progress.server.note_standbys,
+        )
 
     def begin_after(self, was_connected: bool) -> None:
         """Begins after what may have reached the server already: one that is lost from now on is
         waited for."""
         self.start.note_connected(was_connected)
-
-    def check_stop(self) -> None:
-        self.ending.check()
 
     def run(self) -> None:
         """Follows until a signal asks for the end. Raises where going on makes no sense."""
@@ -124,7 +116,7 @@ class Follower:
     def follow(self) -> None:
         self.watch.begin()
         self.adder.begin()
-        while not self.ending.is_asked:
+        while not self.ending.stop_asked:
             try:
                 self.life.start()
                 self.session.run()
@@ -166,9 +158,9 @@ class Follower:
         if self.delay.take_renewed():
             return
         until, socket = time.monotonic() + self.delay.next(), self.requests.socket
-        if not self.ending.is_asked:
+        if not self.ending.stop_asked:
             self.progress.enter("waiting to connect again")
-        while not self.ending.is_asked and (
+        while not self.ending.stop_asked and (
             (left := until - time.monotonic()) > 0 or self.standing.lasts()
         ):
             self.progress.beat()

@@ -201,7 +201,7 @@ class Repairing:
             self.give_up(str(error), True)
             return
         lsn, clock = self.hold.point - 1, round((time.time() - EPOCH) * 1000000)
-        self.hold.is_sent = True
+        self.hold.note_sent()
         try:
             self.push([frame(lsn, begin(lsn, XID, clock)), *(frame(lsn, it) for it in first)])
             for lot in lots:

@@ -71,7 +71,7 @@ class Requests:
         returns whether so. The filter has nothing to write meanwhile, and what it has buffered of
         open transactions isn't in the store.
         """
-        if self.ending.is_asked:
+        if self.ending.stop_asked:
             return False
         is_due = self.snapshots.is_due(self.confirming.position)
         self.tell_readers()

@@ -181,8 +181,8 @@ class Session:
         if self.ending.is_reached(self.filter.confirmed()) and (
             not feeding or feeding.is_read(self.confirming.position)
         ):
-            self.ending.ask()
-        return self.ending.is_asked
+            self.ending.ask_to_stop()
+        return self.ending.stop_asked
 
     def note_left_out(self, said: list[str]) -> None:
         """Finds what the server has said of publications that weren't there yet at this place in

@@ -66,7 +66,7 @@ class SessionStart:
         self.progress.enter("connecting")
         subscription = self.subscription
         return Connection(
-            subscription.dsn, replication=True, name=subscription.slot, check=self.ending.check
+            subscription.dsn, replication=True, name=subscription.slot, check=self.ending.check_stop
         )
 
     def begin(self, connection: Connection) -> None:
@@ -79,7 +79,7 @@ class SessionStart:
         at, slot_at = self.filter.confirmed(), self.fit(connection, server)
         self.prepare(connection)
         self.start_replication(connection, server)
-        self.fitting.check_slot(self.confirming.position, self.ending.check)
+        self.fitting.check_slot(self.confirming.position, self.ending.check_stop)
         # (what comes later isn't what was accepted)
         self.tolerance.end()
         self.was_connected = True
@@ -122,7 +122,7 @@ class SessionStart:
         noting, form = self.life.noting, self.form
         # (on another connection: what a session's process has in its caches, it would decode older
         # changes by)
-        if not self.life.watch.look_again(self.ending.check, self.confirming.position):
+        if not self.life.watch.look_again(self.ending.check_stop, self.confirming.position):
             noting.relation_log.note_look(True)
         form.skipping.begin_session(self.filter.confirmed())
         form.note_whole(self.requests.begin_session(form.streams))

@@ -65,6 +65,17 @@ class Snapshots:
         # whether a request waits for a session of whole transactions
         self.wants_whole = False
 
+    def note_follower(
+        self,
+        adds: Callable[[dict[str, Any]], str | None],
+        is_streaming: Callable[[], bool],
+        reached: Callable[[], int],
+        delays_commits: Callable[[str], bool],
+    ) -> None:
+        """Notes what a follower knows, and does, of which copies depend."""
+        self.adds, self.is_streaming = adds, is_streaming
+        self.reached, self.delays_commits = reached, delays_commits
+
     def ask(self) -> None:
         """Asks for a copy as soon as it can be made, as a signal does."""
         self.asked = True

@@ -39,7 +39,7 @@ class Upkeep:
     def serve_server(self) -> None:
         """Keeps the server content while another connection is waited for, or a copy is made.
         Raises where the end was asked for."""
-        self.ending.check()
+        self.ending.check_stop()
         if (
             self.confirming.connection
             and self.filter.is_running()
@@ -49,7 +49,7 @@ class Upkeep:
 
     def attend(self) -> None:
         """Keeps server and filter content in a session while something else is waited for."""
-        self.ending.check()
+        self.ending.check_stop()
         if self.filter.is_running():
             self.confirming.forward(self.life.serve(0)[2])
             self.life.misses.tell()

@@ -9,7 +9,8 @@ import time
 from collections.abc import Sequence
 
 from pgsub_feed import log
-from pgsub_feed.errors import Stopped, UsageError
+from pgsub_feed.errors import UsageError
+from pgsub_feed.program import Worker
 from pgsub_feed.texts import counted, identifier, lsn_text, replication_literal
 
 from ..server.connection import COPY_BOTH, Connection
@@ -73,8 +74,12 @@ class Progress:
                 self.reached = max(self.reached, self.commit_end)
                 self.commits += 1
 
+    def note_status(self) -> None:
+        """Notes that the server has a status: it waits for none."""
+        self.asks = False
 
-class Recorder:
+
+class Recorder(Worker):
     """Records one session without a filter, and keeps the server content meanwhile."""
 
     connection: Connection | None
@@ -86,13 +91,8 @@ class Recorder:
         self.proto = settings.proto
         self.until = settings.until if isinstance(settings.until, int) else None
         self.progress = Progress()
-        self.stop_asked = False
         self.last_status = 0.0
         self.connection = None
-
-    def check_stop(self) -> None:
-        if self.stop_asked:
-            raise Stopped
 
     def connect(self) -> Connection:
         """Connects, and looks for what the server's version hasn't got, before anything is made
@@ -168,7 +168,7 @@ class Recorder:
         received = max(self.progress.server_end, confirmed)
         connection.send(struct.pack(">cQQQqB", b"r", received, confirmed, confirmed, clock, 0))
         self.last_status = time.monotonic()
-        self.progress.asks = False
+        self.progress.note_status()
 
     def is_enough(self) -> bool:
         settings, progress = self.settings, self.progress

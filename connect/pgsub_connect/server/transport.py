@@ -91,9 +91,12 @@ class Trust:
     def __init__(self) -> None:
         # whether one was encrypted, of any run since a plain one was accepted
         self.was_encrypted = False
-        # whether the last one isn't told, since the caller does so itself
         self.is_quiet = False
         self.last: Protection | None = None
+
+    def keep_quiet(self) -> None:
+        """Tells of no connection from now on, since the caller does so itself."""
+        self.is_quiet = True
 
     def begin(self, was_encrypted: bool, accept: Iterable[str]) -> None:
         """Begins with what a checkpoint remembers, unless it is said that plain text may follow."""

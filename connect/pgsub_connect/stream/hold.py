@@ -109,6 +109,10 @@ class Hold:
         """The changes of these tables are to be passed on."""
         self.tables = tables
 
+    def note_sent(self) -> None:
+        """The changes of these tables were passed on, the first of them at least."""
+        self.is_sent = True
+
     def is_gated(self) -> bool:
         """Whether the point isn't known, and what is below it for certain is passed on."""
         return self.is_held and self.point is None and self.maker > 0
