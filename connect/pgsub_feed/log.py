@@ -1,13 +1,35 @@
 """The lines on standard error: `2026-11-25T09:00:00Z pgsub-connect: warning: text`, with one of the
-levels info, warning and error."""
+levels info, warning and error. A terminal gets colours, unless NO_COLOR is set."""
 
 from __future__ import annotations
 
 import contextlib
+import os
 import sys
+import threading
 import time
+from typing import TextIO
 
 PROGRAM = "pgsub-connect"
+# The colours of words, as a terminal takes them; and what takes a line away.
+COLOURS = {"warning": "33", "error": "31", "ok": "32", "bold": "1"}
+ERASED = "\r\x1b[K"
+# Set while a line is drawn that the next one replaces.
+DRAWN = threading.Event()
+
+
+def is_terminal(file: TextIO | None = None) -> bool:
+    """Whether a file, standard error where none is given, is a terminal on which can be drawn."""
+    with contextlib.suppress(OSError, ValueError):
+        return (file or sys.stderr).isatty() and os.environ.get("TERM") != "dumb"
+    return False
+
+
+def coloured(text: str, colour: str, file: TextIO | None = None) -> str:
+    """A text with a colour, where there is one of that name and the file shows it."""
+    if colour not in COLOURS or os.environ.get("NO_COLOR") or not is_terminal(file):
+        return text
+    return f"\x1b[{COLOURS[colour]}m{text}\x1b[0m"
 
 
 def name_program(name: str) -> None:
@@ -34,14 +56,32 @@ def line(level: str, text: str) -> None:
     this program had said it."""
     now = time.strftime("%Y-%m-%dT%H:%M:%SZ", time.gmtime())
     first, *more = text.split("\n")
-    lines = [
-        f"{now} {PROGRAM}: {level}: {escaped(first)}\n",
-        *(f"{now} {PROGRAM}: {level}:   {escaped(it)}\n" for it in more),
-    ]
-    # (where nobody reads them any more, following goes on)
+    head = f"{now} {PROGRAM}: {coloured(level, level)}:"
+    erase()
+    put("".join([f"{head} {escaped(first)}\n", *(f"{head}   {escaped(it)}\n" for it in more)]))
+
+
+def put(text: str) -> None:
+    # (where nobody reads it any more, following goes on)
     with contextlib.suppress(OSError, ValueError):
-        sys.stderr.write("".join(lines))
+        sys.stderr.write(text)
         sys.stderr.flush()
+
+
+def draw(text: str) -> None:
+    """Draws a line on the terminal, as much of it as there is room for, until another one comes."""
+    room = 0
+    with contextlib.suppress(OSError, ValueError):
+        room = os.get_terminal_size(sys.stderr.fileno()).columns
+    DRAWN.set()
+    put(ERASED + escaped(text)[: (room or 80) - 1])
+
+
+def erase() -> None:
+    """Takes away what is drawn."""
+    if DRAWN.is_set():
+        DRAWN.clear()
+        put(ERASED)
 
 
 def info(text: str) -> None:

@@ -75,3 +75,5 @@ def guarded(call: Callable[[], int]) -> int:
     except Exception:  # noqa: BLE001
         log.error(f"a bug: {traceback.format_exc().rstrip()}")
         return BUG
+    finally:
+        log.erase()

@@ -56,6 +56,15 @@ def counted(number: int, thing: str) -> str:
     return f"{number} {thing}" if number == 1 else f"{number} {thing}s"
 
 
+def duration_text(seconds: float) -> str:
+    """A time by its two largest units."""
+    whole = max(round(seconds), 0)
+    for unit, more, length, part in (("h", "min", 3600, 60), ("min", "s", 60, 1)):
+        if whole >= length:
+            return f"{whole // length} {unit} {whole % length // part} {more}"
+    return f"{whole} s"
+
+
 def is_utf_8(text: str) -> bool:
     """Whether a word of the command line, or the like, was UTF-8: bytes that aren't have become
     surrogates."""

@@ -212,6 +212,9 @@ class WorldSource:
         self.tables = [it for it in self.tables if it.oid == oid]
         return self.tables[0] if self.tables else None
 
+    def value(self, command: str) -> None:
+        """(It has no statistics.)"""
+
     def maker(self) -> int:
         return 4711
 

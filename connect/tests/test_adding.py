@@ -29,9 +29,12 @@ class Added(Case):
         self.spoil()
         self.want(T)
         self.change()
-        run = self.goes_on()
+        with mock.patch("pgsub_feed.meter.WRITTEN", -1.0):
+            run = self.goes_on()
         self.assertEqual(run.progress.findings.adding, {})
         self.assertIn("public.t: 27 rows as of", " ".join(self.said))
+        self.assertIn("adding public.t: 10 rows, 0 a second", self.said)
+        self.assertIn("opening the store: 0 of 0 MB, 0 a second", self.said)
 
     def test_a_request_while_it_runs(self) -> None:
         """The session begins anew with whole transactions, and at the end anew without."""

@@ -35,6 +35,7 @@ from pgsub_connect.store.snapshot import part_of
 from pgsub_connect.stream.filter import Filter
 from pgsub_connect.stream.filter_end import FilterEnded
 from pgsub_connect.stream.memory_limit import BufferLimits
+from pgsub_feed import meter
 from pgsub_feed.errors import Passing, Stopped, Unfit, UsageError
 from pgsub_feed.relation import Column, Shape
 
@@ -281,6 +282,11 @@ class Sent(Copying):
             wanted += [inserts(some, InsertHeads(STOCK, 0)), frame(lsn, commit(lsn, lsn + 1))]
         wanted += [frame(3, begin(3)), frame(3, commit(3, POINT))]
         self.assertEqual(self.filter.sent.hex(" "), b"".join(wanted).hex(" "))
+
+    def test_how_far_it_is(self) -> None:
+        self.patch(meter, "WRITTEN", -1.0)
+        self.copier().run()
+        self.assertIn("copying public.stock: 2 of 3 rows, 0 a second", self.said)
 
     def test_an_empty_table(self) -> None:
         self.server.lines = []

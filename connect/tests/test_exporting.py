@@ -21,6 +21,7 @@ from pgsub_connect.store.export import ExportSettings, export_store
 from pgsub_feed.errors import FILE, UNFIT, USAGE, FileError, Passing, Stopped, Unfit, UsageError
 from pgsub_feed.interruption import never
 from pgsub_feed.relation import Relation
+from pgsub_feed.sinks.first_rows import exported
 
 from .stores import StoreCase, spelled
 from .vectors import ID, NAME, a_catalog, a_shape, a_table, logged
@@ -71,6 +72,18 @@ class Case(StoreCase):
 
 
 class Chosen(Case):
+    def test_how_far_it_is(self) -> None:
+        self.store.table(7, "t")
+        for number in "12":
+            self.store.row(7, number, "x")
+        with mock.patch("pgsub_feed.meter.WRITTEN", -1.0):
+            self.assertEqual(self.export(is_text=True), ["exporting: 2 of 2 rows, 0 a second"])
+            with logged() as told, exported(self.into, ()) as base:
+                self.assertEqual(
+                    [list(base.rows(it)) for it in base.tables()], [[["1", "x"], ["2", "x"]]]
+                )
+        self.assertEqual(told, ["writing public.t (7): 0 of 2 rows, 0 a second"])
+
     def test_by_name(self) -> None:
         for oid, schema in ((1, "public"), (2, "other"), (3, "")):
             self.store.table(oid, "t", [(1, "id", 23, -1)], schema=schema)

@@ -154,6 +154,13 @@ class Finds(Case):
         self.assertTrue(self.is_equal)
         self.assertEqual((self.said, self.server.asked), ([], []))
 
+    def test_how_far_it_is(self) -> None:
+        with mock.patch("pgsub_feed.meter.WRITTEN", -1.0):
+            self.compare()
+        rows, whole = len(ROWS) + len(EQUAL_ROWS), "comparing with the server public.whole"
+        self.assertEqual(self.said[0], f"reading the copy: 0 of {rows - 1} rows, 0 a second")
+        self.assertRegex(self.said[-1], f"^{whole}: {len(ROWS)} of {rows} rows, [0-9]+ a")
+
     def keyed(self, *changed: Sequence[Cell]) -> dict[str, Any]:
         """What is found where the copy has these in the place of row 7."""
         return self.one({1: [*ROWS[:7], *changed, *ROWS[8:]]})

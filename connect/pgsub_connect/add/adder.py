@@ -279,7 +279,7 @@ class Adder:
         turn, rows = self.turn, self.turn.rows()
         self.remembered.replaced(turn.relation(), rows.lsn)
         try:
-            self.sender.send(rows, turn.blocks())
+            self.sender.send(rows, turn.blocks(), turn.estimated)
         except TooLarge as error:
             self.refuse(turn.oid, str(error))
             raise Renewed("the session ends, since a table can't be added") from None

@@ -7,13 +7,13 @@ import time
 from collections.abc import Callable, Iterable
 
 from pgsub_feed.errors import Passing
+from pgsub_feed.meter import Meter
 from pgsub_feed.relation import Relation
-from pgsub_feed.texts import counted
 
 from ..copy.source import Source
 from ..copy.table_reader import BLOCK
 from ..server.catalog import Table
-from ..server.publications import sizes_of
+from ..server.publications import estimated_rows, sizes_of
 from ..status.progress import Progress
 from ..stream.gate import MOST as LONGEST_WAIT
 from ..stream.gate import WAITED, Making
@@ -39,6 +39,8 @@ class Turn:
         self.table: Table | None = None
         # whether it isn't published any more, and its rows are to go
         self.is_gone = False
+        # about how many rows it has, where the server knows that
+        self.estimated: int | None = None
         # what makes the slot while the stream goes on
         self.making: Making | None = None
         # what was found of the table before its rows were read
@@ -55,6 +57,8 @@ class Turn:
         assert self.source
         self.table = self.source.narrow(self.oid, SHORT_LOCK if is_waited_for else LOCK)
         self.is_gone = self.table is None
+        if self.table:
+            self.estimated = estimated_rows(self.source.plain, [self.table])
         if self.table and is_waited_for:
             sizes = sizes_of(self.source.plain, [self.table])
             if why := too_long(self.table, sizes.get(self.oid, 0)):
@@ -129,9 +133,10 @@ class RowsSender:
         self.limits, self.progress, self.noting = limits, progress, noting
         self.stream, self.tell = stream, tell
 
-    def send(self, rows: Rows, blocks: Iterable[list[bytes]]) -> None:
-        """Passes on the whole transaction."""
-        began = time.monotonic()
+    def send(self, rows: Rows, blocks: Iterable[list[bytes]], total: int | None) -> None:
+        """Passes on the whole transaction. `total`: about how many rows it has, where that is
+        known."""
+        began, meter = time.monotonic(), Meter(f"adding {rows.table.text()}")
         for it in rows.opening():
             self.push(it, [payload_of(it)])
         for lines in blocks:
@@ -139,7 +144,8 @@ class RowsSender:
             self.check(rows, began)
             self.push(block, [])
             self.noting.note_rows(rows.table.oid, len(lines), len(block))
-            self.tell(f"{counted(rows.count, 'row')} so far")
+            meter.note(rows.count, total)
+            self.tell(meter.text(rows.count, total))
         self.push(last := rows.closing(), [payload_of(last)])
 
     def check(self, rows: Rows, began: float) -> None:

@@ -25,6 +25,7 @@ import time
 
 from pgsub_feed import log
 from pgsub_feed.errors import FileError, Passing, Unfit
+from pgsub_feed.meter import Meter
 from pgsub_feed.program import Worker
 from pgsub_feed.texts import counted, lsn_text
 
@@ -96,6 +97,7 @@ class Copier(Worker):
         )
         # when it was noted last which tables are stored whole
         self.noted = 0.0
+        self.meter = Meter("copying")
 
     def run(self) -> None:
         """Copies until it is done, anew where the server or the filter is lost. Where no copy comes
@@ -305,7 +307,9 @@ class Copier(Worker):
         """Sends some rows. The last ones of a table tell that it is stored whole, once they are."""
         self.progress.copy.begin_part(part.table.text())
         end = self.sender.send_part(part)
-        self.progress.copy.note_part(part.rows, part.is_last)
+        copy = self.progress.copy
+        copy.note_part(part.rows, part.is_last)
+        self.meter.note(copy.rows, copy.total_rows, part.table.text())
         if part.is_last:
             self.remembered.note_copied(part.table.oid, end)
             if time.monotonic() - self.noted > NOTED:

@@ -4,11 +4,13 @@ means."""
 from __future__ import annotations
 
 import contextlib
+import functools
 import itertools
 import time
 
 from pgsub_feed import log
 from pgsub_feed.errors import FileError, Passing, Stopped
+from pgsub_feed.meter import Meter
 from pgsub_feed.texts import counted
 
 from ..errors import FilterFault
@@ -67,8 +69,9 @@ class FilterLife:
     def open_store(self) -> int:
         """Starts the filter. A store that somebody else has open, to dump it say, is waited for."""
         for tried in itertools.count():
+            meter = Meter("opening the store", "MB")
             try:
-                return self.filter.start(self.ending.check_stop)
+                return self.filter.start(functools.partial(self.check_opening, meter))
             except FilterEnded as ended:
                 if not ended.is_unopened():
                     raise
@@ -78,6 +81,12 @@ class FilterLife:
             )
             self.sleep(delay)
         raise AssertionError
+
+    def check_opening(self, meter: Meter) -> None:
+        self.ending.check_stop()
+        with contextlib.suppress(OSError, LookupError):
+            read, size = self.filter.opening()
+            meter.note(read >> 20, size >> 20)
 
     def sleep(self, seconds: float) -> None:
         until = time.monotonic() + seconds

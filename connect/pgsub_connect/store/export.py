@@ -19,6 +19,7 @@ from pgsub_feed import log
 from pgsub_feed.errors import FileError, Passing, Stopped, Unfit
 from pgsub_feed.files import placed
 from pgsub_feed.interruption import Check
+from pgsub_feed.meter import Meter
 from pgsub_feed.relation import Relation
 from pgsub_feed.tables.names import OLD, POSITION, TABLES, name_tables, names_of
 from pgsub_feed.tables.primary_keys import primary_key
@@ -61,7 +62,7 @@ class Export:
             check,
             names,
         )
-        self.waiting = 0
+        self.waiting, self.meter = 0, Meter("exporting")
 
     def run(self, remembered: Remembered) -> tuple[int, int, int]:
         """Writes it all. Returns the position, how many tables there are, and how many rows."""
@@ -107,6 +108,7 @@ class Export:
 
     def copy_rows(self, stored: dict[int, Relation]) -> None:
         """Copies all rows, in the order in which the store's file has them."""
+        self.stored = self.store.execute("SELECT count(*) FROM held").fetchone()[0]
         for oid, body, copies in self.store.execute(
             "SELECT oid, body, copies FROM held NOT INDEXED"
         ):
@@ -145,6 +147,7 @@ class Export:
         for target in self.targets.values():
             if target.waiting:
                 self.write_table(target)
+        self.meter.note(sum(it.rows for it in self.targets.values()), self.stored)
 
     def write_table(self, target: Target) -> None:
         waiting, target.waiting = target.waiting, []

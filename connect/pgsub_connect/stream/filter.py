@@ -119,6 +119,13 @@ class Filter:
             raise
         return flushed(self.status)
 
+    def opening(self) -> tuple[int, int]:
+        """How many bytes the one that opens its store has read, and how many the store has. An
+        OSError says that the system doesn't tell."""
+        with open(f"/proc/{self.pid()}/io", encoding="ascii") as file:
+            read = int(file.readline().split()[1])
+        return read, os.path.getsize(self.words[self.words.index("--store") + 1])
+
     def confirmed(self) -> int:
         return flushed(self.status)
 

@@ -15,6 +15,7 @@ from collections.abc import Callable, Collection, Iterable, Iterator, Mapping
 
 from pgsub_feed import log
 from pgsub_feed.errors import Passing
+from pgsub_feed.meter import Meter
 from pgsub_feed.tables.row_texts import Field, Fields, fields_in
 from pgsub_feed.texts import counted
 
@@ -57,12 +58,14 @@ class Verifier:
         self.rows = 0
         # the tables that differ
         self.different: list[Table] = []
+        self.meter = Meter("comparing with the server")
 
     def run(self, tables: list[Table]) -> bool:
         """Compares all of these. Returns whether they are equal."""
         plans = [self.sides.plan(it) for it in tables if self.has_columns(it)]
         ours = self.sides.copy.sums(plans)
-        equal = {it.table.oid for it in plans if self.is_equal(it, ours[it.table.oid])}
+        total = sum(it.total() for it in ours.values())
+        equal = {it.table.oid for it in plans if self.is_equal(it, ours[it.table.oid], total)}
         self.different = [it for it in tables if it.oid not in equal]
         return not self.different
 
@@ -78,8 +81,9 @@ class Verifier:
         )
         return False
 
-    def is_equal(self, plan: Plan, ours: Sums) -> bool:
-        """Compares a table, and tells what differs."""
+    def is_equal(self, plan: Plan, ours: Sums, total: int) -> bool:
+        """Compares a table, and tells what differs. `total`: how many rows all of them have."""
+        self.meter.note(self.rows, total, plan.table.text())
         theirs = self.sides.sums(plan)
         self.rows += theirs.total()
         chunks = theirs.differing(ours)

@@ -14,6 +14,7 @@ from typing import Protocol
 
 from pgsub_feed.errors import Unfit
 from pgsub_feed.interruption import Check
+from pgsub_feed.meter import Meter
 from pgsub_feed.relation import Relation
 from pgsub_feed.tables.row_texts import fields_in, text_of
 from pgsub_feed.texts import lsn_text
@@ -98,8 +99,11 @@ class Copy:
         """Those of each table, by one pass over the file."""
         found = {it.table.oid: Summing(it) for it in plans}
         rows = self.base.execute("SELECT oid, body, copies FROM held NOT INDEXED")
+        meter, done, total = Meter("reading the copy"), 0, sum(self.counts.values())
         while several := rows.fetchmany(ROWS):
             self.check()
+            meter.note(done, total)
+            done += len(several)
             for oid, body, copies in several:
                 if summing := found.get(oid):
                     summing.add(body, copies)

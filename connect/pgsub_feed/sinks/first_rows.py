@@ -10,6 +10,7 @@ from collections.abc import Iterator
 from ..errors import FileError, Unfit
 from ..files import own_name, remove
 from ..interruption import Check
+from ..meter import Meter
 from ..reader.commits import Cells
 from ..reader.reading import Reading
 from ..relation import Relation
@@ -18,6 +19,9 @@ from ..tables.names import POSITION, TABLES, names_of, told_columns
 from ..tables.schema import unlisted
 from ..tables.sqlite_files import is_export, opened
 from ..texts import identifier, parse_lsn
+
+# After how many rows it is noted how far it is.
+NOTED = 1000
 
 
 class Base:
@@ -67,9 +71,11 @@ class Exported(Base):
             raise Unfit(f"{relation.text()}: {text}")
 
     def rows(self, relation: Relation) -> Iterator[Cells]:
-        for row in self.db.execute(
-            f"SELECT * FROM {identifier(self.names[relation.oid])} ORDER BY rowid"
-        ):
+        name, meter = identifier(self.names[relation.oid]), Meter(f"writing {relation.text()}")
+        total = self.db.execute(f"SELECT count(*) FROM {name}").fetchone()[0]
+        for done, row in enumerate(self.db.execute(f"SELECT * FROM {name} ORDER BY rowid")):
+            if done % NOTED == 0:
+                meter.note(done, total)
             # (one without columns has one there)
             yield list(row) if relation.shape.columns else []
 
