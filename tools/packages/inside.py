@@ -9,6 +9,7 @@ import json
 import os
 import pwd
 import shlex
+import shutil
 import signal
 import subprocess
 import sys
@@ -23,6 +24,14 @@ USER = "newcomer"
 SERVER = Path("/tmp/server")
 ENVIRONMENT = {**os.environ, "PGHOST": str(SERVER), "DEBIAN_FRONTEND": "noninteractive"}
 SECONDS = 120.0
+# Debian's packages that the trial needs, each with a command of it.
+NEEDS = {
+    "postgresql": "pg_lsclusters",
+    "sqlite3": "sqlite3",
+    "man-db": "man",
+    "systemd": "systemd-analyze",
+    "procps": "pgrep",
+}
 UNITS = [Path("/usr/lib/systemd/system", it) for it in ("pgsub@.service", "pgsub-account@.service")]
 
 
@@ -59,10 +68,22 @@ def run(*words: str, user: str = "root", **more: str) -> str:
     return ran.stdout.strip()
 
 
+def prepared() -> None:
+    """What the trial itself needs is there: a server, and what looks at databases and documents."""
+    run("apt-get", "-qq", "update")
+    needed = {it: where for it, where in NEEDS.items() if not shutil.which(where)}
+    if not needed:
+        return
+    # (where nothing is running but the trial no package starts a service)
+    policy = Path("/usr/sbin/policy-rc.d")
+    policy.write_text("#!/bin/sh\nexit 101\n")
+    policy.chmod(0o755)
+    run("apt-get", "-y", "-qq", "--no-install-recommends", "install", *needed)
+
+
 def bare() -> None:
     """What a package needs isn't there, nor what one is made with."""
     run("apt-get", "-y", "-qq", "purge", "python3-psycopg")
-    run("apt-get", "-qq", "update")
     for command in ("rt", "pgsub", "pgsub-connect"):
         if subprocess.run(["which", command], stdout=subprocess.DEVNULL).returncode == 0:
             raise Wrong(f"{command} is there")
@@ -315,6 +336,7 @@ def purged() -> None:
 
 def main() -> int:
     counts = Counts()
+    counts.tried("what the trial needs", prepared)
     counts.tried("without toolchain, checkout and psycopg", bare)
     run("useradd", "--create-home", USER)
     walk(counts, "package", "root", HERE / "first")
