@@ -23,6 +23,13 @@ class TellVersion(argparse.Action):
         raise SystemExit(0)
 
 
+def add_version(parser: argparse.ArgumentParser) -> None:
+    about = "show the version, and the commit of a checkout"
+    parser.add_argument(
+        "--version", action=TellVersion, nargs=0, default=argparse.SUPPRESS, help=about
+    )
+
+
 def lsn(text: str) -> int:
     try:
         return parse_lsn(text)

@@ -11,11 +11,12 @@ import sys
 from collections.abc import Callable, Iterator, Sequence
 
 from . import log
-from .arguments import TellVersion, lsn
+from .arguments import add_version, lsn
 from .errors import Stopped
 from .formats.bulk import Bulk
 from .formats.lines import FORMATS, Format
 from .interruption import Check
+from .options import add_fields, option
 from .program import Worker, guarded, stop_by_signals
 from .reader.commits import Commit
 from .reader.polling import Poll
@@ -50,14 +51,32 @@ the way only for now
 class Options:
     """The words of the command line."""
 
-    feed: str
-    begin: int | None = None
-    end: int | None = None
-    follow: bool = False
-    format: str = "objects"
-    table: list[str] = dataclasses.field(default_factory=list)
-    undo: list[int] | None = None
-    truncated: int | None = None
+    feed: str = option("--feed FOLDER", "the feed", required=True)
+    begin: int | None = option(
+        "--from LSN",
+        "commits after this one, which must be the end of one (default: all)",
+        type=lsn,
+    )
+    end: int | None = option(
+        "--to LSN", "end before the first commit that ends above this LSN", type=lsn
+    )
+    follow: bool = option("--follow", "go on with the commits that come", False)
+    format: str = option("--format", "default: objects", "objects", choices=[*FORMATS, "bulk"])
+    truncated: int | None = option(
+        "--truncated LSN",
+        "with --format bulk: all documents were deleted of the tables that the commit which ends there truncates",
+        type=lsn,
+    )
+    table: Sequence[str] = option(
+        "--table",
+        "changes of this table, may be repeated (default: of all): t, or s.t of another schema than public; quoted as in SQL or not",
+        (),
+    )
+    undo: Sequence[int] | None = option(
+        "--undo FROM TO",
+        "print the SQL that takes the commits after FROM, up to TO, back",
+        type=lsn,
+    )
 
 
 def arguments(words: Sequence[str]) -> Options:
@@ -68,7 +87,8 @@ def arguments(words: Sequence[str]) -> Options:
         formatter_class=argparse.RawDescriptionHelpFormatter,
         allow_abbrev=False,
     )
-    add_options(parser)
+    add_fields(parser.add_argument, Options)
+    add_version(parser)
     options = Options(**vars(parser.parse_args(words)))
     if options.undo and (options.follow or options.begin is not None or options.end is not None):
         parser.error("--undo has its own LSNs, and doesn't follow")
@@ -77,53 +97,6 @@ def arguments(words: Sequence[str]) -> Options:
     if options.truncated is not None and options.format != "bulk":
         parser.error("--truncated is for --format bulk")
     return options
-
-
-def add_options(parser: argparse.ArgumentParser) -> None:
-    add = parser.add_argument
-    add("--feed", metavar="FOLDER", required=True, help="the feed")
-    add(
-        "--from",
-        dest="begin",
-        type=lsn,
-        metavar="LSN",
-        help="commits after this one, which must be the end of one (default: all)",
-    )
-    add(
-        "--to",
-        dest="end",
-        type=lsn,
-        metavar="LSN",
-        help="end before the first commit that ends above this LSN",
-    )
-    add("--follow", action="store_true", help="go on with the commits that come")
-    add("--format", choices=[*FORMATS, "bulk"], default="objects", help="default: objects")
-    add(
-        "--truncated",
-        type=lsn,
-        metavar="LSN",
-        help="with --format bulk: all documents were deleted of the tables that the commit which ends there truncates",
-    )
-    add(
-        "--table",
-        action="append",
-        default=[],
-        help="changes of this table, may be repeated (default: of all): t, or s.t of another schema than public; quoted as in SQL or not",
-    )
-    add(
-        "--undo",
-        nargs=2,
-        type=lsn,
-        metavar=("FROM", "TO"),
-        help="print the SQL that takes the commits after FROM, up to TO, back",
-    )
-    add(
-        "--version",
-        action=TellVersion,
-        nargs=0,
-        default=argparse.SUPPRESS,
-        help="show the version, and the commit of a checkout",
-    )
 
 
 def form_of(options: Options, is_chosen: Callable[[Relation], bool]) -> Format | Bulk:

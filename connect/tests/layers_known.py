@@ -7,7 +7,6 @@ KNOWN: frozenset[str] = frozenset(
         "pgsub_connect.store.export sets target.is_keyed",
         "pgsub_connect.store.export sets target.rows",
         "pgsub_connect.store.export sets target.waiting",
-        "pgsub_feed.command.add_options is long",
         "pgsub_feed.sinks.nats_engine sets self.stream.wire.check",
         "pgsub_feed.sinks.redis_engine sets self.calls.check",
         "pgsub_feed.sinks.redis_engine sets self.relations.is_changed",

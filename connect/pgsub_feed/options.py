@@ -1,0 +1,56 @@
+"""Options of a command line, each declared where its value is: as a field of a dataclass.
+
+    begin: int | None = option("--from LSN", "commits after this one", type=lsn)
+    follow: bool = option("--follow", "go on with the commits that come", False)
+
+A word with no value beside it is a flag; one without dashes is known by its place.
+"""
+
+from __future__ import annotations
+
+import argparse
+import dataclasses
+from collections.abc import Callable
+from typing import Any
+
+KEY = "option"
+
+
+@dataclasses.dataclass(frozen=True)
+class Declared:
+    """How the option of a field is written, what it is for, and what argparse is told besides."""
+
+    words: str
+    about: str
+    more: dict[str, Any]
+
+    def add(self, add: Callable[..., object], name: str, default: Any) -> None:
+        """Adds it to a parser, or a group of one, for the field with this name."""
+        word, *values = self.words.split()
+        told: dict[str, Any] = {"help": self.about, **self.more}
+        if values:
+            told.setdefault("metavar", values[0] if len(values) == 1 else tuple(values))
+            if len(values) > 1:
+                told.setdefault("nargs", len(values))
+        if not word.startswith("-"):
+            add(name, metavar=word, **told)
+            return
+        if default is False:
+            told.setdefault("action", "store_true")
+        elif default == ():
+            told.setdefault("action", "append")
+            default = []
+        add(word, dest=name, default=default, **told)
+
+
+def option(words: str, about: str, default: Any = None, **more: Any) -> Any:
+    """A field with an option. `more` is for argparse; a default of () may be given again and
+    again."""
+    return dataclasses.field(default=default, metadata={KEY: Declared(words, about, more)})
+
+
+def add_fields(add: Callable[..., object], kind: Any, *names: str) -> None:
+    """Adds the options of a dataclass: those of these fields, or of all."""
+    fields = {it.name: it for it in dataclasses.fields(kind) if KEY in it.metadata}
+    for name in names or fields:
+        fields[name].metadata[KEY].add(add, name, fields[name].default)
