@@ -38,6 +38,8 @@ class Place:
         self.log = self.folder / "said"
         self.closing = contextlib.ExitStack()
         self.row = 100
+        # what is done about tables that are altered: most cases are about what is told
+        self.on_alter = "tell"
 
     # the server
 
@@ -118,7 +120,10 @@ class Place:
 
     def words(self, *more: str, dsn: str = "", store: Path | None = None) -> list[str]:
         return self.options.words(
-            dsn or self.dsn(), store or self.store, "--slot", self.slot, "--heartbeat", "1", *more
+            dsn or self.dsn(),
+            store or self.store,
+            *("--slot", self.slot, "--heartbeat", "1", "--on-alter", self.on_alter),
+            *more,
         )
 
     def start(

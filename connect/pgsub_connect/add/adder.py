@@ -75,6 +75,10 @@ class Retries:
         self.delay = min(2 * self.delay, LONGEST_DELAY) if self.delay else FIRST_DELAY
         self.next_try = time.monotonic() + self.delay
 
+    def wake(self) -> None:
+        """Something else can be tried, unless an attempt has failed."""
+        self.next_try = self.next_try if self.delay else 0.0
+
     def rest(self) -> None:
         """Nothing can be tried for now."""
         self.next_try = time.monotonic() + LONGEST_DELAY
@@ -155,6 +159,7 @@ class Adder:
             if point and position >= point:
                 self.finish(oid, point)
         is_whole = self.left_out.begin_session(streams)
+        self.retries.wake()
         self.show()
         return is_whole
 

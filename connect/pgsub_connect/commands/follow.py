@@ -39,6 +39,7 @@ from ..store.placing import check_meant
 from ..store.snapshot import part_of
 from ..stream.filter import Filter
 from .arguments import exit_status
+from .arguments.altering import AlterOptions, add_altering
 from .arguments.feed import FeedOptions, add_feed, check_feed
 from .arguments.files import check_files
 from .arguments.needs import check_needs
@@ -58,7 +59,7 @@ ACCEPTED = ("history", "slot", "names", "publication", "values", "missing", "gap
 
 
 @dataclasses.dataclass(frozen=True)
-class Options(ServerOptions, CopyOptions, SizeOptions, FeedOptions, WatchOptions):
+class Options(ServerOptions, CopyOptions, SizeOptions, FeedOptions, WatchOptions, AlterOptions):
     """What is followed, into which store, and for how long."""
 
     store: str = ""
@@ -80,6 +81,7 @@ class Options(ServerOptions, CopyOptions, SizeOptions, FeedOptions, WatchOptions
             self.until,
             self.no_copy,
             self.limits(),
+            self.renewed(),
         )
 
     def copy_settings(self) -> CopySettings:
@@ -98,6 +100,7 @@ def add_options(parser: argparse.ArgumentParser) -> None:
     add("--store", metavar="FILE", default="", help="keep the copies in this store")
     add_sizes(add)
     add_session(add)
+    add_altering(add)
     add_copying(parser)
     add_watching(parser)
     add_feed(parser)

@@ -8,6 +8,8 @@
   No, where a row is older than the earlier reading.
 - A partition was attached to what is published. Had it rows before? No, where each one is later
   than the transaction that has attached it, which holds a lock against all others.
+- A column was added. Has the server filled it in where rows were there? No, where it keeps no value
+  for these, and each row with one is later than the transaction that has written the column.
 
 What can't be asked, or takes too long, stays in doubt, and so it is told: a right or a lock may be
 missing, or the table be large. Nothing is passed on meanwhile.
@@ -15,13 +17,15 @@ missing, or the table be large. Nothing is passed on meanwhile.
 
 from __future__ import annotations
 
+import contextlib
 import dataclasses
 import time
+from collections.abc import Iterator, Sequence
 
 from pgsub_feed.texts import identifier, literal
 
 from ..errors import ServerError, understood
-from ..server.catalog import Catalog
+from ..server.catalog import Catalog, Table
 from ..server.connection import QUICK, Connection
 from .differences import asks_rows
 from .partition_differences import attached, written_partitions
@@ -43,8 +47,7 @@ def resolved(connection: Connection, before: Catalog, now: Catalog) -> Catalog:
     if not (tables or partitions or written):
         return now
     until = time.monotonic() + ALL
-    connection.run(f"SET statement_timeout = '{EACH}s'; SET row_security = off", limit=QUICK)
-    try:
+    with asking(connection):
         since = since_of(connection, before)
         kept = {
             oid
@@ -57,9 +60,41 @@ def resolved(connection: Connection, before: Catalog, now: Catalog) -> Catalog:
             for oid, ways in partitions.items()
             if has(connection, oid, up_to(ways), until) is False
         }
+    return dataclasses.replace(now, kept=frozenset(kept), fresh=frozenset(fresh))
+
+
+@contextlib.contextmanager
+def asking(connection: Connection) -> Iterator[None]:
+    """Around questions to rows: none takes long, and none leaves rows out."""
+    connection.run(f"SET statement_timeout = '{EACH}s'; SET row_security = off", limit=QUICK)
+    try:
+        yield
     finally:
         connection.run("SET statement_timeout = 0; SET row_security = on", limit=QUICK)
-    return dataclasses.replace(now, kept=frozenset(kept), fresh=frozenset(fresh))
+
+
+@understood("columns")
+def are_empty(connection: Connection, table: Table, columns: Sequence[str]) -> bool:
+    """Whether it is certain that columns which were added are null in all rows that were there. (Of
+    a partitioned table each partition would have to be asked, and a column list may have had a
+    column join.)"""
+    if table.kind != "r" or any(it.listed is not None for it in table.parts.values()):
+        return False
+    named = ", ".join(map(literal, columns))
+    rows = connection.rows(
+        "SELECT a.attname, a.xmin::pg_catalog.text, a.atthasmissing FROM pg_catalog.pg_attribute a"
+        f" WHERE a.attrelid = {table.oid} AND a.attname IN ({named})",
+        QUICK,
+    )
+    if any(missing != "f" for _, _, missing in rows):
+        return False
+    filled = (
+        f"r.{identifier(name or '')} IS NOT NULL AND ({up_to([since or ''])})"
+        for name, since, _ in rows
+    )
+    with asking(connection):
+        until = time.monotonic() + ALL
+        return all(has(connection, table.oid, it, until) is False for it in filled)
 
 
 def since_of(connection: Connection, before: Catalog) -> str:

@@ -33,6 +33,8 @@ class About(NamedTuple):
     is_missing: bool = False
     # the name by which no rows are sent any more, so that those that the table had stay
     gone: str = ""
+    # the column that was added, and is no renamed one: null is right where nothing filled it in
+    added: str = ""
 
     def written(self) -> dict[str, Any]:
         """What is kept of it in a file."""
@@ -51,6 +53,7 @@ def about_of(said: dict[str, Any]) -> About:
         str(said.get("lacks", "")),
         bool(said.get("is_missing", False)),
         str(said.get("gone", "")),
+        str(said.get("added", "")),
     )
 
 

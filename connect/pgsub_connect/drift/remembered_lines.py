@@ -163,6 +163,7 @@ ABOUT = fields(
     lacks=name,
     is_missing=flag_of,
     gone=name,
+    added=name,
 )
 
 

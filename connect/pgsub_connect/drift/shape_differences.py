@@ -4,7 +4,7 @@ from __future__ import annotations
 
 from collections.abc import Iterator
 
-from pgsub_feed.relation import Shape
+from pgsub_feed.relation import Column, Shape
 
 from .findings import VALUES, About, Difference
 
@@ -16,7 +16,24 @@ def shape_differences(oid: int, table: str, old: Shape, new: Shape) -> Iterator[
     """What of another definition may have changed values in rows that were there. Columns that only
     went have not."""
     about = About((oid,))
-    return (Difference(VALUES, text, about) for text in shape_texts(table, old, new))
+    for column in added_columns(old, new):
+        text = f"column {column.name} of {table} was added or renamed: rows that were there have nulls in it"
+        is_new = not is_renamed(column, old, new)
+        yield Difference(VALUES, text, about._replace(added=column.name) if is_new else about)
+    yield from (Difference(VALUES, text, about) for text in shape_texts(table, old, new))
+
+
+def added_columns(old: Shape, new: Shape) -> list[Column]:
+    names = {it.name for it in old.columns}
+    return [it for it in new.columns if it.name not in names]
+
+
+def is_renamed(column: Column, old: Shape, new: Shape) -> bool:
+    """Whether a column that has a new name may have had another one. A Relation message has no
+    numbers, so there it may where another column went."""
+    if column.number and all(it.number for it in old.columns):
+        return column.number in {it.number for it in old.columns}
+    return bool(added_columns(new, old))
 
 
 def shape_texts(table: str, old: Shape, new: Shape) -> Iterator[str]:
@@ -30,8 +47,6 @@ def shape_texts(table: str, old: Shape, new: Shape) -> Iterator[str]:
             column.modifier,
         ):
             yield f"column {column.name} of {table} has another type: its values may be written in another way"
-        elif same is None:
-            yield f"column {column.name} of {table} was added or renamed: rows that were there have nulls in it"
     kept = {it.name for it in new.columns}
     if [it.name for it in old.columns if it.name in kept] != [
         it.name for it in new.columns if it.name in was

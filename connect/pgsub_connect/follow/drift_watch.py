@@ -19,6 +19,7 @@ from ..server.connection import QUICK, Connection
 from ..server.session import settle
 from ..store.checkpoint import MISSING
 from ..stream.missed_rows import texts_of
+from .altered import Altered
 from .common import Common
 
 # After how many seconds the file is written where nothing in it is urgent, the publications are
@@ -34,10 +35,12 @@ LOCK_TIMEOUT = "55P03"
 
 
 class Watch:
-    """What was found, and the looks at the server's publications."""
+    """What was found, and the looks at the server's publications. `most`: of how many bytes a table
+    may be that is copied anew unasked where it was altered, None where none is."""
 
-    def __init__(self, common: Common) -> None:
+    def __init__(self, common: Common, most: int | None = None, store: str = "") -> None:
         self.subscription, self.tolerance, self.checkpoint, self.progress, self.remembered = common
+        self.altered = Altered(most, store, self.remembered, self.progress.server)
         self.next_look = self.next_save = 0.0
         # when the publications were looked at last
         self.looked = time.monotonic()
@@ -77,13 +80,15 @@ class Watch:
         return [*found.texts, *([f"and {found.more} more"] if found.more else [])]
 
     def lasting_of(self, kind: str) -> list[str]:
-        """What was found of this kind but for tables whose rows are being added, by which it
-        goes."""
+        """What was found of this kind but for tables whose rows are being added, or may be, by
+        which it goes."""
         going = {oid for oid, why in self.remembered.wanted.items() if not why}
         return [
             it
             for it in self.texts_of(kind)
-            if kind == NAMES or going.isdisjoint(self.remembered.about(it).tables)
+            if kind == NAMES
+            or going.isdisjoint(self.remembered.about(it).tables)
+            and not self.altered.is_open(kind, it)
         ]
 
     def show(self) -> None:
@@ -133,7 +138,22 @@ class Watch:
             for text in remembered.look(now):
                 log.info(text)
         self.keep()
+        self.mend(connection)
         return True
+
+    def mend(self, connection: Connection) -> None:
+        """Has tables that were altered copied anew, and tells what stays."""
+        try:
+            # (whoever alters a table holds a lock on it, for which its size is waited for)
+            connection.run(f"SET lock_timeout = {PATIENCE}", limit=QUICK)
+            gone = self.altered.look(connection)
+        except ServerError as error:
+            if error.sqlstate != LOCK_TIMEOUT:
+                raise
+            return self.altered.look_later(AGAIN)
+        self.checkpoint.accept(gone)
+        if gone or self.tolerance.is_strict:
+            self.show()
 
     def tell_once(self, connection: Connection, now: Catalog) -> None:
         """Tells once in a run what no finding will tell."""
@@ -199,7 +219,7 @@ class Watch:
         self.keep()
         self.show_later()
         now = time.monotonic()
-        wants_look = wants_look or now - self.looked >= AT_LEAST
+        wants_look = wants_look or now - self.looked >= AT_LEAST or self.altered.is_due()
         if wants_look and now >= self.next_look:
             wants_look = not self.look_again(check, position)
             self.next_look = now + (AGAIN if wants_look else LOOK)

@@ -64,26 +64,26 @@ class Follower:
         self.subscription, self.progress, self.snapshots = subscription, progress, snapshots
         self.ending = ending = Ending(progress, settings.until)
         self.noting = noting = Noting(progress.stream, remembered)
-        known = checkpoint, progress, remembered
-        self.watch = watch = Watch(Common(subscription, tolerance, *known))
+        known, store, limits = (checkpoint, progress, remembered), settings.store, settings.limits
+        common = Common(subscription, tolerance, *known)
+        self.watch = watch = Watch(common, settings.on_alter, store)
         self.misses = misses = Misses(tolerance, *known)
         self.confirming = confirming = Confirming(checkpoint, child, progress, noting, misses)
         form = StreamForm(settings.proto, Skipping(settings.skip, *known))
-        self.life = life = FilterLife(
-            settings.limits, child, progress, confirming, watch, form, ending, feeding
-        )
+        told = child, progress, confirming, watch, form, ending
+        self.life = life = FilterLife(limits, *told, feeding)
         schedule = Schedule(settings, progress, confirming, snapshots.hold)
         self.standing = standing = Standing(child, progress)
         upkeep = Upkeep(settings.silence, subscription, life, schedule, standing, ending)
-        store, limits, passing = settings.store, settings.limits, (watch, noting, confirming)
+        passing = watch, noting, confirming
         self.adder = Adder(subscription, store, limits, *known, *passing, snapshots.hold, upkeep)
         repairing = Repairing(limits, *known, *passing, snapshots, upkeep, form)
         self.serve_copies(form)
         others = snapshots, self.adder, repairing
         self.requests = requests = Requests(subscription, *others, upkeep, ending)
         fitting = Fitting(subscription, tolerance, settings.no_copy, checkpoint, watch)
-        told = settings, subscription, tolerance
-        self.start = SessionStart(*told, life, fitting, requests, schedule, ending, recording)
+        begun = settings, subscription, tolerance
+        self.start = SessionStart(*begun, life, fitting, requests, schedule, ending, recording)
         self.delay, self.repeats = Delay(), Repeats(settings.store)
         self.session = Session(
             subscription, self.start, life, requests, schedule, standing, self.delay, ending

@@ -120,6 +120,10 @@ class SessionStart:
         """Has what takes part in a session begin it, which tells what it asks for, and reads the
         settings that it depends on."""
         noting, form = self.life.noting, self.form
+        self.progress.server.note_name(
+            connection.parameter("application_name"),
+            connection.text("SHOW synchronous_standby_names"),
+        )
         # (on another connection: what a session's process has in its caches, it would decode older
         # changes by)
         if not self.life.watch.look_again(self.ending.check_stop, self.confirming.position):
@@ -130,10 +134,6 @@ class SessionStart:
         if self.ending.wants_log_end:
             self.ending.note_log_end(log_end(connection))
         self.schedule.begin_session(sender_timeout(connection))
-        self.progress.server.note_name(
-            connection.parameter("application_name"),
-            connection.text("SHOW synchronous_standby_names"),
-        )
 
     def start_replication(self, connection: Connection, server: Server) -> None:
         """Asks for the changes. A standby rejects that where it has no slots of its own, until it

@@ -291,6 +291,7 @@ def altered(place: Place) -> None:
     told what may be wrong with them."""
     rng = random.Random(f"altering {place.options.seed}")
     for _ in range(ROUNDS):
+        place.on_alter = rng.choice(("refresh", "tell"))
         begin(place, rng)
         child = place.start() if rng.random() < 0.5 else None
         if child:

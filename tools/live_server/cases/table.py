@@ -16,6 +16,7 @@ from . import (
     confining,
     copying,
     feeding,
+    healing,
     keys,
     kinds,
     missing,
@@ -84,7 +85,7 @@ THEMES: dict[str, Sequence[Case]] = {
     "privacy": privacy.CASES,
     "operating": (*operating.CASES, *confining.CASES),
     "waiting": waiting.CASES,
-    "altering": altering.CASES,
+    "altering": (*altering.CASES, *healing.CASES),
 }
 
 
