@@ -76,7 +76,7 @@ class Followed(Case):
         it.check()
         self.addCleanup(it.finish)
         wake = follower.snapshots.requests.wake
-        it.begin(follower.life.filter, follower.confirming.stored, follower.check_stop, wake)
+        it.begin(follower.life.filter, follower.confirming.stored, follower.ending.check_stop, wake)
         return follower
 
     def feeding_of(self, follower: Follower, feed: str | None = None, **settings: Any) -> Feeding:
