@@ -36,6 +36,7 @@ from pgsub_feed.tables.sqlite_files import opened
 
 from .fake_redis import FakeCalls, Stream
 from .feeds import ID, NAME, STOCK, delete, insert, table, truncate, update
+from .settled import options_of
 from .sinks import RedisCase, stock
 from .stores import Store
 from .vectors import logged
@@ -760,6 +761,16 @@ class Ends(RedisCase):
         self.assertEqual(self.run_it(url="", url_file=str(path)), [])
         path.write_text("http://h\n")
         self.fails(UsageError, "its first line is no URL", url="", url_file=str(path))
+
+    def test_the_url_in_the_environment(self) -> None:
+        self.take(insert("1", "a"))
+        words = ["sink", "--feed", str(self.path), "--once"]
+        with mock.patch.dict(os.environ, {"PGSUB_SINK": "redis://:secret@h"}):
+            self.assertEqual((options_of(words).url, self.run_it(url="")), ("", []))
+        self.assertEqual(options_of([*words, "--url-file", "u"]).url_file, "u")
+        self.assertEqual(self.server.rows(), stock(("1", "a")))
+        with mock.patch.dict(os.environ, {"PGSUB_SINK": "http://h"}):
+            self.fails(UsageError, "PGSUB_SINK is no URL", url="")
         self.assertRegex(self.run_it(url="redis://:secret@h")[0], "can be read by every account")
 
     def test_no_library(self) -> None:

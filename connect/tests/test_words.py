@@ -116,6 +116,7 @@ class Words(Quiet):
             "sink http://h --feed f",
             "sink redis://h",
             "sink redis://h --url-file u --feed f",
+            "sink --feed f",
             "sink nats://h --feed f --stream a.b",
             "sink redis://h --feed f --as x",
             "sink redis://h --feed f --base b --store s",

@@ -3,8 +3,8 @@
 from __future__ import annotations
 
 import argparse
-import contextlib
 import dataclasses
+import os
 
 from pgsub_feed import log
 from pgsub_feed.arguments import lsn
@@ -12,11 +12,11 @@ from pgsub_feed.errors import UsageError
 from pgsub_feed.interruption import Check
 from pgsub_feed.ownership import readable_by, readable_text
 from pgsub_feed.program import check_signals
+from pgsub_feed.reader.polling import Parent
 from pgsub_feed.sinks import nats_engine, redis_calls, redis_hashes, redis_streams
 from pgsub_feed.sinks.engine import Engine
 from pgsub_feed.sinks.following import keep
-from pgsub_feed.sinks.redis_engine import Redis
-from pgsub_feed.texts import lsn_text
+from pgsub_feed.sinks.redis_engine import Redis, Writer
 
 from .arguments.files import add_mode, use_mode
 from .arguments.following import FollowingOptions, add_beginning, add_end, add_kept
@@ -30,7 +30,7 @@ write a feed to Redis or to NATS JetStream
   pgsub-connect sink nats://localhost --feed FOLDER                     a message for each change, and a last one for each commit
 
 The LSN is kept with what is written, so each commit takes effect once, and a later run goes on from there. A new one begins with the feed's
-first commit, or with the rows of an export. Values are texts as in the feed.
+first commit, or with the rows of an export. An engine that is away is waited for, unless --once is said. Values are texts as in the feed.
 
 Redis: a hash's fields are the columns that aren't null, and `pgsub:lsn` has the LSN, of the same MULTI. Tables of schemas but `public` are
 called `schema.table`; in these names `%`, `:` and `.` are %25, %3A and %2E, in the values of keys `%` and `:` are %25 and %3A, and null is
@@ -47,8 +47,10 @@ it.
 ENDS = """\
 exit status: 0 ended as asked; 1 a change is larger than the engine takes; 2 usage error; 3 a file can't be used; 4 the engine rejected a
 command for good; 5 the feed lacks commits after those that are written, or another sink has begun, or something else has written what the
-sink keeps; 6 a bug; 7 something is in the way only for now, such as an engine that isn't there: start it again
+sink keeps; 6 a bug; 7 something is in the way only for now, as with --once an engine that isn't there: start it again
 """
+# The variable of the environment that may have the URL.
+ENVIRONMENT = "PGSUB_SINK"
 SCHEMES = {"redis": "redis", "rediss": "redis", "unix": "redis", "nats": "nats", "tls": "nats"}
 
 
@@ -57,9 +59,10 @@ def scheme(url: str) -> str:
 
 
 def url(text: str) -> str:
-    if not scheme(text):
+    # (where there is none, the default is read as if it were one)
+    if text and not scheme(text):
         raise argparse.ArgumentTypeError(
-            f"{text!r} is no URL as redis://localhost:6379/0, rediss://.., unix:///path or nats://localhost"
+            f"{text!r} is no URL as redis://localhost:6379/0, rediss://.., unix:///path, nats://localhost or tls://.."
         )
     return text
 
@@ -81,6 +84,7 @@ class Options(FollowingOptions):
     form: str | None = None
     stream: str | None = None
     until: int | None = None
+    while_input: bool = False
 
 
 def add_options(parser: argparse.ArgumentParser) -> None:
@@ -91,7 +95,8 @@ def add_options(parser: argparse.ArgumentParser) -> None:
         nargs="?",
         type=url,
         default="",
-        help="where to write: redis://[[USER]:PASSWORD@]HOST[:PORT][/NUMBER] or nats://HOST[:PORT]",
+        help="where to write: redis://[[USER]:PASSWORD@]HOST[:PORT][/NUMBER], unix://PATH[?db=NUMBER] or nats://[USER:PASSWORD@]HOST[:PORT];"
+        " by TLS rediss:// or tls:// in their place (default: PGSUB_SINK of the environment)",
     )
     add(
         "--url-file",
@@ -114,14 +119,17 @@ def add_options(parser: argparse.ArgumentParser) -> None:
     )
     add_kept(add, "the engine's disk")
     add_end(parser, "written")
+    add("--while-input", action="store_true", help="end once standard input ends, too")
     add("--until", type=lsn, metavar="LSN", help="end before the first commit above this LSN")
     add_mode(add, "mode of a file that is made")
 
 
 def check_options(parser: argparse.ArgumentParser, options: Options) -> Options:
     """Rejects options that don't go together."""
-    if bool(options.url) == bool(options.url_file):
+    if options.url and options.url_file:
         parser.error("either a URL or --url-file is needed")
+    if not (options.url or options.url_file or os.environ.get(ENVIRONMENT)):
+        parser.error(f"a URL is needed, or --url-file, or {ENVIRONMENT} in the environment")
     return options
 
 
@@ -131,7 +139,7 @@ def settled(options: Options) -> Options:
     return options
 
 
-def engine_of(options: Options, check: Check) -> Engine:
+def engine_of(options: Options, check: Check, writer: Writer) -> Engine:
     kind = scheme(options.url)
     if kind == "nats":
         if options.form:
@@ -141,8 +149,8 @@ def engine_of(options: Options, check: Check) -> Engine:
         raise UsageError("--stream is for NATS")
     calls = redis_calls.Connection(options.url, check)
     if options.form == "streams":
-        return Redis(calls, redis_streams.Streams(calls), check)
-    return Redis(calls, redis_hashes.Hashes(calls, check), check)
+        return Redis(calls, redis_streams.Streams(calls), check, writer)
+    return Redis(calls, redis_hashes.Hashes(calls, check), check, writer)
 
 
 def run(options: Options) -> int:
@@ -163,13 +171,18 @@ def with_url(options: Options) -> Options:
             raise UsageError(
                 f"{options.url_file}: its first line is no URL as redis://.. or nats://.."
             )
+    elif not options.url:
+        options = dataclasses.replace(options, url=os.environ.get(ENVIRONMENT, ""))
+        if not scheme(options.url):
+            raise UsageError(f"{ENVIRONMENT} is no URL as redis://.. or nats://..")
     elif "@" in options.url:
         log.warning("the password on the command line can be read by every account: use --url-file")
     return options
 
 
 def write_feed(options: Options, check: Check) -> None:
-    options = with_url(options)
-    with contextlib.closing(engine_of(options, check)) as engine:
-        keep(options.reading(sorted(set(options.table)), options.until), engine, check)
-        log.info(f"all up to {lsn_text(engine.at)} is written")
+    options, writer = with_url(options), Writer()
+    parent = Parent(check) if options.while_input else None
+    check = parent.check if parent else check
+    reading = options.reading(sorted(set(options.table)), options.until)
+    keep(reading, lambda: engine_of(options, check, writer), check, parent)

@@ -1,15 +1,17 @@
-"""An engine that follows a feed: begun, or gone on with."""
+"""An engine that follows a feed: begun, or gone on with, and waited for where it is away."""
 
 from __future__ import annotations
 
 import contextlib
 import os
+import time
+from collections.abc import Callable
 
 from .. import log
 from ..errors import Passing, Stopped
 from ..interruption import Check, at_most
 from ..reader.following import Following
-from ..reader.polling import Poll
+from ..reader.polling import Parent, Poll
 from ..reader.positions import Noted
 from ..reader.reading import Reading
 from ..reader.segments import Reader, segments
@@ -20,19 +22,100 @@ from .first_rows import base_of
 
 # What was taken may take so long once the end was asked for, in seconds.
 GRACE = 0.7
+# After how many seconds an engine that is away is tried again, at first and at most, how long it
+# has to be there until that is forgotten, and how often it is looked meanwhile whether to end.
+FIRST_DELAY, LONGEST_DELAY, FORGET, STEP = 1.0, 60.0, 60.0, 0.1
 
 
-def keep(reading: Reading, engine: Engine, check: Check) -> None:
-    """Keeps what a feed has. A signal ends it."""
+class Outages:
+    """How long an engine is waited for, and what is told meanwhile: a line once it is away, and
+    one once it is there again."""
+
+    def __init__(self) -> None:
+        self.delay = 0.0
+        self.is_told, self.is_away = False, True
+        # the LSN at which an engine was last, and since when it is there
+        self.at, self.since = 0, time.monotonic()
+
+    def begin(self) -> None:
+        self.since = time.monotonic()
+
+    def note(self, error: Passing, at: int) -> None:
+        """It is away, and was at this LSN; 0 where it wasn't there at all."""
+        lasted = bool(at) and time.monotonic() - self.since > FORGET
+        if lasted or at not in (0, self.at):
+            self.delay, self.is_told = 0.0, False
+        self.at, self.delay = at or self.at, min(2 * self.delay, LONGEST_DELAY) or FIRST_DELAY
+        if not self.is_told:
+            log.warning(
+                f"{error}: it is waited for, and tried again up to each {LONGEST_DELAY:.0f} s"
+            )
+            self.is_told = self.is_away = True
+
+    def tell_there(self, text: str) -> None:
+        if self.is_away:
+            log.info(text)
+        self.is_away = False
+
+    def wait(self, check: Check) -> None:
+        end = time.monotonic() + self.delay
+        while time.monotonic() < end:
+            check()
+            time.sleep(STEP)
+
+
+def keep(
+    reading: Reading, connect: Callable[[], Engine], check: Check, parent: Parent | None = None
+) -> None:
+    """Keeps what a feed has. An engine that is away is waited for, unless this ends by itself. A
+    signal ends it."""
+    outages = Outages()
     try:
-        follow(reading, engine, check)
+        while not is_kept(reading, connect, check, parent, outages):
+            outages.wait(check)
     except Stopped:
         if not reading.follows or reading.until is not None:
             raise Passing("ended before all of it was written") from None
         raise
 
 
-def follow(reading: Reading, engine: Engine, check: Check) -> None:
+def is_kept(
+    reading: Reading,
+    connect: Callable[[], Engine],
+    check: Check,
+    parent: Parent | None,
+    outages: Outages,
+) -> bool:
+    """Keeps what a feed has as long as the engine is there. Returns whether that was to its end."""
+    at = 0
+    try:
+        with contextlib.closing(connect()) as engine:
+            outages.begin()
+            try:
+                follow(reading, engine, check, parent, outages)
+            finally:
+                at = engine.at
+            log.info(f"all up to {lsn_text(at)} is written")
+            return True
+    except Passing as error:
+        if not reading.follows or is_ended(check):
+            raise
+        outages.note(error, at)
+        return False
+
+
+def is_ended(check: Check) -> bool:
+    """Whether the end was asked for."""
+    try:
+        check()
+    except Stopped:
+        return True
+    return False
+
+
+def follow(
+    reading: Reading, engine: Engine, check: Check, parent: Parent | None, outages: Outages
+) -> None:
     wanted = wanted_of(reading, check)
     if reading.name:
         # (first of all, since another sink that is fine is ended once this one has begun)
@@ -40,29 +123,29 @@ def follow(reading: Reading, engine: Engine, check: Check) -> None:
     if not engine.open(wanted):
         with keeping(reading), base_of(reading, check) as base:
             engine.begin(base)
-    following = Following(reading, engine, check, noted_of(reading, engine))
+    following = Following(reading, engine, check, noted_of(reading, engine), parent=parent)
     if reading.follows:
-        log.info(f"{reading.feed} is written from {lsn_text(engine.at)} on")
-    try:
-        following.follow()
-    except Stopped:
-        end(following, engine)
-        if not reading.follows or reading.until is not None:
-            raise
-        return
-    following.finish()
+        outages.tell_there(f"{reading.feed} is written from {lsn_text(engine.at)} on")
+    with contextlib.closing(following.reader):
+        try:
+            following.follow()
+        except Stopped:
+            end(following, engine)
+            if not reading.follows or reading.until is not None:
+                raise
+            return
+        following.finish()
 
 
 def end(following: Following, engine: Engine) -> None:
     """Ends by a signal: has what was taken, and notes what is safe."""
-    with contextlib.closing(following.reader):
-        if not engine.finish(GRACE):
-            # (the next run completes what may be there in part)
-            raise Passing(
-                "the engine doesn't answer, so it isn't known how much of the last commits is written"
-            ) from None
-        with at_most(GRACE):
-            following.note(is_last=True)
+    if not engine.finish(GRACE):
+        # (the next run completes what may be there in part)
+        raise Passing(
+            "the engine doesn't answer, so it isn't known how much of the last commits is written"
+        ) from None
+    with at_most(GRACE):
+        following.note(is_last=True)
 
 
 def noted_of(reading: Reading, engine: Engine) -> Noted | None:

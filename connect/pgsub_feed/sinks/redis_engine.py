@@ -89,12 +89,30 @@ class Form(Holder, Protocol):
         """What removes all that the tables with these names have."""
 
 
+class Writer:
+    """Who writes: a sink, over all its connections. One that has begun later ends it."""
+
+    def __init__(self) -> None:
+        self.began, self.has_begun = time.time(), False
+        where = f"{socket.gethostname()} {os.getpid()} {secrets.token_hex(8)}"
+        self.text = f"{where} {self.began:.3f}".encode()
+
+    def begin(self) -> None:
+        self.has_begun = True
+
+    def is_before(self, other: bytes | None) -> bool:
+        """Whether this one has written already, and another one, by its text, has begun since. (A
+        Redis that goes back to an earlier copy of its own may name one that has ended.)"""
+        with contextlib.suppress(ValueError, IndexError):
+            return self.has_begun and float((other or b"").split()[3]) > self.began
+        return False
+
+
 class Redis:
     """An engine."""
 
-    def __init__(self, calls: Calls, form: Form, check: Check) -> None:
-        self.calls, self.form, self.check = calls, form, check
-        self.owner = f"{socket.gethostname()} {os.getpid()} {secrets.token_hex(8)}".encode()
+    def __init__(self, calls: Calls, form: Form, check: Check, writer: Writer) -> None:
+        self.calls, self.form, self.check, self.writer = calls, form, check, writer
         # the LSN that all is at, as a text too, None before there is one; and where the last commit
         # ends that was taken
         self.at, self.lsn, self.end = 0, None, 0
@@ -142,7 +160,10 @@ class Redis:
 
     def take_over(self) -> None:
         """From now on no other sink's MULTI has an effect."""
-        self.run([("SET", SINK, self.owner)])
+        if self.writer.is_before(owner := self.two(ASK)[1]):
+            self.check_owner(owner)
+        self.writer.begin()
+        self.run([("SET", SINK, self.writer.text)])
         self.lsn = self.both(self.run([WATCH, ASK])[1])[0]
 
     def check_about(self, about: bytes | None) -> None:
@@ -206,7 +227,7 @@ class Redis:
             raise Unfit(
                 f"{self.calls.where}: something else has removed keys of the sink, {SINK} among them"
             )
-        if found != self.owner:
+        if found != self.writer.text:
             told = shortened(found.decode(errors="replace"))
             raise Unfit(
                 f"{self.calls.where}: another sink has begun to write there, {told}, so this one ends"
