@@ -16,6 +16,7 @@ from .errors import Stopped
 from .formats.bulk import Bulk
 from .formats.lines import FORMATS, Format
 from .interruption import Check
+from .known_tables import known_beside
 from .options import add_fields, option
 from .program import Worker, guarded, stop_by_signals
 from .reader.commits import Commit
@@ -40,7 +41,9 @@ after it by the names of the columns. `debezium` has the fields of its envelope.
 prints them. `bulk` has the lines of a bulk request of Elasticsearch and OpenSearch: what each commit leaves of each row that it changes,
 as a document that is indexed or deleted with the commit's LSN as its external version, so the lines can be sent again: what a document has
 already is rejected with 409. Tables without a key are left out, and a TRUNCATE ends it with 5. Of a table that is dropped, or gets another
-name or shape, documents stay as they are until their rows change.
+name or shape, documents stay as they are until their rows change. Of a table with REPLICA IDENTITY FULL, or another index, the key is the
+primary key that the follower of the store has seen. One that gets another is left out, seconds later, until its rows come anew; started
+anew, this names documents by the other one.
 
 exit status: 0 ended as asked; 2 usage error; 3 a file can't be used; 5 the feed lacks commits after that LSN; 6 a bug; 7 something is in
 the way only for now
@@ -66,6 +69,11 @@ class Options:
         "--truncated LSN",
         "with --format bulk: all documents were deleted of the tables that the commit which ends there truncates",
         type=lsn,
+    )
+    store: str = option(
+        "--store FILE",
+        "with --format bulk: the store of the feed, whose follower knows primary keys that no message tells (default: the one beside the feed)",
+        "",
     )
     table: Sequence[str] = option(
         "--table",
@@ -96,15 +104,15 @@ def arguments(words: Sequence[str]) -> Options:
         parser.error("the lines of a commit are printed whole: --table needs another format")
     if options.truncated is not None and options.format != "bulk":
         parser.error("--truncated is for --format bulk")
+    if options.store and options.format != "bulk":
+        parser.error("--store is for --format bulk")
     return options
 
 
-def form_of(options: Options, is_chosen: Callable[[Relation], bool]) -> Format | Bulk:
-    return (
-        Bulk(is_chosen, options.truncated)
-        if options.format == "bulk"
-        else FORMATS[options.format](is_chosen)
-    )
+def form_of(options: Options, is_chosen: Callable[[Relation], bool], check: Check) -> Format | Bulk:
+    if options.format != "bulk":
+        return FORMATS[options.format](is_chosen)
+    return Bulk(is_chosen, options.truncated, known_beside(options.feed, options.store), check)
 
 
 def run(options: Options, check: Check) -> int:
@@ -114,9 +122,8 @@ def run(options: Options, check: Check) -> int:
         if options.undo:
             undo(reader, options.undo[1], chosen, check, put)
         else:
-            print_commits(
-                Poll(reader, options.follow, check), options, form_of(options, chosen), chosen
-            )
+            form = form_of(options, chosen, check)
+            print_commits(Poll(reader, options.follow, check), options, form, chosen)
     return 0
 
 

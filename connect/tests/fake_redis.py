@@ -82,6 +82,9 @@ class FakeRedis:
 
     do_del = do_unlink
 
+    def do_exists(self, *keys: bytes) -> int:
+        return len([it for it in keys if it in self.data])
+
     def do_rename(self, old: bytes, new: bytes) -> Any:
         if old not in self.data:
             return Said("no such key")

@@ -13,8 +13,8 @@ from feed_text import Cell, Column, Definition, Line
 
 from pgsub_connect.drift.remembered import Remembered
 from pgsub_connect.store.export import ExportSettings, export_store
-from pgsub_connect.store.known_keys import KnownKeys
 from pgsub_feed.interruption import never
+from pgsub_feed.known_tables import KnownTables
 from pgsub_feed.reader.following import Following
 from pgsub_feed.reader.reading import Reading
 from pgsub_feed.tables.file import Rows
@@ -50,6 +50,14 @@ def wider(*more: Column) -> Definition:
     return table(columns=[ID, NAME, MORE, *more], letter="f")
 
 
+def look(store: str, lsn: int, *primary: str, oid: int = 1, letter: str = "f") -> None:
+    """The follower of a store looks at the server, which has a table with this primary key."""
+    found = a_table(oid, "stock", a_shape(COLUMNS, letter))
+    remembered = Remembered(store)
+    remembered.begin(a_catalog(dataclasses.replace(found, primary=primary), lsn=lsn))
+    remembered.save()
+
+
 class KeysCase(TablesCase):
     """A feed beside a store."""
 
@@ -59,12 +67,7 @@ class KeysCase(TablesCase):
         Path(self.store + ".connector").touch()
 
     def look(self, *primary: str, oid: int = 1, letter: str = "f") -> None:
-        """The follower looks at the server, which has a table with this primary key."""
-        found = a_table(oid, "stock", a_shape(COLUMNS, letter))
-        found = dataclasses.replace(found, primary=primary)
-        remembered = Remembered(self.store)
-        remembered.begin(a_catalog(found, lsn=self.at))
-        remembered.save()
+        look(self.store, self.at, *primary, oid=oid, letter=letter)
 
     def key(self, name: str = "stock") -> list[str]:
         query = f"SELECT name FROM pragma_table_info('{name}') WHERE pk ORDER BY pk"
@@ -117,7 +120,7 @@ class Made(KeysCase):
         """Another account keeps the tables, say."""
         self.look("id")
         denied = PermissionError(13, "Permission denied")
-        with mock.patch("pgsub_connect.store.known_keys.stamp_of", side_effect=denied):
+        with mock.patch("pgsub_feed.known_tables.stamp_of", side_effect=denied):
             self.take(put("1", "a"))
             told = self.run_it()
         self.assertRegex("".join(told), f"copy.tables: Permission denied: {ALONE}")
@@ -283,7 +286,7 @@ class Later(KeysCase):
         """The feed was faster than the look: the key comes with the first commit after that."""
         self.look(oid=9)
         self.run_it()
-        rows = Rows(self.into, known=KnownKeys(self.store))
+        rows = Rows(self.into, known=KnownTables(self.store))
         with contextlib.closing(rows.db):
             self.follow(rows, put("1", "a"), change(["1", "a"], ["2", "a"]))
             self.follow(rows, put("3", "a"))
@@ -300,7 +303,7 @@ class Later(KeysCase):
     def test_a_key_that_didnt_fit_yet(self) -> None:
         self.look("more")
         self.run_it()
-        rows = Rows(self.into, known=KnownKeys(self.store))
+        rows = Rows(self.into, known=KnownTables(self.store))
         with contextlib.closing(rows.db):
             told = self.follow(rows, put("1", "a"))
             self.assertRegex(told[0], "the stream doesn't have more of the primary key")
@@ -312,7 +315,7 @@ class Later(KeysCase):
     def test_rows_that_dont_fit_it(self) -> None:
         self.look(oid=9)
         self.run_it()
-        rows = Rows(self.into, known=KnownKeys(self.store))
+        rows = Rows(self.into, known=KnownTables(self.store))
         with contextlib.closing(rows.db):
             self.follow(rows, put("1", "a"), put("1", "a"))
             self.look("id")

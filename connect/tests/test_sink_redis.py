@@ -123,8 +123,15 @@ class Changes(RedisCase):
         )
         self.assertEqual(self.server.rows(), stock(("1", "a")))
         self.take(insert("2", "b", of=table(2, "bag")))
-        self.fails(Unfit, r"public.bag \(2\): the table was left out before")
-        self.assertEqual(self.server.at(), "0/100")
+        self.assertRegex(
+            self.run_it()[0], r"public.bag \(2\): the table was left out before.* add "
+        )
+        self.assertEqual((self.server.rows(), self.server.at()), (stock(("1", "a")), "0/200"))
+        self.take(truncate(of=table(2, "bag")), insert("3", "c", of=table(2, "bag")))
+        self.assertEqual(self.run_it(), [])
+        self.take(insert("4", "d", of=table(2, "bag")))
+        self.assertEqual(self.run_it(), [])
+        self.assertEqual(set(self.server.rows()), {"stock:1", "bag:3", "bag:4"})
 
     def test_a_key_is_lost(self) -> None:
         self.after(insert("1", "a"))
@@ -145,7 +152,11 @@ class Changes(RedisCase):
         self.run_it(table=["other"])
         self.assertEqual(set(self.server.rows()), set())
         self.take(insert("3", "a", of=table(2, "other")))
-        self.fails(Unfit, "was left out before", table=["other"])
+        self.assertRegex(self.run_it(table=["other"])[0], "was left out before")
+        self.assertEqual(set(self.server.rows()), set())
+        self.take(truncate(of=table(2, "other")), insert("4", "a", of=table(2, "other")))
+        self.run_it(table=["other"])
+        self.assertEqual(set(self.server.rows()), {"other:4"})
 
     def test_a_commit_that_cant_be_read(self) -> None:
         self.take(insert("1", "a"))
@@ -961,7 +972,7 @@ class AnyTime(RedisCase):
         self.assertEqual(f"{state.at >> 32:X}/{state.at & 0xFFFFFFFF:X}", self.server.at())
         noted = json.loads(self.server.data.get(b"pgsub:tables", b'{"kept":[]}'))["kept"]
         ours = {}
-        for name, it in noted:
+        for name, it, _ in noted:
             begin, oid = name + ":", it["oid"]
             ours.update(
                 {
@@ -971,6 +982,6 @@ class AnyTime(RedisCase):
                 }
             )
         self.assertEqual((ours, len(ours)), (hashes_of(state), len(self.server.rows())))
-        for name, it in noted:
+        for name, it, _ in noted:
             plain = state.definitions[it["oid"]]["table"].replace(":", "%3A").replace(".", "%2E")
             self.assertIn(name, (plain, f"pgsub:old:{it['oid']}"))

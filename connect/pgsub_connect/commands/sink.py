@@ -10,6 +10,7 @@ from pgsub_feed import log
 from pgsub_feed.arguments import lsn
 from pgsub_feed.errors import UsageError
 from pgsub_feed.interruption import Check
+from pgsub_feed.known_tables import KnownTables, known_beside
 from pgsub_feed.ownership import readable_by, readable_text
 from pgsub_feed.program import check_signals
 from pgsub_feed.reader.polling import Parent
@@ -36,6 +37,9 @@ Redis: a hash's fields are the columns that aren't null, and `pgsub:lsn` has the
 called `schema.table`; in these names `%`, `:` and `.` are %25, %3A and %2E, in the values of keys `%` and `:` are %25 and %3A, and null is
 %null. A table's rows go with it to another name or shape, by the names of its columns. What lost its name to another table, as one that was
 dropped does, is `pgsub:old:OID` until it has one again. A sink that is started ends one that writes there. A commit is kept in memory.
+The key of a table with REPLICA IDENTITY FULL, or another index, is the primary key that the follower of the store has seen, the store beside
+the feed, or that of --store. Where it isn't known a new table has that of its identity, and one that is there its own. Rows with equal values
+or null in it are no hashes: then the table is removed and left out, until a TRUNCATE, or `pgsub-connect add`, begins it anew.
 
 A stream's entry has `op` (c, u, d, t; r of a row of the export, x of a change that found no row), `oid`, and the rows `before` and `after`
 as objects; a message has them too, and `end`, where its commit ends, `n`, `schema` and `table`.
@@ -139,7 +143,7 @@ def settled(options: Options) -> Options:
     return options
 
 
-def engine_of(options: Options, check: Check, writer: Writer) -> Engine:
+def engine_of(options: Options, check: Check, writer: Writer, known: KnownTables | None) -> Engine:
     kind = scheme(options.url)
     if kind == "nats":
         if options.form:
@@ -150,7 +154,7 @@ def engine_of(options: Options, check: Check, writer: Writer) -> Engine:
     calls = redis_calls.Connection(options.url, check)
     if options.form == "streams":
         return Redis(calls, redis_streams.Streams(calls), check, writer)
-    return Redis(calls, redis_hashes.Hashes(calls, check), check, writer)
+    return Redis(calls, redis_hashes.Hashes(calls, check), check, writer, known)
 
 
 def run(options: Options) -> int:
@@ -185,4 +189,5 @@ def write_feed(options: Options, check: Check) -> None:
     parent = Parent(check) if options.while_input else None
     check = parent.check if parent else check
     reading = options.reading(sorted(set(options.table)), options.until)
-    keep(reading, lambda: engine_of(options, check, writer), check, parent)
+    known = known_beside(options.feed, options.store)
+    keep(reading, lambda: engine_of(options, check, writer, known), check, parent)

@@ -11,6 +11,7 @@ import sqlite3
 from pgsub_feed import log
 from pgsub_feed.arguments import lsn
 from pgsub_feed.interruption import Check
+from pgsub_feed.known_tables import known_beside
 from pgsub_feed.program import check_signals
 from pgsub_feed.reader.polling import Parent
 from pgsub_feed.tables.first_rows import check_file
@@ -20,7 +21,6 @@ from pgsub_feed.tables.sqlite_files import check_sqlite, failed
 from pgsub_feed.texts import lsn_text
 
 from ..server.publication_setup import names_of
-from ..store.known_keys import KnownKeys
 from .arguments.exit_status import FED
 from .arguments.files import add_mode, check_files, use_mode
 from .arguments.following import FollowingOptions, add_beginning, add_end, add_kept
@@ -50,10 +50,9 @@ class Options(FollowingOptions):
 
     def wanted(self) -> Wanted:
         """What is kept, and the rows that it begins with."""
-        store = self.store or store_at(os.path.abspath(self.feed))
         reading = self.reading(self.table, self.at)
-        keys = KnownKeys(store) if store else None
-        return Wanted(self.into, reading, self.init, self.digests, keys)
+        known = known_beside(self.feed, self.store)
+        return Wanted(self.into, reading, self.init, self.digests, known)
 
 
 def add_options(parser: argparse.ArgumentParser) -> None:

@@ -40,6 +40,11 @@ def commit_time(message: bytes) -> float:
     return EPOCH + number(message[34:42] if message[25:26] == b"B" else message[47:55]) / 1000000
 
 
+def identity_of(body: bytes) -> str:
+    """The replica identity in a Relation message from its OID on; "" where it is none."""
+    return body[4:].partition(b"\0")[2].partition(b"\0")[2][:1].decode(errors="replace")
+
+
 def relation_of(body: bytes) -> Relation | None:
     """A Relation message from its OID on; None where it is none, which the filter tells."""
     try:

@@ -12,9 +12,13 @@ from collections.abc import Callable, Iterator
 
 from .. import log
 from ..errors import Unfit
-from ..reader.commits import Change, Commit
+from ..interruption import Check, never
+from ..known_tables import KnownTables
+from ..reader.commits import Cells, Change, Commit
 from ..reader.segments import Reader
 from ..relation import Relation
+from ..tables.primary_keys import OTHER, UNKNOWN, lacking, other_key
+from ..tables.set_aside import cure
 from ..texts import lsn_text
 from .keys import index_text, key_of, row_text
 from .lines import Objects, Row, compact
@@ -26,16 +30,29 @@ Documents = dict[tuple[str, str], Row]
 
 class Bulk(Objects):
     """The lines of a bulk request. `truncated` is the commit whose TRUNCATEs the user has made in
-    the indexes already."""
+    the indexes already; the store knows the primary keys that no message tells."""
 
-    def __init__(self, is_chosen: Callable[[Relation], bool], truncated: int | None = None) -> None:
+    def __init__(
+        self,
+        is_chosen: Callable[[Relation], bool],
+        truncated: int | None = None,
+        store: KnownTables | None = None,
+        check: Check = never,
+    ) -> None:
         super().__init__(is_chosen, lambda it: "\\x" + it.hex())
-        self.truncated = truncated
+        self.truncated, self.store, self.check = truncated, store, check
         self.told = set[str]()
+        # by OID the names of the columns by which documents were named, and the tables that are
+        # left out since these aren't the key any more
+        self.keys = dict[int, list[str]]()
+        self.given_up = set[int]()
+        # by OID a relation of the commit, and the key that it has there
+        self.found = dict[int, tuple[Relation, list[int]]]()
 
     def print(self, reader: Reader, commit: Commit) -> Iterator[bytes]:
         if commit.end > MOST_VERSION:
             raise Unfit(f"{commit.text()}: the LSN is above the greatest version of a document")
+        self.found.clear()
         left: Documents = {}
         for it in self.changes(reader, commit):
             if not isinstance(it, Change):
@@ -63,14 +80,61 @@ class Bulk(Objects):
             self.told.add(what)
             log.warning(text)
 
+    def key(self, commit: Commit, relation: Relation) -> list[int]:
+        """The numbers of the columns by which documents of a table are named; none where it is left
+        out."""
+        oid = relation.oid
+        if oid in self.found and self.found[oid][0] is relation:
+            return self.found[oid][1]
+        primary, lacks = self.primary(commit, relation)
+        key = key_of(relation, primary)
+        names = [relation.shape.columns[at].name for at in key]
+        was, self.keys[oid] = self.keys.get(oid, names), names
+        self.found[oid] = relation, [] if oid in self.given_up else key
+        if was != names and relation.shape.identity in OTHER:
+            text = (
+                f"it has the key {', '.join(names) or 'none'}, and had {', '.join(was) or 'none'}"
+            )
+            self.give_up(commit, relation, text)
+        elif not key:
+            text = "has no key, so its rows are no documents and are left out"
+            self.tell(relation.text(), f"{commit.text()}: {relation.text()} {text}{lacks}")
+        return self.found[oid][1]
+
+    def primary(self, commit: Commit, relation: Relation) -> tuple[tuple[str, ...], str]:
+        """The columns of the primary key of a table whose replica identity is another, and what is
+        told where there are none."""
+        if relation.shape.identity not in OTHER:
+            return (), ""
+        if self.store is None:
+            return (), UNKNOWN
+        self.store.wait(relation.oid, commit.end, self.check)
+        known = self.store.primary(relation.oid) or ()
+        lacks = lacking(known, relation)
+        return ((), f": {lacks}") if lacks else (other_key(relation, known), "")
+
+    def give_up(self, commit: Commit, relation: Relation, why: str) -> None:
+        """Leaves a table out from this commit on: documents of others have one name with its
+        rows."""
+        if relation.oid in self.given_up:
+            return
+        self.given_up.add(relation.oid)
+        self.found[relation.oid] = relation, []
+        index = index_text(relation.namespace, relation.name)
+        name = f"{relation.namespace or 'pg_catalog'}.{relation.name}"
+        anew = cure(self.store.path if self.store else "", [name])
+        log.warning(
+            f"{commit.text()}: {relation.text()}: {why}, so documents of the index {index} may be wrong, and"
+            f" the table is left out from here on. Its rows come anew by: {anew}"
+        )
+
     def change(self, commit: Commit, it: Change, left: Documents) -> None:
         """Notes what a change leaves of the row before and the row after it."""
         relation = it.relation
-        key = key_of(relation)
-        if not key:
-            text = f"{commit.text()}: {relation.text()} has no key, so its rows are no documents and are left out"
-            return self.tell(relation.text(), text)
+        if not (key := self.key(commit, relation)):
+            return
         index = index_text(relation.namespace, relation.name)
+        is_sure = relation.shape.identity not in OTHER
         for cells, row in ((it.before, None), (it.after, self.row(relation, it.after))):
             if cells is not None:
                 row_id = row_text(key, cells)
@@ -79,16 +143,24 @@ class Bulk(Objects):
                         f"{commit.text()}: {relation.text()} has a key of more than {MOST_ID} bytes, which no document's id has"
                     )
                 # (the last line of a document is where its last change is)
-                left.pop((index, row_id), None)
+                other = left.pop((index, row_id), None)
                 left[index, row_id] = row
-        return None
+                is_taken = row is not None and other is not None
+                if not is_sure and (is_taken or any(cells[at] is None for at in key)):
+                    self.give_up(commit, relation, "rows have null in the key, or equal values")
+                    self.forget(index, left)
+                    return
 
     def truncate(self, commit: Commit, relation: Relation, left: Documents) -> None:
         index = index_text(relation.namespace, relation.name)
-        if key_of(relation) and commit.end != self.truncated:
+        key = key_of(relation, self.primary(commit, relation)[0])
+        if key and commit.end != self.truncated:
             raise Unfit(
                 f"{commit.text()} truncates {relation.text()}, which no line of a bulk request says: delete all documents of the index"
                 f" {index}, and go on with --from {lsn_text(commit.prev)} --truncated {commit.text()}"
             )
+        self.forget(index, left)
+
+    def forget(self, index: str, left: Documents) -> None:
         for it in [it for it in left if it[0] == index]:
             del left[it]

@@ -15,7 +15,7 @@ In a name `%`, `:` and `.` are written as `%25`, `%3A` and `%2E`, in a value `%`
 from __future__ import annotations
 
 import string
-from collections.abc import Sequence
+from collections.abc import Collection, Sequence
 
 from ..reader.commits import Cell
 from ..relation import Relation
@@ -28,14 +28,13 @@ OF_INDEX = frozenset((string.ascii_lowercase + string.digits + "_-").encode())
 OF_TOKEN = frozenset(range(0x21, 0x7F)) - frozenset(b"%.*>")
 
 
-def key_of(relation: Relation) -> list[int]:
-    """The numbers of the columns by which rows are found; none where there is no key."""
+def key_of(relation: Relation, primary: Collection[str] = ()) -> list[int]:
+    """The numbers of the columns by which rows are found; none where there is no key. `primary`:
+    those of the primary key, where that isn't told by the replica identity."""
     columns = relation.shape.columns
-    return (
-        [at for at, it in enumerate(columns) if it.key]
-        if relation.shape.identity in ("d", "i")
-        else []
-    )
+    is_told = relation.shape.identity in ("d", "i")
+    names = primary or [it.name for it in columns if it.key and is_told]
+    return [at for at, it in enumerate(columns) if it.name in names]
 
 
 def full(schema: str) -> str:

@@ -20,12 +20,13 @@ import os
 import secrets
 import socket
 import time
-from collections.abc import Iterable, Iterator, Sequence
+from collections.abc import Collection, Iterable, Iterator, Sequence
 from typing import Any, Optional, Protocol
 
 from ..errors import EngineError, Passing, Stopped, Unfit
 from ..interruption import Check, at_most, never
 from ..json_texts import list_of, parsed, text_of
+from ..known_tables import KnownTables
 from ..reader.commits import Cells, Change, Commit, Missed, TableLine
 from ..reader.following import Read
 from ..texts import lsn_text, parse_lsn, shortened
@@ -61,8 +62,8 @@ class Form(Holder, Protocol):
     def put(self, kept: Kept, row: Cells, n: int, lsn: int) -> None:
         """A row of a base, the n-th of its table."""
 
-    def change(self, kept: Kept, it: Change | Missed, lsn: int) -> None:
-        """A change of the commit that ends there."""
+    def change(self, kept: Kept, it: Change | Missed, commit: Commit) -> None:
+        """A change of a commit."""
 
     def size(self) -> int:
         """About how many commands wait."""
@@ -78,6 +79,9 @@ class Form(Holder, Protocol):
 
     def accepts(self, said: Said) -> bool:
         """Whether one of these commands may end with this error."""
+
+    def unkeyed(self) -> Collection[int]:
+        """The OIDs of tables whose rows that wait don't have a key each."""
 
     def clear(self) -> None:
         """Forgets what waits."""
@@ -111,8 +115,16 @@ class Writer:
 class Redis:
     """An engine."""
 
-    def __init__(self, calls: Calls, form: Form, check: Check, writer: Writer) -> None:
+    def __init__(
+        self,
+        calls: Calls,
+        form: Form,
+        check: Check,
+        writer: Writer,
+        known: KnownTables | None = None,
+    ) -> None:
         self.calls, self.form, self.check, self.writer = calls, form, check, writer
+        self.known = known
         # the LSN that all is at, as a text too, None before there is one; and where the last commit
         # ends that was taken
         self.at, self.lsn, self.end = 0, None, 0
@@ -127,7 +139,8 @@ class Redis:
     # ---- what is there
 
     def open(self, wanted: Wanted) -> bool:
-        self.relations = Relations(wanted.chosen, self.form.is_keyed_only, self.form)
+        is_keyed_only = self.form.is_keyed_only
+        self.relations = Relations(wanted.chosen, is_keyed_only, self.form, self.known, self.check)
         self.about: dict[str, Any] = {
             **wanted.source(),
             "tables": list(wanted.chosen),
@@ -268,7 +281,7 @@ class Redis:
             ]
         self.transact([*form.removals(self.left), ("DEL", LOADING)], self.lsn)
         form.check_new()
-        tables = [it for it in map(self.relations.describe, base.tables()) if it]
+        tables = [it for it in map(self.relations.begin, base.tables()) if it]
         if tables:
             names = json.dumps([it.name for it in tables])
             self.transact([("SET", LOADING, names)], self.lsn)
@@ -283,18 +296,24 @@ class Redis:
             self.form.put(kept, row, n, base.lsn)
             if self.form.size() >= MOST:
                 self.check()
-                self.transact(self.form.commands(), self.lsn)
+                self.transact(self.commands(), self.lsn)
                 self.form.clear()
+                if kept.oid in self.relations.left:
+                    return
 
     # ---- commits
 
     def take(self, commit: Commit, read: Read) -> None:
         described = dict[int, Optional[Kept]]()
         for part in read():
+            oid = part.relation.oid
             if isinstance(part, TableLine):
-                described[part.relation.oid] = self.relations.describe(part.relation)
-            elif kept := described[part.relation.oid]:
-                self.form.change(kept, part, commit.end)
+                described[oid] = self.relations.describe(part.relation, commit.end)
+                continue
+            if not (kept := described[oid]):
+                kept = described[oid] = self.relations.take_up(part, commit.end)
+            if kept:
+                self.form.change(kept, part, commit)
         self.end = commit.end
         if self.form.size() >= MOST:
             self.settle()
@@ -306,7 +325,7 @@ class Redis:
     def write(self, more: Sequence[Command]) -> None:
         """Writes what waits, with its LSN."""
         text = lsn_text(self.end)
-        commands = [*self.form.commands(), *more, ("SET", LSN, text)]
+        commands = [*self.commands(), *more, ("SET", LSN, text)]
         tables = self.relations.text() if self.relations.is_changed else None
         if tables is not None:
             commands.append(("SET", TABLES, tables))
@@ -315,6 +334,12 @@ class Redis:
         if tables is not None:
             self.relations.saved, self.relations.is_changed = tables, False
         self.reach(self.end)
+
+    def commands(self) -> list[Command]:
+        """What writes all that waits, but for tables whose rows don't have a key each."""
+        for oid in self.form.unkeyed():
+            self.relations.give_up(oid)
+        return self.form.commands()
 
     def forget(self) -> None:
         self.form.clear()

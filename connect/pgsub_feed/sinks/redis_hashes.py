@@ -9,13 +9,13 @@ from __future__ import annotations
 
 import dataclasses
 import re
-from collections.abc import Iterable, Iterator, Sequence
+from collections.abc import Collection, Iterable, Iterator, Sequence
 from typing import Union
 
 from ..errors import Unfit
 from ..formats.keys import NULL, row_text
 from ..interruption import Check
-from ..reader.commits import Cell, Cells, Change, Missed
+from ..reader.commits import XID, Cell, Cells, Change, Commit, Missed
 from .redis_calls import Calls, Command, Said, raised, understood
 from .relations import Kept
 
@@ -63,6 +63,12 @@ class Hashes:
     def __init__(self, calls: Calls, check: Check) -> None:
         self.calls, self.check = calls, check
         self.waiting = dict[str, Value]()
+        # of tables whose key may not hold, by OID: keys that no row may have had before what waits,
+        # and the tables in which two rows have one, or null in it
+        self.free = dict[int, set[str]]()
+        self.broken = set[int]()
+        # by OID of a table that was truncated: the LSN at which that commit ends
+        self.emptied = dict[int, int]()
         # what keys that were there before began with
         self.foreign = set[str]()
 
@@ -71,6 +77,9 @@ class Hashes:
 
     def clear(self) -> None:
         self.waiting.clear()
+        self.free.clear()
+        self.broken.clear()
+        self.emptied.clear()
 
     def watched(self) -> list[str]:
         return []
@@ -87,18 +96,47 @@ class Hashes:
     def put(self, kept: Kept, row: Cells, n: int, lsn: int) -> None:
         self.add(kept, row)
 
-    def add(self, kept: Kept, cells: Cells) -> None:
-        self.waiting[key_text(kept, cells)] = fields_of(kept, cells)
+    def add(self, kept: Kept, cells: Cells, is_repair: bool = False) -> None:
+        key = key_text(kept, cells)
+        if kept.primary and not is_repair:
+            if self.waiting.get(key) is not None or any(cells[at] is None for at in kept.key):
+                self.broken.add(kept.oid)
+            elif key not in self.waiting:
+                self.free.setdefault(kept.oid, set()).add(key)
+        self.waiting[key] = fields_of(kept, cells)
 
-    def change(self, kept: Kept, it: Change | Missed, lsn: int) -> None:
+    def unkeyed(self) -> Collection[int]:
+        """(All that is there is this sink's, so it is as it was when these came to wait.)"""
+        for oid, free in self.free.items():
+            if oid not in self.broken and self.has_any(list(free)):
+                self.broken.add(oid)
+        self.free.clear()
+        return [*self.broken]
+
+    def has_any(self, keys: Sequence[str]) -> bool:
+        """Whether one of these keys is there."""
+        parts = [keys[at : at + KEYS] for at in range(0, len(keys), KEYS)]
+        said = self.calls.run([("EXISTS", *it) for it in parts])
+        for it in said:
+            if isinstance(it, Said):
+                raise raised(it, self.calls.where)
+        with understood(self.calls.where):
+            return sum(map(int, said)) > 0
+
+    def change(self, kept: Kept, it: Change | Missed, commit: Commit) -> None:
         if isinstance(it, Missed):
             return
         if it.op == "t":
             self.remove(kept)
+            self.free.pop(kept.oid, None)
+            self.broken.discard(kept.oid)
+            self.emptied[kept.oid] = commit.end
         if it.before is not None:
             self.waiting[key_text(kept, it.before)] = None
         if it.after is not None:
-            self.add(kept, it.after)
+            # (what the copy had of a row that is repaired may never have been here)
+            is_repair = commit.xid == XID and self.emptied.get(kept.oid) != commit.end
+            self.add(kept, it.after, is_repair)
 
     def rows(self, name: str) -> dict[str, Stored | Fields]:
         """All rows of a table, as they are with what waits."""
@@ -164,7 +202,9 @@ class Hashes:
                 if is_plain
                 else self.rekeyed(old, new, value)
             )
-            if other in moved:
+            if new.primary and (other in moved or NULL in other.split(":")):
+                self.broken.add(new.oid)
+            elif other in moved:
                 text = f"two rows have one key, {other}, since the server didn't send what is in it: begin anew"
                 raise Unfit(f"{new.relation.text()}: {text}")
             moved[other] = left

@@ -3,10 +3,10 @@ ends and its number in there."""
 
 from __future__ import annotations
 
-from collections.abc import Iterable, Iterator
+from collections.abc import Collection, Iterable, Iterator
 
 from ..errors import Unfit
-from ..reader.commits import Cells, Change, Missed
+from ..reader.commits import Cells, Change, Commit, Missed
 from .entries import base_entry, entry
 from .redis_calls import Calls, Command, Said, raised, understood
 from .relations import Kept
@@ -41,8 +41,8 @@ class Streams:
     def put(self, kept: Kept, row: Cells, n: int, lsn: int) -> None:
         self.add(kept, lsn, n, base_entry(kept.relation, row))
 
-    def change(self, kept: Kept, it: Change | Missed, lsn: int) -> None:
-        self.add(kept, lsn, it.n, entry(it))
+    def change(self, kept: Kept, it: Change | Missed, commit: Commit) -> None:
+        self.add(kept, commit.end, it.n, entry(it))
 
     def watched(self) -> list[str]:
         return list(self.first)
@@ -77,6 +77,9 @@ class Streams:
 
     def accepts(self, said: Said) -> bool:
         return False
+
+    def unkeyed(self) -> Collection[int]:
+        return ()
 
     def commands(self) -> list[Command]:
         return list(self.waiting)

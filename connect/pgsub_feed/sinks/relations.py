@@ -13,26 +13,32 @@ import json
 from typing import Any, Protocol
 
 from .. import log
-from ..errors import Unfit
 from ..formats.keys import key_of, table_text
-from ..json_texts import object_of, oid_of, parsed, text_of
+from ..interruption import Check, never
+from ..json_texts import list_of, object_of, oid_of, parsed, text_of
+from ..known_tables import KnownTables
+from ..reader.commits import Change, Missed
 from ..reader.lines import read_relation
 from ..relation import Relation
 from ..tables.names import names_of
+from ..tables.primary_keys import OTHER, UNKNOWN, lacking, other_key
 from ..tables.schema import relation_text
+from ..tables.set_aside import cure
 
 ASIDE = "pgsub:old:"
 # A table whose name is what the engine's own keys begin with.
 OWN, INSTEAD = "pgsub", "%70gsub"
-LEFT = "the table was left out before, by its name or as it had no key, so rows of it are missing: begin anew"
+LEFT = "the table was left out before, by its name or as it had no key, so rows of it are missing"
 
 
 @dataclasses.dataclass(frozen=True)
 class Kept:
-    """A table: its definition and its name."""
+    """A table: its definition and its name. `primary`: the columns of its primary key, where its
+    replica identity is another, so that no message tells when it doesn't hold any more."""
 
     relation: Relation
     name: str
+    primary: tuple[str, ...] = ()
 
     @property
     def oid(self) -> int:
@@ -45,7 +51,7 @@ class Kept:
     @functools.cached_property
     def key(self) -> list[int]:
         """The numbers of the columns of its key."""
-        return key_of(self.relation)
+        return key_of(self.relation, self.primary)
 
     @functools.cached_property
     def keys(self) -> list[str]:
@@ -67,11 +73,20 @@ class Holder(Protocol):
 
 
 class Relations:
-    """The tables. `is_keyed_only`: those without a key are left out."""
+    """The tables. `is_keyed_only`: those without a key are left out. `known`: the store knows the
+    primary keys that no message tells."""
 
-    def __init__(self, chosen: tuple[str, ...], is_keyed_only: bool, holder: Holder) -> None:
+    def __init__(
+        self,
+        chosen: tuple[str, ...],
+        is_keyed_only: bool,
+        holder: Holder,
+        known: KnownTables | None = None,
+        check: Check = never,
+    ) -> None:
         self.chosen, self.is_keyed_only, self.holder = set(chosen), is_keyed_only, holder
-        self.told = set[int]()
+        self.known, self.check = known, check
+        self.told = set[tuple[int, str]]()
         self.load("")
 
     def load(self, text: str) -> None:
@@ -79,15 +94,19 @@ class Relations:
         found: dict[str, Any] = object_of(parsed(text)) if text else {"kept": [], "left": []}
         self.saved = text
         self.left: set[int] = {oid_of(it) for it in found["left"]}
+        # those of them that could be kept by now, but for their rows from before
+        self.late = set[int]()
         self.kept = dict[int, Kept]()
         self.names = dict[str, int]()
         self.is_changed = False
-        for name, definition in found["kept"]:
-            self.put(Kept(read_relation(definition), text_of(name)))
+        for name, definition, *more in found["kept"]:
+            primary = tuple(text_of(it) for part in more for it in list_of(part))
+            self.put(Kept(read_relation(definition), text_of(name), primary))
 
     def text(self) -> str:
         kept = ",".join(
-            f"[{json.dumps(it.name)},{relation_text(it.relation)}]" for it in self.kept.values()
+            f"[{json.dumps(it.name)},{relation_text(it.relation)},{json.dumps(it.primary)}]"
+            for it in self.kept.values()
         )
         return f'{{"kept":[{kept}],"left":{json.dumps(sorted(self.left))}}}'
 
@@ -98,17 +117,29 @@ class Relations:
         self.kept[kept.oid], self.names[kept.name] = kept, kept.oid
         self.is_changed = True
 
-    def describe(self, relation: Relation) -> Kept | None:
-        """The table of a relation; None where it is left out."""
+    def describe(self, relation: Relation, lsn: int) -> Kept | None:
+        """The table of a relation, as a commit that ends at this LSN has it; None where it is left
+        out."""
         kept = self.kept.get(relation.oid)
-        if kept and kept.relation == relation and not kept.name.startswith(ASIDE):
+        return self.keep(relation, kept, self.primary(relation, kept, lsn))
+
+    def begin(self, relation: Relation) -> Kept | None:
+        """That of an export, which has a key, and doesn't say whether it is the identity's."""
+        key = tuple(relation.shape.columns[at].name for at in key_of(relation))
+        return self.keep(relation, None, key or self.primary(relation, None, 0))
+
+    def keep(self, relation: Relation, kept: Kept | None, primary: tuple[str, ...]) -> Kept | None:
+        is_same = kept and (kept.relation, kept.primary) == (relation, primary)
+        if kept and is_same and not kept.name.startswith(ASIDE):
             return kept
-        if self.leaves_out(relation):
+        self.late.discard(relation.oid)
+        if self.leaves_out(relation, primary):
             self.leave_out(relation, kept)
             return None
         if relation.oid in self.left:
-            raise Unfit(f"{relation.text()}: {LEFT}")
-        new = Kept(relation, self.claim(relation))
+            self.late.add(relation.oid)
+            return None
+        new = Kept(relation, self.claim(relation), primary)
         if kept:
             self.holder.carry(kept, new)
         else:
@@ -116,16 +147,65 @@ class Relations:
         self.put(new)
         return new
 
-    def leaves_out(self, relation: Relation) -> bool:
+    def take_up(self, it: Change | Missed, lsn: int) -> Kept | None:
+        """A table that was left out and wouldn't be any more, once a TRUNCATE leaves no row of it
+        that would be missing."""
+        relation = it.relation
+        if relation.oid in self.late:
+            if isinstance(it, Change) and it.op == "t":
+                self.left.discard(relation.oid)
+                return self.describe(relation, lsn)
+            self.tell(relation, LEFT, f"{LEFT}. {self.anew(relation)}")
+        return None
+
+    def primary(self, relation: Relation, kept: Kept | None, lsn: int) -> tuple[str, ...]:
+        """The columns of the primary key of a table whose replica identity is another, as the store
+        knows it: where that doesn't fit, and where it knows none, those that the table has, as long
+        as they hold."""
+        if relation.shape.identity not in OTHER or not self.is_keyed_only:
+            return ()
+        oid, columns = relation.oid, {it.name for it in relation.shape.columns}
+        has = kept.primary if kept and columns.issuperset(kept.primary) else ()
+        if self.known is None:
+            return has
+        self.known.look()
+        if not kept and oid not in self.left:
+            self.known.wait(oid, lsn, self.check)
+        found = self.known.primary(oid)
+        lacks = lacking(found or (), relation)
+        if found and not lacks:
+            return other_key(relation, found)
+        if found is not None and found != has:
+            text = lacks or "there is no primary key on the server any more"
+            self.tell(relation, text, text + (f": {', '.join(has)} stays the key" if has else ""))
+        return has
+
+    def leaves_out(self, relation: Relation, primary: tuple[str, ...]) -> bool:
         if self.chosen and not self.chosen & names_of(relation.namespace, relation.name):
             return True
-        is_bag = self.is_keyed_only and not key_of(relation)
-        if is_bag and relation.oid not in self.told:
-            self.told.add(relation.oid)
-            log.warning(
-                f"{relation.text()} has no key, so its rows can't be hashes and are left out: --as streams has its changes"
-            )
+        is_bag = self.is_keyed_only and not key_of(relation, primary)
+        if is_bag:
+            text = "has no key, so its rows can't be hashes and are left out: --as streams has its changes"
+            self.tell(relation, "bag", text + ("" if self.known else UNKNOWN), " ")
         return is_bag
+
+    def give_up(self, oid: int) -> None:
+        """Leaves out a table whose primary key doesn't hold: its rows can't be told apart by it."""
+        kept = self.kept[oid]
+        text = f"rows have null in the key {', '.join(kept.keys)}, or equal values"
+        text = f"{text}, so they can't be hashes and are left out"
+        self.tell(kept.relation, text, f"{text}. {self.anew(kept.relation)}")
+        self.leave_out(kept.relation, kept)
+
+    def anew(self, relation: Relation) -> str:
+        name = f"{relation.namespace or 'pg_catalog'}.{relation.name}"
+        return f"Its rows come anew by: {cure(self.known.path if self.known else '', [name])}"
+
+    def tell(self, relation: Relation, what: str, text: str, sign: str = ": ") -> None:
+        """Tells something of a table once."""
+        if (relation.oid, what) not in self.told:
+            self.told.add((relation.oid, what))
+            log.warning(f"{relation.text()}{sign}{text}")
 
     def leave_out(self, relation: Relation, kept: Kept | None) -> None:
         if kept:
@@ -142,7 +222,7 @@ class Relations:
         holder = self.names.get(name, relation.oid)
         if holder != relation.oid:
             old = self.kept[holder]
-            new = Kept(old.relation, f"{ASIDE}{holder}")
+            new = dataclasses.replace(old, name=f"{ASIDE}{holder}")
             self.holder.carry(old, new)
             self.put(new)
         return name

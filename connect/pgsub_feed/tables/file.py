@@ -7,6 +7,7 @@ import sqlite3
 
 from .. import log
 from ..errors import FileError, Passing, Unfit
+from ..known_tables import KnownTables
 from ..reader.commits import Head
 from ..reader.lines import read_relation
 from ..relation import Relation
@@ -15,7 +16,7 @@ from .digests import FORMAT as WITH_DIGESTS
 from .digests import SCHEMA as DIGESTS_SCHEMA
 from .digests import Digests, has_digests
 from .names import OLD, POSITION, TABLES, distinct_name, folded, names_of, told_columns
-from .primary_keys import Keys, Known, inherited, primary_in
+from .primary_keys import Keys, inherited, primary_in
 from .reshape import LOOSE, carry, loosen, sources
 from .schema import (
     FEED,
@@ -42,7 +43,9 @@ class Rows:
     """The file, open for writing. All that is done to it is in a transaction, which `settle`
     commits with an LSN."""
 
-    def __init__(self, path: str, init: Init | None = None, known: Known | None = None) -> None:
+    def __init__(
+        self, path: str, init: Init | None = None, known: KnownTables | None = None
+    ) -> None:
         self.path, self.init, self.keys = path, init, Keys(known)
         self.db = sqlite3.connect(path, timeout=BUSY, isolation_level=None, cached_statements=2000)
         self.asides = Asides(self.db, path)

@@ -8,6 +8,7 @@ import os
 from .. import log
 from ..errors import Passing, Stopped, Unfit
 from ..interruption import Check
+from ..known_tables import KnownTables
 from ..reader.commits import Commit
 from ..reader.following import Following, Read
 from ..reader.polling import Parent
@@ -17,7 +18,6 @@ from ..texts import lsn_text
 from .applier import Applier
 from .file import Rows
 from .first_rows import keeping, make
-from .primary_keys import Known
 from .rewind import walk
 from .set_aside import shown_asides
 from .user_sql import Init
@@ -35,7 +35,7 @@ class Wanted:
     reading: Reading
     init: str | None = None
     has_digests: bool = False
-    keys: Known | None = None
+    keys: KnownTables | None = None
 
 
 class Tables:

@@ -12,32 +12,22 @@ later than what the stream says by now.
 from __future__ import annotations
 
 from collections.abc import Sequence
-from typing import Protocol
 
 from .. import log
+from ..known_tables import KnownTables
 from ..relation import Relation
 from .names import name_columns
 from .table import Kept
 
 # The replica identities that may be another key, or none.
 OTHER = ("f", "i")
-
-
-class Known(Protocol):
-    """What a store knows of primary keys."""
-
-    def look(self) -> None:
-        """Looks whether it knows more by now."""
-
-    def of(self, oid: int) -> tuple[str, ...] | None:
-        """The columns of a table's primary key, none where it has none; None of a table that it
-        doesn't know."""
+UNKNOWN = ". (Its primary key isn't known without the store of the feed: name it by --store)"
 
 
 class Keys:
     """Those that a store knows, none where there is no store."""
 
-    def __init__(self, store: Known | None) -> None:
+    def __init__(self, store: KnownTables | None) -> None:
         self.store = store
         # by OID the tables that were made without a key that the store may know later: the key that
         # it knew then, None of a table that it didn't know
@@ -52,7 +42,7 @@ class Keys:
         if self.store is None:
             return None
         self.store.look()
-        known = self.store.of(relation.oid)
+        known = self.store.primary(relation.oid)
         key = primary_key(known or (), relation)
         if not key and known != ():
             self.unsure[relation.oid] = known
@@ -63,7 +53,7 @@ class Keys:
         if self.store is None or relation.oid not in self.unsure:
             return False
         self.store.look()
-        return self.unsure[relation.oid] != self.store.of(relation.oid)
+        return self.unsure[relation.oid] != self.store.primary(relation.oid)
 
 
 def primary_key(known: tuple[str, ...], relation: Relation) -> tuple[str, ...]:
@@ -71,14 +61,18 @@ def primary_key(known: tuple[str, ...], relation: Relation) -> tuple[str, ...]:
     its table; none where there is no such key, or the relation lacks a column of it."""
     if relation.shape.identity not in OTHER:
         return ()
-    names = {it.name for it in relation.shape.columns}
-    if lacks := [it for it in known if it not in names]:
-        log.warning(
-            f"{relation.text()}: the stream doesn't have {', '.join(lacks)} of the primary key that"
-            " the server has: the table is made without it"
-        )
+    if lacks := lacking(known, relation):
+        log.warning(f"{relation.text()}: {lacks}: the table is made without it")
         return ()
     return known
+
+
+def lacking(known: tuple[str, ...], relation: Relation) -> str:
+    """Which columns of its primary key a relation lacks, as where the catalog is newer; "" where it
+    has them all."""
+    names = {it.name for it in relation.shape.columns}
+    lacks = ", ".join(it for it in known if it not in names)
+    return lacks and f"the stream doesn't have {lacks} of the primary key that the server has"
 
 
 def primary_in(relation: Relation, places: Sequence[int]) -> tuple[str, ...]:

@@ -1,0 +1,139 @@
+"""What the store beside a feed knows of the server's tables that no Relation message tells: their
+primary keys and indexes, as its follower has seen them in the catalog at its last look.
+
+They are in the first line of the file `STORE.tables`, which the follower replaces.
+"""
+
+from __future__ import annotations
+
+import os
+import time
+from typing import Any, NamedTuple
+
+from . import log
+from .interruption import Check
+from .json_texts import LARGEST, Unreadable, flag_of, list_of, lsn_of, object_of, oid_of
+from .json_texts import open_plain, parsed, text_of
+from .tables.set_aside import store_at
+
+FORMAT = 1
+# For how long a look at the server is waited for, in seconds, and how often it is asked for.
+PATIENCE, OFTEN = 20.0, 0.1
+# Which file it is, when it was written, and its length.
+Stamp = tuple[int, int, int]
+
+
+class Index(NamedTuple):
+    """An index of the server's: its columns, and whether each is in descending order. `why` says
+    why tables of SQLite can't have it, "" where they can."""
+
+    oid: int
+    name: str
+    columns: tuple[tuple[str, bool], ...]
+    why: str = ""
+
+
+class KnownTable(NamedTuple):
+    """The columns of a table's primary key, none where it has none, and its indexes."""
+
+    primary: tuple[str, ...]
+    indexes: tuple[Index, ...] = ()
+
+
+class KnownTables:
+    """Those that a store knows. `count`: how often something else was read."""
+
+    def __init__(self, store: str) -> None:
+        self.path, self.file = store, store + ".tables"
+        self.stamp: Stamp | None = None
+        self.first, self.count = b"", 0
+        # the LSN of the last look: nothing that was committed above it was seen
+        self.lsn = 0
+        self.tables = dict[int, KnownTable]()
+        self.told = set[str]()
+        # what the file was when a look was waited for in vain
+        self.waited: Stamp | None = None
+
+    def primary(self, oid: int) -> tuple[str, ...] | None:
+        """The columns of a table's primary key, none where it has none; None of a table that isn't
+        known."""
+        return self.tables[oid].primary if oid in self.tables else None
+
+    def indexes(self, oid: int) -> tuple[Index, ...]:
+        return self.tables[oid].indexes if oid in self.tables else ()
+
+    def look(self) -> None:
+        """Reads the file, where it was written anew. (Another account may be denied.)"""
+        try:
+            if (stamp := stamp_of(self.file)) == self.stamp:
+                return
+            self.stamp = stamp
+            with open(open_plain(self.file), "rb") as file:
+                first = file.readline(LARGEST)
+            # (what follows are Relation messages, which tell none of it)
+            if first == self.first:
+                return
+            said = object_of(parsed(first, LARGEST))
+            if said.get("format") != FORMAT:
+                raise Unreadable("of another version of this program")
+            # (before rows are copied it has no tables)
+            found = map(object_of, list_of(said.get("tables", [])))
+            tables, lsn = {oid_of(it["oid"]): table_of(it) for it in found}, said.get("lsn", "0/0")
+            self.lsn, self.tables = lsn_of(lsn), tables
+            self.first, self.count = first, self.count + 1
+        except FileNotFoundError:
+            return
+        except OSError as error:
+            self.tell(f"{self.file}: {error.strerror}")
+        except (KeyError, ValueError) as error:
+            self.tell(f"{self.file}: not a file of tables: {error}")
+
+    def wait(self, oid: int, lsn: int, check: Check) -> None:
+        """Waits until a table is known, as long as the server wasn't looked at after this LSN: its
+        follower does so once the stream has a new table. (Where none runs nothing is known soon.)
+        """
+        self.look()
+        end = time.monotonic() + PATIENCE
+        while oid not in self.tables and self.lsn < lsn and self.stamp not in (None, self.waited):
+            check()
+            if time.monotonic() > end:
+                self.waited = self.stamp
+                return
+            time.sleep(OFTEN)
+            self.look()
+
+    def tell(self, text: str) -> None:
+        """Tells once why nothing is known."""
+        if text not in self.told:
+            self.told.add(text)
+            log.warning(f"{text}: tables get the keys of their replica identities alone")
+
+
+def known_beside(feed: str, store: str = "") -> KnownTables | None:
+    """Those that a store knows, where none is named the one whose feed is in this folder; None
+    where there is none."""
+    store = store or store_at(os.path.abspath(feed))
+    return KnownTables(store) if store else None
+
+
+def table_of(said: dict[str, Any]) -> KnownTable:
+    """(An earlier version of this program didn't keep these.)"""
+    return KnownTable(
+        tuple(text_of(it) for it in list_of(said.get("primary", []))),
+        tuple(index_of(list_of(it)) for it in list_of(said.get("indexes", []))),
+    )
+
+
+def index_of(said: list[Any]) -> Index:
+    oid, name, columns, why = said
+    return Index(oid_of(oid), text_of(name), tuple(map(column_of, list_of(columns))), text_of(why))
+
+
+def column_of(said: Any) -> tuple[str, bool]:
+    name, descends = list_of(said)
+    return text_of(name), flag_of(descends)
+
+
+def stamp_of(path: str) -> Stamp:
+    it = os.stat(path)
+    return it.st_ino, it.st_mtime_ns, it.st_size
