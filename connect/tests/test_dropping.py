@@ -137,6 +137,7 @@ class Dropping(Quiet):
             "copy.db.tables.new",
             "copy.db.copying.pgsub-new",
             "copy.db.pgsub-new",
+            "copy.db.status",
             "copy.db.request",
         ]
         for name in (*kept, *own):

@@ -441,7 +441,8 @@ class Kept(FeedCase):
         self.read("index", 0x250)
         self.keeper().tend(100.0)
         shown = status_fields(self.progress, 0.0, 0.0)
-        self.assertEqual(shown["readers"], {"index": {"lsn": "0/250", "lag_bytes": 0x3B0}})
+        reader = {"lsn": "0/250", "lag_bytes": 0x3B0, "still_seconds": 0}
+        self.assertEqual(shown["readers"], {"index": reader})
         self.assertEqual(
             [base for base, _ in segments(str(self.path))], [0x200, 0x300, 0x400, 0x500]
         )

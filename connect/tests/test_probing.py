@@ -6,13 +6,24 @@ import contextlib
 import io
 import json
 import os
+import pty
+import signal
+import sys
 import tempfile
+import threading
 import time
 import unittest
+from unittest import mock
 
 from pgsub_connect import cli
+from pgsub_connect.commands import status as command
 from pgsub_connect.status.progress import Progress
+from pgsub_connect.status.files import STATUS, Reporter, ReportSettings
 from pgsub_connect.status.status_file import status_fields, time_text
+from pgsub_feed.errors import Stopped
+from pgsub_feed.version import VERSION
+
+COMMAND = os.path.join(os.path.dirname(os.path.dirname(__file__)), "pgsub-connect")
 
 
 class Probes(unittest.TestCase):
@@ -20,18 +31,15 @@ class Probes(unittest.TestCase):
         folder = tempfile.TemporaryDirectory()
         self.addCleanup(folder.cleanup)
         self.path = folder.name + "/status"
-        progress = Progress()
-        progress.state = "following"
-        progress.stream.note_confirmed(0x500, 0x500)
-        self.status: dict[str, object] = {
-            **status_fields(progress, 0.0, time.time()),
-            "lag_bytes": 5000,
-            "lag_seconds": 12.5,
-        }
+        self.progress = Progress()
+        self.progress.state = "following"
+        self.progress.stream.note_confirmed(0x500, 0x500)
+        self.status: dict[str, object] = {"lag_bytes": 5000, "lag_seconds": 12.5}
 
     def probe(self, *words: str, status: object = None) -> tuple[int, str]:
+        fields = status_fields(self.progress, 0.0, time.time(), "/s/copy.db")
         with open(self.path, "w", encoding="utf-8") as file:
-            json.dump(self.status if status is None else status, file)
+            json.dump({**fields, **self.status} if status is None else status, file)
         return self.run_it("--status-file", self.path, *words)
 
     def run_it(self, *words: str) -> tuple[int, str]:
@@ -40,7 +48,7 @@ class Probes(unittest.TestCase):
         return code, out.getvalue()
 
     def test_fine(self) -> None:
-        code, text = self.probe("--max-lag", "60s", "--max-lag", "10MB", "--strict")
+        code, text = self.probe("--max-lag", "60s", "--max-lag", "10MB")
         self.assertEqual(code, 0)
         self.assertRegex(
             text,
@@ -93,21 +101,77 @@ class Probes(unittest.TestCase):
             self.status["state"] = state
             found, text = self.probe()
             self.assertEqual(found, code, state)
-            self.assertEqual("last error: a\\x1b[2J b" in text, bool(code))
+            self.assertEqual("last error: a\\x1b[2J b" in text, state != "copying")
+
+    def fails(self, *told: str) -> None:
+        """The probe fails, and tells these."""
+        code, text = self.probe()
+        self.assertEqual(code, 1)
+        for it in told:
+            self.assertIn(it, text)
 
     def test_what_was_found(self) -> None:
-        self.status["found"] = {"values": "x", "names": "y"}
-        self.assertEqual(self.probe()[0], 0)
-        code, text = self.probe("--strict")
-        self.assertEqual((code, "found: names, values" in text), (1, True))
+        self.progress.findings.note({"values": "t.x has old values", "history": "y"})
+        self.fails(
+            "found: history, values (following, ",
+            "\n  values: t.x has old values: `pgsub-connect add --store /s/copy.db --table T`, or",
+            "\n  history: y: `pgsub-connect verify --repair --store /s/copy.db`, once it was started with --accept history\n",
+        )
 
     def test_tables_that_are_set_aside(self) -> None:
-        self.status["tables_aside"] = {"public.t": "since 0/500: why", "s.u": "since 0/400: why"}
-        code, text = self.probe()
-        self.assertEqual(
-            (code, "set aside in the tables, `pgsub-connect add` them: public.t, s.u" in text),
-            (1, True),
+        self.progress.feed.note_tables_aside(
+            {"public.t": "since 0/500: why", "s.u": "since 0/400: why"}
         )
+        self.fails(
+            "set aside in the tables, `pgsub-connect add` them: public.t, s.u",
+            "\n  `pgsub-connect add --store /s/copy.db --table public.t --table s.u`\n",
+            "\n  public.t: since 0/500: why\n",
+        )
+
+    def test_tables_that_arent_there_yet(self) -> None:
+        self.progress.feed.note_tables(os.path.dirname(self.path))
+        self.assertEqual(self.probe()[0], 0)
+        self.progress.feed.note_tables(self.path + ".rows")
+        self.fails(f"{self.path}.rows isn't there yet", ": wait until its first rows are copied")
+        self.progress.feed.note_tables_error("t: its key is gone")
+        self.fails("the tables don't follow any more", ": t: its key is gone; then start")
+
+    def test_readers_that_stand_still(self) -> None:
+        feed, now = self.progress.feed, time.time()
+        for moves, lsns, told in (
+            (0, (0x400, 0x500), ()),
+            (61, (0x400, 0x500), ("redis has ended or hangs, 256 bytes behind for 61 s", "start")),
+            (30, (0x410, 0x500), ()),
+            (61, (0x500, 0x500), ()),
+        ):
+            now += moves
+            with mock.patch("time.time", lambda now=now: now):
+                self.progress.beat()
+                feed.note(dict(zip(("redis", "tables"), lsns)), 7)
+                if told:
+                    self.fails(*told)
+                else:
+                    self.assertEqual(self.probe()[0], 0, lsns)
+
+    def test_a_filter_that_is_lost_again_and_again(self) -> None:
+        now = time.time()
+        for at, code in ((now, 0), (now + 5, 0), (now + 10, 1), (now + 606, 0)):
+            with mock.patch("time.time", lambda at=at: at):
+                self.progress.beat()
+                if code or at <= now + 5:
+                    self.progress.note_restart("the filter has ended: the disk is full")
+                self.assertEqual(self.probe()[0], code)
+                if code:
+                    self.fails(
+                        "`pgsub` has ended 3 times in ten minutes: the filter has ended: the"
+                    )
+
+    def test_another_version_is_installed(self) -> None:
+        self.assertNotIn("installed", self.probe()[1])
+        with mock.patch("pgsub_connect.status.screen.VERSION", "0.2.0"):
+            code, text = self.probe()
+        self.assertEqual(code, 0)
+        self.assertIn(f"  it runs version {VERSION}, and 0.2.0 is installed: start it again", text)
 
     def test_a_lost_slot(self) -> None:
         for status, code in (("extended", 0), ("unreserved", 0), ("lost", 1)):
@@ -135,9 +199,92 @@ class Probes(unittest.TestCase):
             out.seek(0)
             self.assertEqual(out.read(), "/none\\udcff: No such file or directory\n")
 
+    def test_which_file(self) -> None:
+        """That of a store, of a store in this folder, or of the service, wherever it leads to."""
+        folder = os.path.dirname(self.path)
+        store = folder + "/copy.db"
+        for status_file in (store + STATUS, folder + "/elsewhere"):
+            settings = ReportSettings(store, status_file=status_file)
+            reporter = Reporter(settings, self.progress)
+            reporter.start()
+            reporter.finish()
+            self.assertEqual(self.run_it("--store", store)[0], 0)
+        os.symlink("/nowhere", folder + "/other.db.status")
+        open(folder + "/copy.db.connector", "w").close()
+        with contextlib.chdir(folder):
+            self.assertEqual(self.run_it()[0], 0)
+            open("other.db.connector", "w").close()
+            code, text = self.run_it()
+        self.assertEqual(code, 3)
+        self.assertRegex(
+            text, r"^copy\.db\.status:\nok \(.*\)\nother\.db\.status:\nother.* No such"
+        )
+        with contextlib.chdir("/"), mock.patch.object(command, "SERVICE", folder + "/else*"):
+            self.assertEqual(self.run_it()[0], 0)
+        with contextlib.chdir("/"), mock.patch.object(command, "SERVICE", folder + "/none*"):
+            with contextlib.redirect_stderr(io.StringIO()) as said:
+                self.assertEqual(self.run_it(), (2, ""))
+            self.assertIn("name one by --store", said.getvalue())
+
+    def watched(self, *keys: bytes, **environment: str) -> str:
+        """What `--watch` shows on a terminal until these keys are pressed."""
+        self.progress.copy.begin_part("public.t")
+        self.progress.copy.begin()
+        self.progress.copy.note_total(1000, 2)
+        self.progress.copy.note_part(250, False)
+        self.progress.feed.note({"redis": 0x400}, 7)
+        self.status["changes_per_second"] = 25.0
+        self.probe()
+        child, terminal = pty.fork()
+        if not child:
+            os.environ.update({"TERM": "xterm", **environment})
+            os.execv(sys.executable, [sys.executable, COMMAND, "status", "--watch", *self.named()])
+        said, late = b"", threading.Timer(60, os.kill, (child, signal.SIGKILL))
+        late.start()
+        self.addCleanup(late.cancel)
+        with open(terminal, "rb+", buffering=0) as it, contextlib.suppress(OSError):
+            while b"q ends this" not in said:
+                said += it.read(1 << 16)
+            for key in keys:
+                it.write(key)
+            while more := it.read(1 << 16):
+                said += more
+        self.assertEqual(os.waitstatus_to_exitcode(os.waitpid(child, 0)[1]), 0)
+        return said.decode()
+
+    def named(self) -> list[str]:
+        return ["--status-file", self.path]
+
+    def test_a_screen(self) -> None:
+        for key in (b"q", b"\x03"):
+            said = self.watched(b"x", key)
+            self.assertTrue(said.startswith("\x1b[H\x1b[2J\x1b[32mok (following, 5000 bytes"), said)
+            for line in (
+                f"  copying    [{'#' * 10}{' ' * 30}] 25 %",
+                "  copying    public.t: 250 of 1000 rows, 25 a second, 30 s left",
+                "  rate       25 changes and copied rows a second",
+                "  position   0/500 (5000 bytes and 12.5 s behind)",
+                "  reader     redis: 256 bytes behind, at 0/400",
+            ):
+                self.assertIn(line, said.splitlines())
+        self.assertNotIn("\x1b[32m", self.watched(b"q", NO_COLOR="1"))
+
+    def test_watched_without_a_terminal(self) -> None:
+        """A line each half minute, here sooner."""
+        self.probe()
+        out, looks = io.StringIO(), iter(range(3))
+
+        def check() -> None:
+            if next(looks, None) is None:
+                raise Stopped
+
+        with mock.patch.object(command, "WRITTEN", 0.02), contextlib.redirect_stdout(out):
+            self.assertEqual(command.watch(command.Options(status_file=self.path), check), 0)
+        self.assertRegex(out.getvalue(), r"^(ok \(following, [^\x1b]*\)\n){2,}$")
+
     def test_usage(self) -> None:
         for words in (
-            "",
+            "--status-file x --store y",
             "--status-file x --max-lag 60",
             "--status-file x --max-lag -1s",
             "--status-file x --max-lag 1sB",

@@ -28,6 +28,7 @@ from ..server.publication_content import oid_of, other_slots
 from ..server.publication_setup import inserts_of
 from ..server.session import Server, database_oid, is_same_database, settle
 from ..server.ticks import TICK
+from ..status.files import STATUS
 from ..store.checkpoint_at_rest import locked, read_known
 from ..store.placing import OF_COPY, OF_STORE
 from .arguments.store import StoreOptions, add_store, settled_store
@@ -95,7 +96,7 @@ def files_of(store: str) -> list[str]:
     )
     return [
         path
-        for path in (*asked, *linked, *(store + it for it in OF_STORE))
+        for path in (*asked, *linked, *(store + it for it in (STATUS, *OF_STORE)))
         if os.path.lexists(path)
     ]
 

@@ -30,7 +30,7 @@ from ..record.recording import LONGEST, Aside, Recording
 from ..server import transport
 from ..server.followed_publications import require_published
 from ..server.subscription import Subscription
-from ..status.files import Reporter, ReportSettings
+from ..status.files import STATUS, Reporter, ReportSettings
 from ..status.notify import notifier_of
 from ..status.progress import Progress
 from ..store.checkpoint import Checkpoint
@@ -90,7 +90,13 @@ class Options(ServerOptions, CopyOptions, SizeOptions, FeedOptions, WatchOptions
 
     def report_settings(self) -> ReportSettings:
         return ReportSettings(
-            self.store, self.slot, self.pgsub, self.status_file, self.metrics_file, self.mode
+            self.store,
+            self.slot,
+            self.pgsub,
+            self.status_file or self.store + STATUS,
+            self.metrics_file,
+            self.mode,
+            bool(self.status_file or self.metrics_file),
         )
 
 
@@ -183,7 +189,7 @@ def settled(options: Options) -> Options:
         options.store,
         {
             "--snapshot": options.snapshot,
-            "--status-file": options.status_file,
+            "--status-file": options.status_file or options.store + STATUS,
             "--metrics-file": options.metrics_file,
             "--record": options.record,
             "--tables": options.tables,
@@ -339,11 +345,8 @@ def recording_of(options: Options) -> Aside | None:
 def threads_of(
     options: Options, subscription: Subscription, progress: Progress
 ) -> tuple[Asker | Reporter, ...]:
-    is_shown = bool(options.status_file or options.metrics_file)
-    asker = Asker(subscription, is_shown, progress)
-    if not is_shown:
-        return (asker,)
-    return asker, Reporter(options.report_settings(), progress)
+    settings = options.report_settings()
+    return Asker(subscription, settings.is_asked_for, progress), Reporter(settings, progress)
 
 
 def make_filter(options: Options, checkpoint: Checkpoint, path: str) -> Filter:

@@ -4,46 +4,47 @@ from __future__ import annotations
 
 import argparse
 import calendar
+import contextlib
 import dataclasses
+import glob
+import os
 import re
+import select
 import sys
+import termios
 import time
-from collections.abc import Callable, Sequence
+import tty
+from collections.abc import Callable, Iterator, Sequence
 from typing import Any
 
 from pgsub_feed import json_texts, log
 from pgsub_feed.arguments import BYTES, SECONDS, duration
-from pgsub_feed.texts import counted, shortened
+from pgsub_feed.errors import Stopped, UsageError
+from pgsub_feed.interruption import Check
+from pgsub_feed.program import check_signals
+
+from ..status.files import STATUS
+from ..status.health import KINDS, Fault, Limit, faults
+from ..status.screen import cures_of, line_of, screen_of
 
 ABOUT = """\
-tell how a follower with --status-file is, as a probe does
+tell how a follower is, as a probe does, or on a screen
 
-It prints one line. The exit status is 0 where all is well; 1 where the follower has ended or failed, shows no sign of life, has lost its
-slot, is further behind than --max-lag (or it isn't known how far), has set a table of `rows.db` aside, or, with --strict, has found what
-may have made the copy wrong;
-2 for a usage error; 3 where there is no such file, or it isn't a status file."""
+It prints one line, and one for each thing that isn't well, with what mends it. Without --store and --status-file it looks for stores in
+this folder, and for the followers of the service. The exit status is 0 where all is well; 1 where the follower has ended or failed, shows
+no sign of life, has lost its slot, loses its filter again and again, is further behind than --max-lag (or it isn't known how far), has
+found what may have made the copy wrong, has set a table of `rows.db` aside or has no such file yet, or where a reader of the feed stands
+still; 2 for a usage error; 3 where there is no such file, or it isn't a status file.
+"""
 # (the exit status is in what it is about)
 ENDS = None
 FINE, BAD, NO_FILE = 0, 1, 3
 LAG = re.compile(rf"(\d+(?:\.\d+)?)({'|'.join([*SECONDS, *BYTES])})")
-# Of which kind the fields are that are looked at.
-KINDS: dict[str, Callable[[Any], object]] = {
-    "lag_bytes": json_texts.whole_of,
-    "lag_seconds": json_texts.number_of,
-    "found": json_texts.object_of,
-    **dict.fromkeys(("position", "wal_status", "tables_error", "last_error"), json_texts.text_of),
-}
-# states in which nothing follows any more
-ENDED = ("stopped", "failed")
-
-
-@dataclasses.dataclass(frozen=True)
-class Limit:
-    """A lag that isn't to be passed: in seconds, or in bytes."""
-
-    text: str
-    field: str
-    most: float
+# Where the service has the status files of its followers.
+SERVICE = "/run/pgsub/*/status.json"
+# How often the screen is drawn, and how often a line is written where there is none, in seconds.
+DRAWN, WRITTEN = 1.0, 30.0
+CLEARED = "\x1b[H\x1b[2J"
 
 
 def lag_limit(text: str) -> Limit:
@@ -62,22 +63,26 @@ def lag_limit(text: str) -> Limit:
 
 @dataclasses.dataclass(frozen=True)
 class Options:
-    """Which file is read, and what is well."""
+    """Which followers are looked at, and what is well."""
 
+    store: str = ""
     status_file: str = ""
     max_lag: Sequence[Limit] = ()
     max_age: float = 30.0
-    strict: bool = False
+    watch: bool = False
 
 
 def add_options(parser: argparse.ArgumentParser) -> None:
-    add = parser.add_argument
-    add(
+    which = parser.add_mutually_exclusive_group().add_argument
+    which("--store", metavar="FILE", default="", help="the store whose follower is meant")
+    which(
         "--status-file",
         metavar="FILE",
-        required=True,
-        help="the file that the follower replaces each second",
+        default="",
+        help="the file that its follower replaces each second",
     )
+    add = parser.add_argument
+    add("--watch", action="store_true", help="go on with it on the screen, until q or Ctrl-C")
     add(
         "--max-lag",
         type=lag_limit,
@@ -93,7 +98,16 @@ def add_options(parser: argparse.ArgumentParser) -> None:
         metavar="TIME",
         help="the most that the last sign of life may be old (default: 30s)",
     )
-    add("--strict", action="store_true", help="anything that was found is a fault")
+
+
+def files(options: Options) -> list[str]:
+    """The status files that are looked at."""
+    if options.status_file or options.store:
+        return [options.status_file or options.store + STATUS]
+    here = [it.removesuffix(".connector") + STATUS for it in glob.glob("*.connector")]
+    if found := sorted(here or glob.glob(SERVICE)):
+        return found
+    raise UsageError("there is no store in this folder: name one by --store")
 
 
 def read(path: str) -> dict[str, Any]:
@@ -112,66 +126,85 @@ def age_of(status: dict[str, Any], now: float) -> float:
     return max(now - calendar.timegm(time.strptime(status["heartbeat"], "%Y-%m-%dT%H:%M:%SZ")), 0.0)
 
 
-def faults(status: dict[str, Any], age: float, options: Options) -> list[str]:
-    """What isn't well."""
-    wrong = []
-    if status["state"] in ENDED:
-        wrong.append(f"the follower has {'ended' if status['state'] == 'stopped' else 'failed'}")
-    elif age > options.max_age:
-        wrong.append(f"no sign of life for {age:.0f} s")
-    for limit in options.max_lag:
-        lag = status.get(limit.field)
-        if not isinstance(lag, (int, float)):
-            wrong.append("how far it is behind isn't known")
-        elif lag > limit.most:
-            wrong.append(f"more than {limit.text} behind")
-    if status.get("wal_status") == "lost":
-        wrong.append("the slot is lost")
-    if status.get("tables_error"):
-        wrong.append("the tables don't follow any more")
-    if aside := status.get("tables_aside"):
-        wrong.append(
-            f"set aside in the tables, `pgsub-connect add` them: {', '.join(sorted(aside))}"
-        )
-    if options.strict and status.get("found"):
-        wrong.append(f"found: {', '.join(sorted(status['found']))}")
-    return list(dict.fromkeys(wrong))
+Text = Callable[[dict[str, Any], float, list[Fault]], Iterator[str]]
 
 
-def text_of(status: dict[str, Any], age: float, wrong: list[str]) -> str:
-    """The line that is printed."""
-    parts = [status["state"]]
-    if status.get("lag_bytes") is not None:
-        behind = counted(status["lag_bytes"], "byte")
-        parts.append(
-            f"{behind} and {status['lag_seconds']} s behind"
-            if "lag_seconds" in status
-            else f"{behind} behind"
-        )
-    if "position" in status:
-        parts.append(f"at {status['position']}")
-    parts.append(f"heartbeat {age:.0f} s ago")
-    if wrong and status.get("last_error"):
-        parts.append(f"last error: {shortened(status['last_error'])}")
-    return log.escaped(
-        f"{'; '.join(wrong) if wrong else 'ok'} ({', '.join(map(str, parts))})".replace("\n", " ")
-    )
+def lines_of(status: dict[str, Any], age: float, wrong: list[Fault]) -> Iterator[str]:
+    """What is printed once."""
+    text = line_of(status, age, wrong)
+    yield log.coloured(text, "error" if wrong else "ok", sys.stdout)
+    yield from cures_of(status, wrong)
 
 
-def run(options: Options) -> int:
-    """Prints how the follower is; the exit status."""
-    path = options.status_file
+def look(path: str, options: Options, text: Text) -> tuple[int, list[str]]:
+    """Looks at one follower: the exit status, and what is told."""
     try:
         status = read(path)
         age = age_of(status, time.time())
-        wrong = faults(status, age, options)
-        text = text_of(status, age, wrong)
+        wrong = faults(status, age, options.max_age, options.max_lag)
+        return BAD if wrong else FINE, list(text(status, age, wrong))
     except OSError as error:
-        text, code = f"{path}: {error.strerror}", NO_FILE
-    except (ValueError, OverflowError):
-        text, code = f"{path}: not a status file", NO_FILE
-    else:
-        code = BAD if wrong else FINE
-    # (a path may be no UTF-8)
-    sys.stdout.write(f"{log.escaped(text)}\n")
+        return NO_FILE, [log.escaped(f"{path}: {error.strerror}")]
+    except (ValueError, OverflowError, LookupError, TypeError):
+        return NO_FILE, [log.escaped(f"{path}: not a status file")]
+
+
+def look_at_all(options: Options, text: Text) -> tuple[int, str]:
+    """Looks at each of the followers."""
+    found = [(path, *look(path, options, text)) for path in files(options)]
+    several = len(found) > 1
+    lines = [
+        line
+        for path, _, told in found
+        for line in ([f"{log.escaped(path)}:"] if several else []) + told
+    ]
+    return max(code for _, code, _ in found), "\n".join(lines)
+
+
+def run(options: Options) -> int:
+    """Prints how they are; the exit status."""
+    if options.watch:
+        return watch(options, check_signals())
+    code, text = look_at_all(options, lines_of)
+    sys.stdout.write(f"{text}\n")
     return code
+
+
+def watch(options: Options, check: Check) -> int:
+    """Goes on with that until a signal or the letter q; the exit status is of the last look."""
+    is_drawn, code = log.is_terminal(sys.stdout), FINE
+    with contextlib.suppress(Stopped, KeyboardInterrupt), keys() as has_ended:
+        while True:
+            code, text = look_at_all(options, screen_of if is_drawn else lines_of)
+            if is_drawn:
+                text = f"{CLEARED}{text}\n\nq ends this"
+            sys.stdout.write(f"{text}\n")
+            sys.stdout.flush()
+            until = time.monotonic() + (DRAWN if is_drawn else WRITTEN)
+            while (left := until - time.monotonic()) > 0:
+                check()
+                if has_ended(min(left, DRAWN)):
+                    return code
+    return code
+
+
+@contextlib.contextmanager
+def keys() -> Iterator[Callable[[float], bool]]:
+    """Gives what waits for the letter q, for so many seconds at most, and tells whether it came.
+    The terminal gives each letter at once meanwhile."""
+    if not log.is_terminal(sys.stdin):
+        yield lambda seconds: bool(select.select([], [], [], seconds)[0])
+        return
+    before = termios.tcgetattr(sys.stdin)
+    tty.setcbreak(sys.stdin)
+
+    def has_ended(seconds: float) -> bool:
+        file = sys.stdin.fileno()
+        return (
+            bool(select.select([file], [], [], seconds)[0]) and b"q" in os.read(file, 100).lower()
+        )
+
+    try:
+        yield has_ended
+    finally:
+        termios.tcsetattr(sys.stdin, termios.TCSADRAIN, before)

@@ -75,6 +75,7 @@ class FilterLife:
             except FilterEnded as ended:
                 if not ended.is_unopened():
                     raise
+                self.progress.note_restart(str(ended))
             delay = OPENED_AFTER[min(tried, len(OPENED_AFTER) - 1)]
             log.warning(
                 f"the store can't be opened now: it is tried again in {counted(delay, 'second')}"

@@ -16,9 +16,9 @@ from ..server.session import END, exact_end, postmaster_start
 from ..server.subscription import Subscription
 from ..status.progress import Progress
 
-# After how many seconds the server is asked again: where a file shows it or nothing of the session
-# is read, and else, where only warnings come of it.
-SHOWN, UNSHOWN = 2.0, 60.0
+# After how many seconds the server is asked again: where somebody has asked for a file that shows
+# it or nothing of the session is read, and else.
+SHOWN, UNSHOWN = 2.0, 5.0
 # The first version that says of a slot how long it is safe.
 SAFETY = 130000
 # A slot is close to its end where less than a tenth of what it may keep is left, and isn't any more
@@ -70,8 +70,8 @@ class Asker(threading.Thread):
 
     def __init__(self, subscription: Subscription, is_shown: bool, progress: Progress) -> None:
         super().__init__(daemon=True)
-        self.subscription, self.is_shown, self.progress = subscription, is_shown, progress
-        self.interval = SHOWN if self.is_shown else UNSHOWN
+        self.subscription, self.progress = subscription, progress
+        self.interval = SHOWN if is_shown else UNSHOWN
         self.ended = threading.Event()
         self.warning = SlotWarning(subscription.slot)
         self.connection = None
@@ -85,8 +85,6 @@ class Asker(threading.Thread):
             if self.progress.server.sessions and is_due:
                 asked = time.monotonic()
                 self.ask()
-                if not self.is_shown:
-                    self.disconnect()
         self.disconnect()
 
     def finish(self) -> None:

@@ -120,6 +120,7 @@ class Beside(threading.Thread):
         # the LSN that the tables have told, and the LSNs at which they are to tell theirs
         self.at, self.asked = 0, set[int]()
         self.path, self.progress, self.words = settings.path, progress, words_of(settings)
+        self.progress.feed.note_tables(settings.path)
         self.reader = os.path.join(settings.feed, READERS, READER)
         self.child = None
         self.lock, self.ended = threading.Lock(), threading.Event()

@@ -2,6 +2,8 @@
 
 from __future__ import annotations
 
+import time
+
 
 class FeedState:
     """Nothing of it is known where there is no feed."""
@@ -10,12 +12,24 @@ class FeedState:
         # how many bytes its segments have, and the LSN of each reader
         self.bytes: int | None = None
         self.readers: dict[str, int] = {}
+        # by the name of each when it was seen to move last, in seconds since 1970
+        self.moved: dict[str, float] = {}
+        # the file of the tables that follow it, "" where there are none
+        self.tables = ""
         # what ended the tables that follow it, and which of them are set aside, and why
         self.tables_error = ""
         self.tables_aside: dict[str, str] = {}
 
     def note(self, readers: dict[str, int], size: int) -> None:
+        now = time.time()
+        self.moved = {
+            name: self.moved.get(name, now) if self.readers.get(name) == lsn else now
+            for name, lsn in readers.items()
+        }
         self.readers, self.bytes = readers, size
+
+    def note_tables(self, path: str) -> None:
+        self.tables = path
 
     def note_tables_error(self, error: str) -> None:
         self.tables_error = error

@@ -1,4 +1,7 @@
-"""The files of `--status-file` and `--metrics-file`, which are replaced each second."""
+"""The files of `--status-file` and `--metrics-file`, which are replaced each second.
+
+`STORE.status` is a link to the first one, or that file itself where none is named, and replaced
+less often then: so whoever knows the store finds it."""
 
 from __future__ import annotations
 
@@ -16,9 +19,11 @@ from .metrics import metrics_text
 from .progress import Progress
 from .status_file import status_fields
 
-INTERVAL = 1.0
-# What the name of a new file has behind it until it is whole.
-NEW = ".pgsub-new"
+# How often, in seconds, and how often where nobody has asked for any.
+INTERVAL, SELDOM = 1.0, 5.0
+# What the name of a new file has behind it until it is whole, and a store's name in that of its
+# status file.
+NEW, STATUS = ".pgsub-new", ".status"
 # over how many intervals the rate is taken
 RATE = 5
 # After how many seconds in which a file was written all the time the same cause is told again.
@@ -28,7 +33,7 @@ FORGET = 60.0
 @dataclasses.dataclass(frozen=True)
 class ReportSettings:
     """Which files, and what they say of the follower that doesn't change: its store, its slot, and
-    the program whose version is asked for."""
+    the program whose version is asked for. `is_asked_for`: whether somebody has named one."""
 
     store: str
     slot: str = "pgsub"
@@ -36,6 +41,7 @@ class ReportSettings:
     status_file: str | None = None
     metrics_file: str | None = None
     mode: int = 0o600
+    is_asked_for: bool = True
 
 
 class Reporter(threading.Thread):
@@ -50,13 +56,24 @@ class Reporter(threading.Thread):
             for path in (settings.status_file, settings.metrics_file)
         )
         self.ended = threading.Event()
+        self.interval = INTERVAL if settings.is_asked_for else SELDOM
         self.rates = [(time.monotonic(), 0)]
 
     def run(self) -> None:
+        self.link()
         self.progress.note_program(program_version(self.settings.program))
         while not self.ended.is_set():
             self.write()
-            self.ended.wait(INTERVAL)
+            self.ended.wait(self.interval)
+
+    def link(self) -> None:
+        """Has the store's own name lead to a status file that has another one."""
+        path, own = self.settings.status_file, self.settings.store + STATUS
+        if path and os.path.abspath(path) != os.path.abspath(own):
+            with contextlib.suppress(OSError):
+                with contextlib.suppress(FileNotFoundError):
+                    os.unlink(own)
+                os.symlink(os.path.abspath(path), own)
 
     def finish(self) -> None:
         """Ends the thread, and shows what is there at the end."""
@@ -76,7 +93,8 @@ class Reporter(threading.Thread):
     def write(self) -> None:
         now = time.time()
         if self.status:
-            self.status.write(json.dumps(status_fields(self.progress, self.rate(), now)) + "\n")
+            fields = status_fields(self.progress, self.rate(), now, self.settings.store)
+            self.status.write(json.dumps(fields) + "\n")
         if self.metrics:
             self.metrics.write(
                 metrics_text(

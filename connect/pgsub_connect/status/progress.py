@@ -5,6 +5,7 @@ Whoever sees that something happened tells it to the part that it is about.
 
 from __future__ import annotations
 
+import collections
 import time
 
 from pgsub_feed.texts import counted, lsn_text
@@ -33,6 +34,8 @@ STATES = (
 )
 # Those in which it is about to end.
 ENDING = STATES[-3:]
+# For how many seconds a loss of the filter is counted, and how many of them.
+LATELY, MOST = 600.0, 1000
 
 
 class Progress:
@@ -43,8 +46,9 @@ class Progress:
         self.state = "starting"
         self.heartbeat = time.time()
         self.last_error: str | None = None
-        # how often the filter was lost
+        # how often the filter was lost, and when lately
         self.restarts = 0
+        self.lost = collections.deque[float](maxlen=MOST)
         # what `pgsub --version` says
         self.program = ""
         self.stream, self.copy = StreamCounters(), CopyCounters()
@@ -85,6 +89,11 @@ class Progress:
         """The filter has ended, and is started again."""
         self.last_error = text
         self.restarts += 1
+        self.lost.append(time.time())
+
+    def losses(self, now: float) -> int:
+        """How often the filter was lost in the last minutes."""
+        return sum(now - it < LATELY for it in list(self.lost))
 
     def note_program(self, version: str) -> None:
         self.program = version

@@ -6,19 +6,22 @@ import os
 import time
 
 from pgsub_feed.texts import lsn_text
-from pgsub_feed.version import VERSION
+from pgsub_feed.version import OWN, VERSION
 
 from ..server import transport
 from .progress import Progress
 
 
-def status_fields(progress: Progress, rate: float, now: float) -> dict[str, object]:
+def status_fields(
+    progress: Progress, rate: float, now: float, store: str = ""
+) -> dict[str, object]:
     """The object at this moment; without what isn't known."""
     found = progress.findings
     fields: dict[str, object] = {
         "state": progress.state,
         "heartbeat": time_text(progress.heartbeat),
         "updated": time_text(now),
+        "store": os.path.abspath(store) if store else None,
         **shown_stream(progress, rate, now),
         **shown_copy(progress, rate),
         "last_error": progress.last_error,
@@ -26,11 +29,12 @@ def status_fields(progress: Progress, rate: float, now: float) -> dict[str, obje
         **shown_missing(progress),
         "skipped": found.skipped or None,
         "adding": found.adding or None,
-        **shown_feed(progress),
+        **shown_feed(progress, now),
         "server_version": progress.server.version or None,
         "timeline": progress.server.timeline or None,
         **transport.OWN.shown(),
         "connector_version": VERSION,
+        "connector_commit": OWN.get("commit"),
         "program_version": progress.program or None,
         "pid": os.getpid(),
     }
@@ -55,6 +59,7 @@ def shown_stream(progress: Progress, rate: float, now: float) -> dict[str, objec
         "commits": stream.commits,
         "sessions": progress.server.sessions,
         "filter_restarts": progress.restarts,
+        "filter_losses": progress.losses(now) or None,
     }
 
 
@@ -85,16 +90,21 @@ def shown_missing(progress: Progress) -> dict[str, object]:
     }
 
 
-def shown_feed(progress: Progress) -> dict[str, object]:
+def shown_feed(progress: Progress, now: float) -> dict[str, object]:
     feed, lag_of = progress.feed, progress.stream.lag_of
     readers = {
-        name: {"lsn": lsn_text(lsn), "lag_bytes": lag_of(lsn)}
+        name: {
+            "lsn": lsn_text(lsn),
+            "lag_bytes": lag_of(lsn),
+            "still_seconds": round(max(now - feed.moved.get(name, now), 0.0)),
+        }
         for name, lsn in sorted(feed.readers.items())
     }
     return {
         "feed_bytes": feed.bytes,
         "readers": readers or None,
         "tables_error": feed.tables_error or None,
+        "tables_missing": feed.tables if feed.tables and not os.path.exists(feed.tables) else None,
         "tables_aside": feed.tables_aside or None,
     }
 
