@@ -86,7 +86,10 @@ class Files(Quiet):
         progress = Progress()
         reporter = Reporter(
             ReportSettings(
-                store="copy.db", status_file=self.path, metrics_file=self.path + ".prom", mode=0o640
+                store=self.path + ".db",
+                status_file=self.path,
+                metrics_file=self.path + ".prom",
+                mode=0o640,
             ),
             progress,
         )
@@ -97,7 +100,8 @@ class Files(Quiet):
             self.assertEqual(json.load(file)["state"], "stopped")
         with open(self.path + ".prom", encoding="utf-8") as file:
             self.assertIn(
-                'pgsub_state{slot="pgsub",store="copy.db",state="stopped"} 1\n', file.read()
+                f'pgsub_state{{slot="pgsub",store="{self.path}.db",state="stopped"}} 1\n',
+                file.read(),
             )
 
     def test_a_path_that_is_no_utf_8(self) -> None:
