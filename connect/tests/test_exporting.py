@@ -5,6 +5,7 @@ from __future__ import annotations
 
 import contextlib
 import dataclasses
+import math
 import os
 import sqlite3
 import stat
@@ -22,6 +23,7 @@ from pgsub_feed.errors import FILE, UNFIT, USAGE, FileError, Passing, Stopped, U
 from pgsub_feed.interruption import never
 from pgsub_feed.relation import Relation
 from pgsub_feed.sinks.first_rows import exported
+from pgsub_feed.tables.values import ALL_TEXT
 
 from .stores import StoreCase, spelled
 from .vectors import ID, NAME, a_catalog, a_shape, a_table, logged
@@ -77,7 +79,7 @@ class Chosen(Case):
         for number in "12":
             self.store.row(7, number, "x")
         with mock.patch("pgsub_feed.meter.WRITTEN", -1.0):
-            self.assertEqual(self.export(is_text=True), ["exporting: 2 of 2 rows, 0 a second"])
+            self.assertEqual(self.export(form=ALL_TEXT), ["exporting: 2 of 2 rows, 0 a second"])
             with logged() as told, exported(self.into, ()) as base:
                 self.assertEqual(
                     [list(base.rows(it)) for it in base.tables()], [[["1", "x"], ["2", "x"]]]
@@ -146,15 +148,18 @@ class Types(Case):
                     b"\0\xff",
                     1.5,
                     -1e20,
+                    1.0,
                     "1.0",
                     "2026-11-25",
                     "{1,NULL}",
                 ),
-                (None,) * 10,
+                (None,) * 11,
             ],
         )
         kinds = [row[2] for row in self.rows("PRAGMA table_info(t)")]
-        self.assertEqual(kinds, ["INTEGER"] * 4 + ["BLOB", "ANY", "ANY", "TEXT", "TEXT", "TEXT"])
+        self.assertEqual(
+            kinds, ["INTEGER"] * 4 + ["BLOB", "ANY", "ANY", "REAL", "TEXT", "TEXT", "TEXT"]
+        )
         self.assertEqual(
             self.rows("SELECT strict, wr FROM pragma_table_list WHERE name = 't'"), [(1, 0)]
         )
@@ -173,8 +178,8 @@ class Types(Case):
         self.of(["float8"], *([it] for it in texts))
         self.export()
         found = self.rows("SELECT c0, typeof(c0) FROM t")
-        self.assertEqual(found[:3], [(it, "text") for it in texts[:3]])
-        self.assertEqual(found[3:], [(float(it), "real") for it in texts[3:]])
+        self.assertEqual(found[0], ("NaN", "text"))
+        self.assertEqual(found[1:], [(float(it), "real") for it in texts[1:]])
 
     def test_bytea(self) -> None:
         self.of(["bytea"], ["\\x"], ["\\x5c"], ["a\\\\b\\000\\377"], [""])
@@ -205,7 +210,7 @@ class Types(Case):
         )
         self.store.row(1, b"\0\0\1\0", b"\x7f\xf0" + bytes(6), b"x", b"\0", b"\1")
         self.export()
-        self.assertEqual(self.rows("SELECT * FROM t"), [(256, "Infinity", "x", b"\0", 1)])
+        self.assertEqual(self.rows("SELECT * FROM t"), [(256, math.inf, "x", b"\0", 1)])
 
     def test_values_of_another_type(self) -> None:
         values: list[tuple[str, str | bytes]] = [
@@ -232,7 +237,7 @@ class Types(Case):
                 self.assertFalse(os.path.exists(self.into))
                 self.assertEqual(self.left(), [])
                 if isinstance(text, str):
-                    self.export(is_text=True)
+                    self.export(form=ALL_TEXT)
                     self.assertEqual(self.rows("SELECT c0, typeof(c0) FROM t"), [(text, "text")])
                     os.unlink(self.into)
 
@@ -411,7 +416,7 @@ class Names(Case):
         self.store.row(1, key=None, copies=2)
         self.assertEqual(self.export(), [])
         self.assertEqual(self.rows("SELECT * FROM t"), [(None,), (None,)])
-        self.export(is_text=True)
+        self.export(form=ALL_TEXT)
         self.assertEqual(self.rows("SELECT pgsub_none FROM t"), [(None,), (None,)])
 
 

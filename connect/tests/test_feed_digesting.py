@@ -74,7 +74,7 @@ class Changes(DigestsCase):
         self.has(["1", "b"], ["5", "7:x"], ["-4", "é\t"])
         self.taken(truncate(), insert("6", "c"))
         self.has(["6", "c"])
-        self.assertEqual(self.rows("PRAGMA user_version"), [(2,)])
+        self.assertEqual(self.rows("PRAGMA user_version"), [(4,)])
 
     def test_equal_rows(self) -> None:
         whole = table(2, "whole", letter="f")
@@ -207,18 +207,6 @@ class Files(DigestsCase):
 
     def test_an_older_program_does_not_go_on(self) -> None:
         with contextlib.closing(sqlite3.connect(self.into)) as base:
-            base.execute("PRAGMA user_version = 3")
+            base.execute("PRAGMA user_version = 5")
         with self.assertRaisesRegex(FileError, "another version"):
             self.run_it()
-
-    def test_what_is_not_told_has_none(self) -> None:
-        """A table of an export has a digest once its definition is told, which says how values are
-        printed."""
-        with contextlib.closing(sqlite3.connect(self.into)) as base:
-            base.execute("UPDATE pgsub_relations SET definition = NULL")
-            base.execute("DELETE FROM pgsub_digests")
-            base.commit()
-        self.run_it(digests=True)
-        self.assertEqual(self.digests(), {})
-        self.taken(insert("2", "b"))
-        self.has(["1", "a"], ["2", "b"])

@@ -4,6 +4,7 @@ from __future__ import annotations
 
 import contextlib
 import io
+import math
 import os
 import sqlite3
 import stat
@@ -169,7 +170,7 @@ class Changes(TablesCase):
         for letter, kind, was, now in (
             ("d", 25, "x", "y"),
             ("f", 25, "x", "y"),
-            ("f", 701, "NaN", "Infinity"),
+            ("f", 701, "Infinity", "NaN"),
         ):
             name = f"{letter}{kind}"
             wide = table(
@@ -251,14 +252,17 @@ class Types(TablesCase):
             b"\0\xff",
             1.5,
             "NaN",
+            1.0,
             "1.0",
             "{1}",
             "é",
         )
-        second = (1, 2, 0, 0, b"\0", 1.5, "Infinity", "1", "x", "é")
-        self.assertEqual(self.rows("SELECT * FROM stock"), [first, second, (*nothing,)])
+        second = (1, 2, 0, 0, b"\0", 1.5, math.inf, 1.0, "1", "x", "é")
+        self.assertEqual(self.rows("SELECT * FROM stock"), [first, second, (None, *nothing)])
         kinds = [row[2] for row in self.rows("PRAGMA table_info(stock)")]
-        self.assertEqual(kinds, ["INTEGER"] * 4 + ["BLOB", "ANY", "ANY", "TEXT", "TEXT", "TEXT"])
+        self.assertEqual(
+            kinds, ["INTEGER"] * 4 + ["BLOB", "ANY", "ANY", "REAL", "TEXT", "TEXT", "TEXT"]
+        )
         self.assertEqual(
             self.rows("SELECT strict FROM pragma_table_list WHERE name = 'stock'"), [(1,)]
         )

@@ -264,25 +264,6 @@ class Server(VerifyCase):
                 },
             )
 
-    def test_an_export_whose_types_were_not_told(self) -> None:
-        """They are the server's."""
-        flags = table(3, "flags", [ID, TextColumn("is", 16)])
-        self.take(insert("1", "t", of=flags), insert("2", None, of=flags))
-        self.run_it()
-        self.plant("UPDATE pgsub_relations SET definition = NULL")
-        self.point = 0x300
-        self.published.append(
-            Table(
-                3,
-                "public",
-                "flags",
-                "r",
-                Shape("d", (STOCK.columns[0], Column("is", 16, -1, False, 2))),
-            )
-        )
-        self.server.tables[3] = [["1", "t"], ["2", None]]
-        self.equal()
-
     def test_tables_that_were_not_chosen(self) -> None:
         self.into += ".chosen"
         with logged():
@@ -388,7 +369,7 @@ class Server(VerifyCase):
         for planted, shown in (
             ("0.10000000001", "0.10000000001"),
             ("1e300", "1e+300"),
-            ("9e999", "inf"),
+            ("9e999", "Infinity"),
             ("0.1000000014901161", "0.1000000014901161"),
         ):
             self.plant(f"UPDATE short SET f = {planted}")

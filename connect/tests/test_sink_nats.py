@@ -19,6 +19,7 @@ from pgsub_feed.interruption import never
 from pgsub_feed.sinks.connecting import is_loopback
 from pgsub_feed.sinks.nats_messages import read_id
 from pgsub_feed.sinks.nats_wire import Wire, header_bytes, read_headers
+from pgsub_feed.tables.values import ALL_TEXT
 
 from .fake_nats import FakeNats
 from .feeds import STOCK, delete, insert, table, truncate, update
@@ -243,7 +244,7 @@ class GoesOn(NatsCase):
         store.row(1, "1", "a")
         store.row(1, "2", None)
         path = str(self.folder / "export.db")
-        export_store(ExportSettings(store=store.path, into=path, is_text=True), never)
+        export_store(ExportSettings(store=store.path, into=path, form=ALL_TEXT), never)
         return path
 
     def test_a_part_of_a_base_that_another_sink_publishes(self) -> None:

@@ -7,6 +7,7 @@ import contextlib
 import json
 import os
 import random
+import sqlite3
 import unittest
 from collections import Counter
 from collections.abc import Iterator
@@ -33,6 +34,7 @@ from pgsub_feed.sinks.redis_calls import Connection, Said, packed_command, raise
 from pgsub_feed.sinks.redis_disk import Disk
 from pgsub_feed.sinks.redis_engine import Redis
 from pgsub_feed.tables.sqlite_files import opened
+from pgsub_feed.tables.values import ALL_TEXT, BOTH
 
 from .fake_redis import FakeCalls, Stream
 from .feeds import ID, NAME, STOCK, delete, insert, table, truncate, update
@@ -471,7 +473,9 @@ class Begins(RedisCase):
 
     def export(self, text: bool = True) -> str:
         path = str(self.folder / "export.db")
-        export_store(ExportSettings(store=self.store.path, into=path, is_text=text), never)
+        export_store(
+            ExportSettings(store=self.store.path, into=path, form=ALL_TEXT if text else BOTH), never
+        )
         return path
 
     def test_needs_a_base(self) -> None:
@@ -517,10 +521,15 @@ class Begins(RedisCase):
     def test_exports_that_dont_do(self) -> None:
         self.fails(FileError, "make it by `pgsub-connect export --text`", base=self.export(False))
         self.fails(FileError, "it is no export", base=self.store.path)
-        self.store.table(3, "odd", [(1, "A", 25, -1), (0, "a", 25, -1)])
-        self.fails(
-            Unfit, r"public.odd \(3\): names of columns are equal but for case", base=self.export()
-        )
+        with contextlib.closing(sqlite3.connect(base := self.export())) as db:
+            db.execute("PRAGMA user_version = 0")
+        self.fails(FileError, "an earlier version has made it, .*: make it anew", base=base)
+
+    def test_names_that_are_equal_but_for_case(self) -> None:
+        self.store.table(3, "odd", [(1, "A", 25, -1), (0, "a", 1700, -1)])
+        self.store.row(3, "x", "1.50")
+        self.run_it(base=self.export())
+        self.assertEqual(self.server.rows()["odd:x"], {"A": "x", "a": "1.50"})
 
     def test_another_sink_begins_meanwhile(self) -> None:
         """It is ended by one that has something to begin with, and as long as it hasn't begun

@@ -21,6 +21,6 @@ class StoreBeside:
     def is_followed(self) -> bool:
         return is_followed(self.path)
 
-    def export(self, into: str, is_text: bool, chosen: Collection[str], check: Check) -> None:
-        settings = ExportSettings(self.path, into, is_text, tuple(chosen), self.mode)
+    def export(self, into: str, form: str, chosen: Collection[str], check: Check) -> None:
+        settings = ExportSettings(self.path, into, form, tuple(chosen), self.mode)
         export_store(settings, check)

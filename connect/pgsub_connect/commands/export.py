@@ -6,9 +6,11 @@ import argparse
 import dataclasses
 
 from pgsub_feed.program import check_signals
+from pgsub_feed.tables.values import ALL_TEXT, BOTH
 
 from ..store.export import ExportSettings, export_store
 from .arguments.exit_status import COPIED
+from .arguments.numerics import add_numeric
 from .arguments.store_copy import StoreCopyOptions, add_store_copy, settled_store_copy
 from .arguments.texts import add_repeated, check_texts, each
 
@@ -23,6 +25,7 @@ class Options(StoreCopyOptions):
     """What is exported."""
 
     text: bool = False
+    numeric: str = BOTH
     table: tuple[str, ...] = ()
 
 
@@ -30,6 +33,7 @@ def add_options(parser: argparse.ArgumentParser) -> None:
     add_store_copy(parser)
     add = parser.add_argument
     add("--text", action="store_true", help="each value as TEXT, as the server prints it")
+    add_numeric(add)
     add_repeated(add, "--table", "export this table", "all")
 
 
@@ -41,8 +45,7 @@ def settled(options: Options) -> Options:
 def run(options: Options) -> int:
     """Exports a store; the exit status."""
     options = settled(options)
-    settings = ExportSettings(
-        options.store, options.into, options.text, options.table, options.mode
-    )
+    form = ALL_TEXT if options.text else options.numeric
+    settings = ExportSettings(options.store, options.into, form, options.table, options.mode)
     export_store(settings, check_signals())
     return 0

@@ -18,12 +18,14 @@ from pgsub_feed.tables.first_rows import check_file
 from pgsub_feed.tables.following import Wanted, keep
 from pgsub_feed.tables.set_aside import cure, store_at
 from pgsub_feed.tables.sqlite_files import check_sqlite, failed
+from pgsub_feed.tables.values import BOTH
 from pgsub_feed.texts import lsn_text
 
 from ..server.publication_setup import names_of
 from .arguments.exit_status import FED
 from .arguments.files import add_mode, check_files, use_mode
 from .arguments.following import FollowingOptions, add_beginning, add_end, add_kept
+from .arguments.numerics import add_numeric, check_numeric
 from .arguments.texts import check_texts, each
 
 ABOUT = """\
@@ -45,6 +47,7 @@ class Options(FollowingOptions):
     into: str = ""
     init: str | None = None
     digests: bool = False
+    numeric: str = BOTH
     while_input: bool = False
     at: int | None = None
 
@@ -52,7 +55,7 @@ class Options(FollowingOptions):
         """What is kept, and the rows that it begins with."""
         reading = self.reading(self.table, self.at)
         known = known_beside(self.feed, self.store)
-        return Wanted(self.into, reading, self.init, self.digests, known)
+        return Wanted(self.into, reading, self.init, self.digests, known, self.numeric)
 
 
 def add_options(parser: argparse.ArgumentParser) -> None:
@@ -71,6 +74,7 @@ def add_options(parser: argparse.ArgumentParser) -> None:
         action="store_true",
         help="keep a digest of each table, for `verify`; a file that has them keeps them",
     )
+    add_numeric(add)
     add_end(parser, "in the file")
     add("--while-input", action="store_true", help="end once standard input ends, too")
     add(
@@ -84,6 +88,7 @@ def add_options(parser: argparse.ArgumentParser) -> None:
 
 def check_options(parser: argparse.ArgumentParser, options: Options) -> Options:
     """The tables as of an LSN end there."""
+    check_numeric(parser, options.numeric, options.digests)
     return dataclasses.replace(options, once=options.once or options.at is not None)
 
 

@@ -32,6 +32,7 @@ from pgsub_feed.errors import FileError, Unfit
 from pgsub_feed.reader.positions import READERS
 from pgsub_feed.tables.set_aside import shown_asides
 from pgsub_feed.tables.sqlite_files import is_tables, opened
+from pgsub_feed.tables.values import BOTH
 from pgsub_feed.texts import lsn_text, parse_lsn
 
 from ..status.progress import Progress
@@ -56,7 +57,7 @@ CODE = f"import sys; sys.path[:] = [{TOP!r}, *filter(None, sys.path)]; from pgsu
 class TablesSettings:
     """The file of tables, the feed that it follows and the store that the feed is of. `init`: the
     SQL that is run once a table was made or altered; `digests`: whether one is kept of each
-    table."""
+    table; `numeric`: how numerics are kept."""
 
     path: str
     feed: str
@@ -64,6 +65,7 @@ class TablesSettings:
     mode: int = 0o600
     init: str | None = None
     digests: bool = False
+    numeric: str = BOTH
 
 
 def check(settings: TablesSettings) -> None:
@@ -100,7 +102,7 @@ def words_of(settings: TablesSettings) -> list[str]:
         settings.store,
     ]
     words += ["--reader", READER, "--mode", f"{settings.mode:o}", "--while-input"]
-    words += ["--digests"] if settings.digests else []
+    words += ["--numeric", settings.numeric] + ["--digests"] * settings.digests
     return words + (["--init", settings.init] if settings.init else [])
 
 

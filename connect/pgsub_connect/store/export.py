@@ -4,6 +4,7 @@
 |---|---|
 | `pgsub_position` | `lsn`, the store's position |
 | `pgsub_tables` | by `name`, that of a table here: `schema`, `table` and `oid` of the publisher's |
+| `pgsub_relations` | by `oid` the definition, as in a file that follows a feed |
 | any other | the rows of one of the publisher's tables |
 """
 
@@ -23,10 +24,11 @@ from pgsub_feed.meter import Meter
 from pgsub_feed.relation import Relation
 from pgsub_feed.tables.names import OLD, POSITION, TABLES, name_tables, names_of
 from pgsub_feed.tables.primary_keys import primary_key
+from pgsub_feed.tables.schema import RELATIONS, SCHEMA, definition
 from pgsub_feed.tables.sqlite_files import EXPORT as APPLICATION
 from pgsub_feed.tables.sqlite_files import OLDEST, is_export
-from pgsub_feed.tables.target import NONE, Bound, Target, key_index, unlike_reason, with_columns
-from pgsub_feed.tables.values import Malformed, Unlike, read_row
+from pgsub_feed.tables.target import NONE, Bound, Target, key_index, unlike_reason
+from pgsub_feed.tables.values import BOTH, Malformed, Unlike, read_row
 from pgsub_feed.texts import counted, identifier, lsn_text
 
 from ..drift.remembered import Remembered
@@ -51,17 +53,11 @@ class Export:
         self,
         store: sqlite3.Connection,
         into: sqlite3.Connection,
-        is_text: bool,
+        form: str,
         check: Check,
         names: Sequence[str],
     ) -> None:
-        self.store, self.into, self.is_text, self.check, self.names = (
-            store,
-            into,
-            is_text,
-            check,
-            names,
-        )
+        self.store, self.into, self.form, self.check, self.names = store, into, form, check, names
         self.waiting, self.meter = 0, Meter("exporting")
 
     def run(self, remembered: Remembered) -> tuple[int, int, int]:
@@ -90,20 +86,22 @@ class Export:
         ):
             into.execute(f"PRAGMA {pragma}")
         into.execute("BEGIN")
-        into.execute(f"CREATE TABLE {POSITION} (lsn TEXT NOT NULL) STRICT")
-        into.execute(f"INSERT INTO {POSITION} VALUES (?)", (lsn_text(position),))
-        into.execute(
-            f'CREATE TABLE {TABLES} (name TEXT PRIMARY KEY, schema TEXT NOT NULL, "table" TEXT NOT NULL, oid INTEGER NOT NULL) STRICT'
-        )
+        for statement in SCHEMA:
+            into.execute(statement)
+        into.execute(f"UPDATE {POSITION} SET lsn = ?", (lsn_text(position),))
         names = name_tables((it.oid, it.namespace, it.name) for it in relations)
         self.targets = {
-            it.oid: Target(names[it.oid], with_columns(it), self.is_text, keys[it.oid])
-            for it in relations
+            it.oid: Target(names[it.oid], it, self.form, keys[it.oid]) for it in relations
         }
-        for target in self.targets.values():
-            relation = target.relation
-            named = (target.name, relation.namespace, relation.name, relation.oid)
-            into.execute(f"INSERT INTO {TABLES} VALUES (?, ?, ?, ?)", named)
+        for oid, target in self.targets.items():
+            it = target.relation
+            into.execute(
+                f"INSERT INTO {TABLES} VALUES (?, ?, ?, ?)",
+                (target.name, it.namespace, it.name, oid),
+            )
+            into.execute(
+                f"INSERT INTO {RELATIONS} VALUES (?, ?, ?)", (oid, target.name, definition(target))
+            )
             into.execute(target.definition())
 
     def copy_rows(self, stored: dict[int, Relation]) -> None:
@@ -134,7 +132,7 @@ class Export:
         if NONE in target.relation.shape.columns:
             return [None]
         try:
-            return target.row(read_row(body, target.kinds))
+            return target.row(read_row(body, target.several))
         except Unlike as unlike:
             raise Unfit(
                 f"{unlike_text(target.relation, unlike)}. Copy anew, or export each value as a text by --text"
@@ -222,12 +220,12 @@ def stop(check: Check) -> Callable[[], int]:
 
 @dataclasses.dataclass(frozen=True)
 class ExportSettings:
-    """Which store is exported into which file. `is_text`: each value as the server prints it;
+    """Which store is exported into which file. `form`: how numerics are kept, or each value;
     `chosen`: the tables that are named, all where there are none."""
 
     store: str
     into: str
-    is_text: bool = False
+    form: str = BOTH
     chosen: Sequence[str] = ()
     mode: int = 0o600
 
@@ -264,7 +262,7 @@ def export(path: str, new: str, settings: ExportSettings, check: Check) -> tuple
         ) as into:
             for db in (store, into):
                 db.set_progress_handler(stop(check), STEPS)
-            return Export(store, into, settings.is_text, check, settings.chosen).run(remembered)
+            return Export(store, into, settings.form, check, settings.chosen).run(remembered)
     except Malformed:
         raise FileError(
             f"{settings.store}: a malformed row or definition: the disk, or another program, has spoiled the file"

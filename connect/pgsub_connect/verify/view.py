@@ -14,21 +14,22 @@ import os
 import sqlite3
 from collections.abc import Collection, Iterable, Iterator
 
-from pgsub_feed.errors import FileError, Passing
+from pgsub_feed.errors import FileError, Passing, Unfit
 from pgsub_feed.interruption import Check
 from pgsub_feed.reader.commits import Head
-from pgsub_feed.reader.lines import read_relation
 from pgsub_feed.reader.trail import Image, Trail
-from pgsub_feed.relation import Column, Relation
+from pgsub_feed.relation import Relation
 from pgsub_feed.tables.digests import Digest, read_digests
-from pgsub_feed.tables.names import POSITION, TABLES, name_columns, names_of
+from pgsub_feed.tables.first_rows import EARLIER
+from pgsub_feed.tables.names import POSITION, names_of
 from pgsub_feed.tables.printed import Fields
 from pgsub_feed.tables.row_texts import Fields as Texts
 from pgsub_feed.tables.row_texts import text_of
-from pgsub_feed.tables.schema import FEED, RELATIONS, unlisted
+from pgsub_feed.tables.schema import FEED, RELATIONS, read_definition
 from pgsub_feed.tables.set_aside import Aside, read_asides
-from pgsub_feed.tables.sqlite_files import is_tables, opened
+from pgsub_feed.tables.sqlite_files import is_earlier, is_tables, opened
 from pgsub_feed.tables.table import Valued
+from pgsub_feed.tables.values import BOTH
 from pgsub_feed.texts import identifier, parse_lsn
 
 from ..server.catalog import Table
@@ -42,6 +43,8 @@ def check_tables(path: str) -> None:
         raise FileError(f"there is no file {path}")
     if not is_tables(path):
         raise FileError(f"{path} has no tables that follow a feed")
+    if is_earlier(path):
+        raise FileError(f"{path}: {EARLIER}: what follows the feed makes it anew at its next start")
 
 
 class View:
@@ -72,25 +75,16 @@ class View:
         self.digests: dict[int, Digest] = read_digests(db)
         # those whose digest isn't that of their rows
         self.wrong: list[Relation] = []
-        self.left_out, self.untold = set[int](), set[int]()
+        self.left_out = set[int]()
         # those that are set aside, and what of them was looked for
         self.asides: dict[int, Aside] = read_asides(db)
         self.lacks: list[Aside] = []
         self.tables: dict[int, Valued] = {}
-        named = {
-            oid: (name, schema, table)
-            for name, schema, table, oid in db.execute(f"SELECT * FROM {TABLES}")
-        }
-        for oid, name, definition in db.execute(
-            f"SELECT oid, name, definition FROM {RELATIONS}"
-        ).fetchall():
+        for oid, name, text in db.execute(f"SELECT * FROM {RELATIONS}").fetchall():
             if name is None:
                 self.left_out |= {oid} - self.asides.keys()
-            elif definition is None:
-                self.untold.add(oid)
-                self.tables[oid] = Valued(name, unlisted(db, *named[oid], oid))
             else:
-                self.tables[oid] = Valued(name, read_relation(json.loads(definition)))
+                self.tables[oid] = Valued(name, *read_definition(text))
         self.counts = {oid: self.count(it) for oid, it in self.tables.items()}
 
     def go_back(self, trail: Trail) -> None:
@@ -116,12 +110,8 @@ class View:
         return table.oid not in self.left_out and (not self.chosen or bool(self.chosen & names))
 
     def columns(self, table: Table) -> list[str]:
-        theirs = [it.name for it in table.columns]
-        if not (relation := self.relation(table.oid)):
-            return theirs
-        ours = [it.name for it in relation.shape.columns]
-        # (of an export the names in SQLite are all that is known)
-        return theirs if table.oid in self.untold and ours == name_columns(theirs) else ours
+        relation = self.relation(table.oid)
+        return [it.name for it in (relation or table).shape.columns]
 
     def left(self, tables: Iterable[Table]) -> list[Relation]:
         known = {it.oid for it in tables}
@@ -130,15 +120,14 @@ class View:
         ]
 
     def fields(self, plan: Plan) -> Fields | None:
-        """What makes the fields of a table's rows, None where it isn't here. Where its types
-        weren't told they are the other side's."""
+        """What makes the fields of a table's rows, None where it isn't here."""
         valued = self.tables.get(plan.table.oid)
-        if valued is None:
-            return None
-        theirs = [Column(it.name, it.type_oid, it.modifier, it.key) for it in plan.table.columns]
-        return Fields(
-            valued, theirs if plan.table.oid in self.untold else valued.relation.shape.columns
-        )
+        if valued and (lost := valued.target.inexact()):
+            raise Unfit(
+                f"{valued.relation.text()}: by --numeric real {self.path} hasn't the exact values of"
+                f" {', '.join(it.name for it in lost)}, so they can't be compared: choose other tables"
+            )
+        return Fields(valued) if valued else None
 
     def texts(self, plan: Plan) -> Iterator[Texts]:
         """The fields of a table's rows at the LSN of the file."""
@@ -191,11 +180,12 @@ class View:
             self.check()
             relation, oid = image.relation, image.relation.oid
             if oid not in valued or valued[oid].valued.relation is not relation:
-                if [it.name for it in relation.shape.columns] != [
-                    it.name for it in by_oid[oid].table.columns
+                if [it[:3] for it in relation.shape.columns] != [
+                    it[:3] for it in by_oid[oid].table.columns
                 ]:
                     raise Passing(f"{relation.text()} was altered meanwhile: compare again")
-                valued[oid] = Fields(Valued("", relation), relation.shape.columns)
+                form = self.tables[oid].target.form if oid in self.tables else BOTH
+                valued[oid] = Fields(Valued("", relation, form))
             yield image, valued[oid].of_cells(image.cells)
 
     def rows(self, plan: Plan, chunks: list[int]) -> Iterator[Row]:

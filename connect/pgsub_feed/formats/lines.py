@@ -6,15 +6,16 @@
 | `objects` | an object for each change, its rows by the names of the columns |
 | `debezium` | the envelope of Debezium's connectors for each change |
 
-Values are typed as in the tables that follow a feed, by the OID of the type: numbers where JSON has
-them, `bool` as true and false, and all else as the server prints it; in `debezium` the bytes of
-`bytea` are in base64.
+Values are typed by the OID of the type: numbers where JSON has them, but a numeric, of which those
+who read JSON would take the nearest number alone; `bool` as true and false; and all else as the
+server prints it. In `debezium` the bytes of `bytea` are in base64.
 """
 
 from __future__ import annotations
 
 import base64
 import json
+import math
 import re
 from collections.abc import Callable, Iterable, Iterator
 from typing import Any
@@ -24,8 +25,9 @@ from ..errors import Unfit
 from ..reader.commits import Cell, Change, Commit, Head, Missed, TableLine, Unsent
 from ..reader.segments import Reader
 from ..relation import Relation
+from ..tables.floats import printed_float
 from ..tables.table import Valued
-from ..tables.values import BOOL, BYTEA
+from ..tables.values import AS_TEXT, BOOL, BYTEA
 
 Row = dict[str, Any] | None
 
@@ -51,7 +53,7 @@ class Objects:
     def valued(self, relation: Relation) -> Valued:
         found = self.known.get(relation.oid)
         if found is None or found.relation != relation:
-            found = self.known[relation.oid] = Valued(relation.name, relation)
+            found = self.known[relation.oid] = Valued(relation.name, relation, AS_TEXT)
         return found
 
     def row(self, relation: Relation, cells: Iterable[Cell | Unsent] | None) -> Row:
@@ -77,6 +79,9 @@ class Objects:
             return (
                 self.of_bytes(value) if kind == BYTEA else value.decode(errors="backslashreplace")
             )
+        if isinstance(value, float) and math.isinf(value):
+            # (JSON hasn't them)
+            return printed_float(value, False)
         return bool(value) if kind == BOOL and value is not None else value
 
     def changes(self, reader: Reader, commit: Commit) -> Iterator[Change | Missed]:

@@ -19,9 +19,9 @@ class Store(Protocol):
     def is_followed(self) -> bool:
         """Whether its follower runs just now."""
 
-    def export(self, into: str, is_text: bool, chosen: Collection[str], check: Check) -> None:
-        """Makes an export of it: of these tables, all where none is named. `is_text`: each value
-        as the server prints it."""
+    def export(self, into: str, form: str, chosen: Collection[str], check: Check) -> None:
+        """Makes an export of it: of these tables, all where none is named. `form`: how numerics are
+        kept, or each value."""
 
 
 @dataclasses.dataclass(frozen=True)

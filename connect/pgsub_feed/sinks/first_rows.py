@@ -7,17 +7,18 @@ import os
 import sqlite3
 from collections.abc import Iterator
 
-from ..errors import FileError, Unfit
+from ..errors import FileError
 from ..files import own_name, remove
 from ..interruption import Check
 from ..meter import Meter
 from ..reader.commits import Cells
 from ..reader.reading import Reading
 from ..relation import Relation
-from ..tables.first_rows import check_begin
-from ..tables.names import POSITION, TABLES, names_of, told_columns
-from ..tables.schema import unlisted
-from ..tables.sqlite_files import is_export, opened
+from ..tables.first_rows import EARLIER, check_begin
+from ..tables.names import POSITION, names_of
+from ..tables.schema import RELATIONS, read_definition
+from ..tables.sqlite_files import is_earlier, is_export, opened
+from ..tables.values import ALL_TEXT
 from ..texts import identifier, parse_lsn
 
 # After how many rows it is noted how far it is.
@@ -47,28 +48,18 @@ class Exported(Base):
 
     def tables(self) -> list[Relation]:
         found = []
-        for name, schema, table, oid in self.db.execute(
-            f"SELECT * FROM {TABLES} ORDER BY oid"
+        for name, text in self.db.execute(
+            f"SELECT name, definition FROM {RELATIONS} ORDER BY oid"
         ).fetchall():
-            relation = unlisted(self.db, name, schema, table, oid)
+            relation, form, _ = read_definition(text)
             if not self.chosen or self.chosen & names_of(relation.namespace, relation.name):
-                self.check(name, relation)
-                self.names[oid] = name
+                if form != ALL_TEXT:
+                    raise FileError(
+                        f"--base {self.path}: its values aren't as the server prints them: make it by `pgsub-connect export --text`"
+                    )
+                self.names[relation.oid] = name
                 found.append(relation)
         return found
-
-    def check(self, name: str, relation: Relation) -> None:
-        """Rejects a table whose values, or the names of whose columns, aren't the server's."""
-        if self.db.execute(
-            "SELECT EXISTS (SELECT 1 FROM pragma_table_info(?) WHERE type <> 'TEXT')", (name,)
-        ).fetchone()[0]:
-            raise FileError(
-                f"--base {self.path}: its values aren't as the server prints them: make it by `pgsub-connect export --text`"
-            )
-        columns = [it.name for it in relation.shape.columns]
-        if told_columns(columns) != columns:
-            text = "names of columns are equal but for case, and an export can't tell them apart: choose other tables"
-            raise Unfit(f"{relation.text()}: {text}")
 
     def rows(self, relation: Relation) -> Iterator[Cells]:
         name, meter = identifier(self.names[relation.oid]), Meter(f"writing {relation.text()}")
@@ -90,7 +81,7 @@ def base_of(reading: Reading, check: Check) -> Iterator[Base]:
     elif reading.store:
         path = own_name(reading.store.path + ".base")
         try:
-            reading.store.export(path, True, reading.chosen, check)
+            reading.store.export(path, ALL_TEXT, reading.chosen, check)
             with exported(path, reading.chosen) as found:
                 yield found
         finally:
@@ -104,5 +95,7 @@ def base_of(reading: Reading, check: Check) -> Iterator[Base]:
 def exported(path: str, chosen: tuple[str, ...]) -> Iterator[Base]:
     if not (os.path.isfile(path) and is_export(path)):
         raise FileError(f"--base {path}: it is no export")
+    if is_earlier(path):
+        raise FileError(f"--base {path}: {EARLIER}: make it anew")
     with contextlib.closing(opened(path)) as db:
         yield Exported(db, path, chosen)

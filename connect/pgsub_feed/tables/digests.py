@@ -23,7 +23,7 @@ from .target import Bound
 
 DIGESTS = "pgsub_digests"
 # The version of a file with digests.
-FORMAT = 2
+FORMAT = 4
 SCHEMA = f"CREATE TABLE {DIGESTS} (oid INTEGER PRIMARY KEY, rows INTEGER NOT NULL, first INTEGER NOT NULL, second INTEGER NOT NULL) STRICT"
 
 
@@ -81,14 +81,15 @@ class Images:
     """Adds up the rows of changes of a table."""
 
     def __init__(self, kept: Valued) -> None:
-        self.fields = Fields(kept, kept.relation.shape.columns)
+        self.fields = Fields(kept)
 
     def of_rows(self, rows: Iterable[Cells | None]) -> Digest:
         count = first = second = 0
         for cells in rows:
             if cells is None:
                 continue
-            words = words_of(hash_of(plain_text(cells) or text_of(self.fields.of_cells(cells))))
+            plain = None if self.fields.old_scales(cells) else plain_text(cells)
+            words = words_of(hash_of(plain or text_of(self.fields.of_cells(cells))))
             count, first, second = count + 1, first + words[FIRST_WORD], second + words[SECOND_WORD]
         return Digest(count, first, second)
 
@@ -109,7 +110,7 @@ class Digests:
 
     def add_up(self, kept: Kept) -> None:
         """Reads a table's rows."""
-        fields = Fields(kept, kept.relation.shape.columns)
+        fields = Fields(kept)
         self.set(kept.oid, summed(map(fields.of_row, self.db.execute(fields.query))))
         self.images.pop(kept.oid, None)
 
@@ -128,7 +129,7 @@ class Digests:
         """Takes off rows that are about to go, by their keys, as they are here."""
         if kept.oid not in self.known:
             return
-        fields = Fields(kept, kept.relation.shape.columns)
+        fields = Fields(kept)
         query = f"{fields.query} WHERE {kept.where(0)}"
         rows = itertools.chain.from_iterable(self.db.execute(query, key) for key in keys)
         gone = summed(map(fields.of_row, rows))

@@ -9,29 +9,30 @@ from .. import log
 from ..errors import FileError, Passing, Unfit
 from ..known_tables import KnownTables
 from ..reader.commits import Head
-from ..reader.lines import read_relation
 from ..relation import Relation
 from ..texts import identifier, lsn_text, parse_lsn
 from .digests import FORMAT as WITH_DIGESTS
 from .digests import SCHEMA as DIGESTS_SCHEMA
 from .digests import Digests, has_digests
-from .names import OLD, POSITION, TABLES, distinct_name, folded, names_of, told_columns
-from .primary_keys import Keys, inherited, primary_in
-from .reshape import LOOSE, carry, loosen, sources
+from .names import OLD, POSITION, TABLES, distinct_name, folded, names_of
+from .primary_keys import Keys, inherited
+from .reshape import LOOSE, carry, is_alike, loosen, sources
 from .schema import (
     FEED,
     FORMAT,
+    FORMS,
     RELATIONS,
+    definition,
     full_name,
     path_bytes,
+    read_definition,
     read_folder,
-    relation_text,
-    unlisted,
 )
 from .set_aside import CANT_KEEP, Asides, Unkept, is_of_table, nested, reason
 from .table import IS_MINUS_ZERO, Kept, is_minus_zero, rows_index
 from .target import key_index
 from .user_sql import Init
+from .values import BOTH
 
 # What the name of an older table begins with whose name another one got.
 OLDER = OLD + " "
@@ -41,12 +42,12 @@ BUSY = 60.0
 
 class Rows:
     """The file, open for writing. All that is done to it is in a transaction, which `settle`
-    commits with an LSN."""
+    commits with an LSN. `form`: how numerics are kept."""
 
     def __init__(
-        self, path: str, init: Init | None = None, known: KnownTables | None = None
+        self, path: str, init: Init | None = None, known: KnownTables | None = None, form: str = BOTH
     ) -> None:
-        self.path, self.init, self.keys = path, init, Keys(known)
+        self.path, self.init, self.keys, self.form = path, init, Keys(known), form
         self.db = sqlite3.connect(path, timeout=BUSY, isolation_level=None, cached_statements=2000)
         self.asides = Asides(self.db, path)
         try:
@@ -82,41 +83,27 @@ class Rows:
         self.names: dict[str, Kept] = {}
         self.holders: dict[tuple[str, str], Kept] = {}
         self.asides.load()
-        self.untold: set[int] = set()
         self.is_init_due = False
-        tables = {
-            oid: (name, schema, table)
-            for name, schema, table, oid in db.execute(f"SELECT * FROM {TABLES}")
-        }
-        for oid, name, definition in db.execute(f"SELECT * FROM {RELATIONS}").fetchall():
+        for oid, name, text in db.execute(f"SELECT * FROM {RELATIONS}").fetchall():
             if name is None:
                 self.left_out |= {oid} - self.asides.known.keys()
-                continue
-            if definition is None:
-                self.untold.add(oid)
-            relation = (
-                read_relation(json.loads(definition))
-                if definition
-                else unlisted(db, *tables[oid], oid)
-            )
-            self.load(name, relation)
+            else:
+                self.load(name, *read_definition(text))
         chosen = db.execute(f"SELECT chosen FROM {FEED}").fetchone()
         self.chosen = set(json.loads(chosen[0])) if chosen else set[str]()
         self.digests = Digests(db) if has_digests(db) else None
 
-    def load(self, name: str, relation: Relation) -> None:
-        keys = self.db.execute("SELECT cid FROM pragma_table_info(?) WHERE pk", (name,)).fetchall()
-        primary = primary_in(relation, [at for (at,) in keys])
-        kept = Kept(name, relation, primary, is_loose=not keys)
+    def load(self, name: str, relation: Relation, form: str, primary: tuple[str, ...]) -> None:
+        if form != self.form:
+            raise Unfit(f"{self.path}: {FORMS % (form, self.form)}: name that, or another file")
+        keys = self.db.execute("SELECT 1 FROM pragma_table_info(?) WHERE pk", (name,)).fetchone()
+        kept = Kept(name, relation, form, primary, is_loose=not keys)
         indexes = [key_index(relation.oid), rows_index(relation.oid)]
         kept.has_index = bool(
             self.db.execute(
                 "SELECT 1 FROM sqlite_schema WHERE type = 'index' AND name IN (?, ?)", indexes
             ).fetchone()
         )
-        if relation.oid in self.untold:
-            names = told_columns(it.name for it in relation.shape.columns)
-            kept.others = {it: at for at, it in enumerate(names)}
         self.kept[relation.oid] = kept
         if not name.startswith(OLDER):
             self.hold(kept)
@@ -198,15 +185,13 @@ class Rows:
             raise Unfit(f"{self.path} has rows of {was.text()}, and the feed is of {head.text()}")
 
     def keep_digests(self) -> None:
-        """Keeps a digest of each table from now on. (One whose definition wasn't told gets it with
-        that.)"""
+        """Keeps a digest of each table from now on."""
         self.begin()
         self.db.execute(DIGESTS_SCHEMA)
         self.db.execute(f"PRAGMA user_version = {WITH_DIGESTS}")
         self.digests = Digests(self.db)
         for kept in self.kept.values():
-            if kept.oid not in self.untold:
-                self.digests.add_up(kept)
+            self.digests.add_up(kept)
         self.settle(self.at)
 
     def is_chosen(self, relation: Relation) -> bool:
@@ -219,7 +204,7 @@ class Rows:
         None of one that wasn't chosen, or is set aside."""
         kept = self.kept.get(relation.oid)
         is_older = kept is not None and kept.name.startswith(OLDER)
-        if kept and kept.relation == relation and relation.oid not in self.untold and not is_older:
+        if kept and kept.relation == relation and not is_older:
             return self.attempt(relation, at) if self.keys.has_news(relation) else kept
         if not self.is_chosen(relation):
             self.leave_out(relation, kept)
@@ -250,15 +235,15 @@ class Rows:
                 "it had another name before, which wasn't chosen: its rows from then are missing",
             )
         name = self.claim(relation, kept)
-        before = kept and relation.oid not in self.untold and kept.relation.shape.columns
+        before = kept and kept.relation.shape.columns
         primary = self.keys.of(relation)
         if kept is None:
-            kept = Kept(name, relation, primary or ())
+            kept = Kept(name, relation, self.form, primary or ())
             kept.make(self.db)
         else:
             primary = inherited(kept, relation) if primary is None else primary
             self.rename(kept, name)
-            kept = self.reshaped(kept, Kept(name, relation, primary))
+            kept = self.reshaped(kept, Kept(name, relation, self.form, primary))
         self.is_init_due = True
         self.note(kept)
         if self.digests and before != relation.shape.columns:
@@ -306,12 +291,10 @@ class Rows:
 
     def reshaped(self, old: Kept, new: Kept) -> Kept:
         """Makes a table have a new shape, where it is another one."""
-        was, now = old.target, new.target
-        is_same = (was.columns, was.key) == (now.columns, now.key) and [
-            it[0] for it in was.kinds
-        ] == [it[0] for it in now.kinds]
-        if is_same and (old.oid in self.untold or sources(old, new) == list(range(new.width))):
-            same = Kept(new.name, new.relation, new.primary, is_loose=not was.is_keyed)
+        was, now, columns = old.target, new.target, range(len(new.target.several))
+        is_same = (was.columns, was.places, was.key) == (now.columns, now.places, now.key)
+        if is_same and sources(old, new) == list(columns) and is_alike(old, new, columns):
+            same = Kept(new.name, new.relation, self.form, new.primary, is_loose=not was.is_keyed)
             same.has_index = old.has_index
             return same
         return carry(self.db, old, new)
@@ -319,7 +302,7 @@ class Rows:
     def rekeyed(self, kept: Kept) -> Kept:
         """Gives a table that is empty now the primary key that the server has."""
         primary = self.keys.of(kept.relation)
-        new = Kept(kept.name, kept.relation, primary or ())
+        new = Kept(kept.name, kept.relation, self.form, primary or ())
         if not primary or (new.target.key == kept.target.key and kept.target.is_keyed):
             return kept
         with nested(self.db):
@@ -369,14 +352,13 @@ class Rows:
         if before:
             self.forget(before)
         self.kept[kept.oid] = kept
-        self.untold.discard(kept.oid)
         if not kept.name.startswith(OLDER):
             self.hold(kept)
             named = (kept.name, relation.namespace or "pg_catalog", relation.name, kept.oid)
             self.db.execute(f"INSERT INTO {TABLES} VALUES (?, ?, ?, ?)", named)
         self.db.execute(
             f"INSERT OR REPLACE INTO {RELATIONS} VALUES (?, ?, ?)",
-            (kept.oid, kept.name, relation_text(relation)),
+            (kept.oid, kept.name, definition(kept.target)),
         )
 
     def run_init(self) -> None:

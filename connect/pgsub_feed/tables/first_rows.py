@@ -19,8 +19,12 @@ from ..reader.reading import Reading
 from ..reader.segments import Reader, read_confirmed, segments
 from ..texts import identifier, lsn_text, parse_lsn
 from .names import POSITION, TABLES, names_of
-from .schema import FEED, MORE, RELATIONS, SCHEMA, path_bytes
-from .sqlite_files import is_export, is_tables, opened
+from .schema import FEED, FORMS, MORE, RELATIONS, SCHEMA, path_bytes, read_definition
+from .sqlite_files import is_earlier, is_export, is_tables, opened
+from .values import ALL_TEXT
+
+# What is told of a file of an earlier version.
+EARLIER = "an earlier version has made it, whose numerics are texts"
 
 
 def check_file(path: str) -> None:
@@ -68,27 +72,29 @@ def begins_at(reading: Reading) -> int:
     return read_confirmed(reading.feed) or 0 if is_followed else 0
 
 
-def make(into: str, reading: Reading, check: Check) -> None:
-    """Makes the file."""
+def make(into: str, reading: Reading, form: str, check: Check) -> None:
+    """Makes the file. `form`: how numerics are kept."""
     if reading.base:
-        make_from(reading.base, into, reading, check)
+        make_from(reading.base, into, reading, form, check)
     elif reading.store:
         base = own_name(into + ".base")
         try:
-            reading.store.export(base, False, (), check)
-            make_from(base, into, reading, check)
+            reading.store.export(base, form, (), check)
+            make_from(base, into, reading, form, check)
         finally:
             remove(base)
     else:
         check_begin(reading, check)
-        make_from(None, into, reading, check)
+        make_from(None, into, reading, form, check)
 
 
-def make_from(base: str | None, into: str, reading: Reading, check: Check) -> None:
+def make_from(base: str | None, into: str, reading: Reading, form: str, check: Check) -> None:
     """Makes the file with the rows of another one, or empty."""
     folder = os.path.abspath(reading.feed)
     if base and not (os.path.isfile(base) and (is_export(base) or is_tables(base))):
         raise FileError(f"--base {base}: it is no export, nor a file of tables that follow a feed")
+    if base:
+        check_base(base, form)
     with placed(into, reading.mode) as new:
         if base and is_tables(base):
             clone(base, new)
@@ -98,6 +104,17 @@ def make_from(base: str | None, into: str, reading: Reading, check: Check) -> No
             copy(base, new, 0o600, check)
         with contextlib.closing(sqlite3.connect(new, isolation_level=None)) as db:
             prepare(db, folder, reading.chosen, bool(base))
+
+
+def check_base(base: str, form: str) -> None:
+    """Rejects a file whose values are kept in another form."""
+    if is_earlier(base):
+        raise FileError(f"--base {base}: {EARLIER}: make it anew")
+    with contextlib.closing(opened(base)) as db:
+        for (text,) in db.execute(f"SELECT definition FROM {RELATIONS} WHERE name NOT NULL"):
+            if (has := read_definition(text)[1]) != form:
+                told = "its values are texts, by --text" if has == ALL_TEXT else FORMS % (has, form)
+                raise Unfit(f"--base {base}: {told}: make another one")
 
 
 def prepare(db: sqlite3.Connection, folder: str, chosen: Iterable[str], is_base: bool) -> None:
@@ -111,12 +128,12 @@ def prepare(db: sqlite3.Connection, folder: str, chosen: Iterable[str], is_base:
         (path_bytes(folder), json.dumps(names)),
     )
     for name, schema, table, oid in db.execute(f"SELECT * FROM {TABLES}").fetchall():
-        if not names or set(names) & names_of(schema, table):
-            db.execute(f"INSERT INTO {RELATIONS} VALUES (?, ?, NULL)", (oid, name))
-        else:
+        if names and not set(names) & names_of(schema, table):
             db.execute(f"DROP TABLE {identifier(name)}")
             db.execute(f"DELETE FROM {TABLES} WHERE oid = ?", (oid,))
-            db.execute(f"INSERT INTO {RELATIONS} VALUES (?, NULL, NULL)", (oid,))
+            db.execute(
+                f"UPDATE {RELATIONS} SET name = NULL, definition = NULL WHERE oid = ?", (oid,)
+            )
     db.execute("COMMIT")
 
 

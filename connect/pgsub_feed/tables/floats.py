@@ -21,6 +21,8 @@ DOUBLE, SINGLE = (53, -1074, 17), (24, -149, 9)
 
 def printed_float(value: float, is_short: bool) -> str:
     """With an exponent below -4, and from 15 on, or 6 where it has four bytes (`is_short`)."""
+    if math.isinf(value):
+        return "Infinity" if value > 0 else "-Infinity"
     value = struct.unpack(">f", struct.pack(">f", value))[0] if is_short else value
     sign, digits, last = (
         Decimal(shortest(value) if is_short else repr(value)).normalize().as_tuple()
@@ -38,7 +40,7 @@ def stored_float(value: float, is_short: bool) -> str:
     """A number of 8 bytes as the server prints that which it is stored for: read from the digits
     that the server prints, or of 4 bytes. Any other, which no server has sent, as Python prints it.
     """
-    if not math.isfinite(value):
+    if math.isnan(value):
         return repr(value)
     try:
         text = printed_float(value, is_short)
@@ -46,6 +48,16 @@ def stored_float(value: float, is_short: bool) -> str:
     except OverflowError:
         return repr(value)
     return text if value in (exact, float(text)) else repr(value)
+
+
+def stored_numeric(value: float, scale: int) -> str:
+    """A numeric with so many digits behind the point as the server prints it; one below none ends
+    in as many zeros. NaN is stored as Infinity. Any other number, which no such numeric is stored
+    as, as Python prints it."""
+    if math.isinf(value):
+        return "NaN" if value > 0 else repr(value)
+    text = f"{value:.{scale}f}" if scale >= 0 else str(int(Decimal(repr(value))))
+    return text if float(text) == value else repr(value)
 
 
 def placed(text: str, last: int, most: int) -> str:

@@ -17,10 +17,12 @@ from ..reader.reading import Reading
 from ..texts import lsn_text
 from .applier import Applier
 from .file import Rows
-from .first_rows import keeping, make
+from .first_rows import EARLIER, keeping, make
 from .rewind import walk
 from .set_aside import shown_asides
+from .sqlite_files import is_earlier
 from .user_sql import Init
+from .values import BOTH
 
 # How many changes one transaction takes where more commits are there.
 MOST = 20000
@@ -29,13 +31,14 @@ MOST = 20000
 @dataclasses.dataclass(frozen=True)
 class Wanted:
     """The file that is wanted: with a user's SQL after a table was made, and with digests. `keys`
-    knows primary keys."""
+    knows primary keys; `form`: how numerics are kept."""
 
     into: str
     reading: Reading
     init: str | None = None
     has_digests: bool = False
     keys: KnownTables | None = None
+    form: str = BOTH
 
 
 class Tables:
@@ -79,10 +82,14 @@ def keep(wanted: Wanted, check: Check, parent: Parent | None = None) -> tuple[in
     """Keeps the tables of a file. Returns its LSN at the end, and the tables that are set aside."""
     reading = wanted.reading
     init = Init(wanted.init) if wanted.init else None
-    if not os.path.exists(wanted.into):
+    is_there = os.path.exists(wanted.into)
+    if is_there and is_earlier(wanted.into):
+        log.warning(f"{wanted.into}: {EARLIER}: it is made anew")
+        is_there = False
+    if not is_there:
         with keeping(reading):
-            make(wanted.into, reading, check)
-    rows, is_orderly = Rows(wanted.into, init, wanted.keys), False
+            make(wanted.into, reading, wanted.form, check)
+    rows, is_orderly = Rows(wanted.into, init, wanted.keys, wanted.form), False
     try:
         prepare(rows, wanted, check)
         is_stopped = follow(rows, wanted, check, parent)

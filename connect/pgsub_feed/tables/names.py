@@ -71,21 +71,15 @@ def unused(name: str, second: str, taken: Collection[str]) -> str:
     return found
 
 
-def told_columns(names: Iterable[str]) -> list[str]:
-    """The names that columns may have at the publisher whose names here are these, as
-    `name_columns` gave them."""
-    taken, found = set[str](), []
-    for number, name in enumerate(names, 1):
-        first = name.rstrip("_").removesuffix(f" {number}")
-        found.append(first if folded(first) in taken else name)
-        taken.add(folded(name))
-    return found
-
-
-def name_columns(columns: Iterable[str]) -> list[str]:
-    """The names of a table's columns, with a number where SQLite has the name already."""
-    taken, found = set[str](), []
+def name_columns(columns: Iterable[str], second: Collection[int] = ()) -> list[list[str]]:
+    """The names that a table's columns get, with a number where SQLite has the name already; those
+    of the numbers in `second` get another one too, `NAME_text`, which no other column has."""
+    names, taken = list[list[str]](), set[str]()
     for number, column in enumerate(columns, 1):
-        found.append(unused(column, f"{column} {number}", taken))
-        taken.add(folded(found[-1]))
-    return found
+        names.append([unused(column, f"{column} {number}", taken)])
+        taken.add(folded(names[-1][0]))
+    for at in sorted(second):
+        name = f"{names[at][0]}_text"
+        names[at].append(unused(name, f"{name} {at + 1}", taken))
+        taken.add(folded(names[at][1]))
+    return names

@@ -16,7 +16,6 @@ from collections.abc import Sequence
 from .. import log
 from ..known_tables import KnownTables
 from ..relation import Relation
-from .names import name_columns
 from .table import Kept
 
 # The replica identities that may be another key, or none.
@@ -75,11 +74,6 @@ def lacking(known: tuple[str, ...], relation: Relation) -> str:
     return lacks and f"the stream doesn't have {lacks} of the primary key that the server has"
 
 
-def primary_in(relation: Relation, places: Sequence[int]) -> tuple[str, ...]:
-    """The columns that are the key of a table of SQLite, where that isn't told by the identity."""
-    return other_key(relation, [relation.shape.columns[at].name for at in places])
-
-
 def other_key(relation: Relation, names: Sequence[str]) -> tuple[str, ...]:
     """These columns, unless they are what the identity tells itself."""
     letter, columns = relation.shape.identity, relation.shape.columns
@@ -89,10 +83,5 @@ def other_key(relation: Relation, names: Sequence[str]) -> tuple[str, ...]:
 
 def inherited(kept: Kept, relation: Relation) -> tuple[str, ...]:
     """The columns of the key that a table has, where nothing else is known of it."""
-    columns = [it.name for it in relation.shape.columns]
-    if kept.others and kept.target.is_keyed:
-        # (of an export its columns' names in SQLite are all that is known)
-        names = {kept.relation.shape.columns[at].name for at in kept.target.key}
-        here = zip(columns, name_columns(columns), strict=True)
-        return other_key(relation, [it for it, name in here if name in names])
-    return other_key(relation, kept.primary) if set(kept.primary) <= set(columns) else ()
+    columns = {it.name for it in relation.shape.columns}
+    return other_key(relation, kept.primary) if columns.issuperset(kept.primary) else ()

@@ -2,8 +2,9 @@
 compared.
 
 Each value of SQLite is one of the server's texts, so nothing is left out: a number of floating
-point is the shortest digits that give it again, as the module `tables.floats` says; a bool is t or
-f; bytes are in hexadecimal digits.
+point is the shortest digits that give it again, and a numeric has its scale, as the module
+`tables.floats` says; a bool is t or f; bytes are in hexadecimal digits. A numeric that a number
+doesn't tell is its second column's text.
 """
 
 from __future__ import annotations
@@ -18,15 +19,22 @@ from .reshape import printed
 from .row_texts import Field
 from .table import Valued
 from .target import Bound
-from .values import BOOL, BYTEA, FLOAT4
+from .values import BOOL, BYTEA, FLOAT4, scale_of
 
 
 class Fields:
-    """Makes fields of a table's rows. `columns`: with the types that say how values are printed."""
+    """Makes fields of a table's rows."""
 
-    def __init__(self, valued: Valued, columns: Sequence[Column]) -> None:
-        self.valued, self.columns = valued, columns
-        self.query = f"SELECT {', '.join(valued.target.columns)} FROM {identifier(valued.name)}"
+    def __init__(self, valued: Valued) -> None:
+        self.valued, self.columns, target = valued, valued.relation.shape.columns, valued.target
+        chosen = ", ".join(target.columns[at] for at in target.exact)
+        self.query = f"SELECT {chosen} FROM {identifier(valued.name)}"
+        # numerics that are numbers here, with their scales
+        self.scaled = [
+            (at, scale)
+            for at, column in enumerate(self.columns)
+            if (scale := scale_of(column)) is not None and target.types(at) == ["REAL"]
+        ]
 
     def of_row(self, row: Sequence[Bound]) -> list[Field]:
         """Those of a row of SQLite. What isn't UTF-8 there stays as it is, and is equal to nothing
@@ -44,10 +52,19 @@ class Fields:
 
     def of_cells(self, cells: Sequence[Cell]) -> list[Field]:
         """Those of a row of a feed."""
-        return [
+        fields = [
             None if it is None else it.encode() if isinstance(it, str) else self.of_binary(at, it)
             for at, it in enumerate(cells)
         ]
+        for at, _ in self.old_scales(cells):
+            value = self.valued.value(self.valued.target.exact[at], cells[at])
+            fields[at] = told(self.columns[at], value)
+        return fields
+
+    def old_scales(self, cells: Sequence[Cell]) -> list[tuple[int, int]]:
+        """The numerics of a row of a feed that have another scale than their column, as those do
+        that were sent before it was altered. (As numbers they have none.)"""
+        return [it for it in self.scaled if not has_scale(cells[it[0]], it[1])]
 
     def of_binary(self, at: int, cell: bytes) -> Field:
         """That of a value in binary form. A text's is its bytes."""
@@ -56,10 +73,17 @@ class Fields:
         return cell if is_text else told(self.columns[at], value)
 
 
+def has_scale(cell: Cell, scale: int) -> bool:
+    """Whether a numeric is printed with so many digits behind the point, none where it is below 0."""
+    if not isinstance(cell, str) or cell == "NaN":
+        return True
+    return "e" not in cell and ("." not in cell if scale <= 0 else cell[-scale - 1 : -scale] == ".")
+
+
 def told(column: Column, value: Bound) -> Field:
     """A value as the server prints it. A number that none of the type is stored as gives what no
     server prints."""
-    if isinstance(value, float):
+    if isinstance(value, float) and scale_of(column) is None:
         return stored_float(value, column.type_oid == FLOAT4).encode()
     if column.type_oid == BOOL and isinstance(value, int) and value not in (0, 1):
         return str(value).encode()

@@ -10,17 +10,18 @@ from __future__ import annotations
 
 import contextlib
 import sqlite3
-from collections.abc import Iterator
+from collections.abc import Iterable, Iterator
 
 from .. import log
 from ..reader.commits import Cell
 from ..relation import Column
 from ..texts import identifier
-from .floats import printed_float
+from .floats import printed_float, stored_numeric
 from .names import OLD
+from .set_aside import Unkept
 from .table import Kept, Valued, rows_index
-from .target import Bound, key_index, with_columns
-from .values import BOOL, FLOAT4
+from .target import Bound, key_index
+from .values import BOOL, FLOAT4, scale_of
 
 # What is told of a table whose key is none of SQLite's.
 LOOSE = "rows have null in the key, or equal keys: the table has an index in place of a primary key"
@@ -33,18 +34,18 @@ def printed(column: Column, value: Bound) -> Cell:
     if isinstance(value, bytes):
         return "\\x" + value.hex()
     if isinstance(value, float):
-        return printed_float(value, column.type_oid == FLOAT4)
+        scale = scale_of(column)
+        is_short = column.type_oid == FLOAT4
+        return printed_float(value, is_short) if scale is None else stored_numeric(value, scale)
     return ("t" if value else "f") if column.type_oid == BOOL else str(value)
 
 
 def sources(old: Valued, new: Valued) -> list[int | None]:
     """For each column of a shape the number of the old shape's that has its name."""
     named = dict[str, int]()
-    for at, column in enumerate(with_columns(old.relation).shape.columns):
+    for at, column in enumerate(old.target.relation.shape.columns):
         named.setdefault(column.name, at)
-    for name, at in old.others.items():
-        named.setdefault(name, at)
-    return [named.get(column.name) for column in with_columns(new.relation).shape.columns]
+    return [named.get(column.name) for column in new.target.relation.shape.columns]
 
 
 def carry(db: sqlite3.Connection, old: Kept, new: Kept) -> Kept:
@@ -63,7 +64,7 @@ def carry(db: sqlite3.Connection, old: Kept, new: Kept) -> Kept:
             except sqlite3.IntegrityError:
                 db.execute(f"DROP TABLE {identifier(new.name)}")
         log.warning(f"{new.relation.text()}: {LOOSE}")
-        new = Kept(new.name, new.relation, new.primary, is_loose=True)
+        new = loose(new)
         new.make(db)
         put(cursor, old, new)
     return finish(db, new)
@@ -74,25 +75,37 @@ def finish(db: sqlite3.Connection, new: Kept) -> Kept:
     return new
 
 
+def loose(kept: Kept) -> Kept:
+    return Kept(kept.name, kept.relation, kept.target.form, kept.primary, is_loose=True)
+
+
 def loosen(db: sqlite3.Connection, kept: Kept) -> Kept:
     """Makes a table anew whose key can't be a primary key."""
-    return carry(db, kept, Kept(kept.name, kept.relation, kept.primary, is_loose=True))
+    return carry(db, kept, loose(kept))
 
 
 def extend(db: sqlite3.Connection, old: Kept, new: Kept) -> bool:
     """Adds columns to the table that is there, where nothing else was altered; whether that was
     so."""
-    was, now, count = old.target, new.target, old.width
-    if (was.columns, was.key, was.is_keyed) != (now.columns[:count], now.key, now.is_keyed):
+    was, now, count = old.target, new.target, len(old.target.several)
+    if (was.columns, was.key, was.is_keyed) != (now.columns[: old.width], now.key, now.is_keyed):
         return False
-    if [it[0] for it in was.kinds] != [it[0] for it in now.kinds[:count]] or sources(old, new)[
-        :count
-    ] != list(range(count)):
+    if sources(old, new)[:count] != list(range(count)) or not is_alike(old, new, range(count)):
         return False
-    for column, (kind, _, _) in list(zip(now.columns, now.kinds, strict=True))[count:]:
+    for column, (kind, _, _) in list(zip(now.columns, now.kinds, strict=True))[old.width :]:
         db.execute(f"ALTER TABLE {identifier(new.name)} ADD COLUMN {column} {kind}")
     new.has_index = old.has_index
     return True
+
+
+def is_alike(old: Valued, new: Valued, columns: Iterable[int]) -> bool:
+    """Whether these columns of the new shape have the types in SQLite that theirs of the old one
+    have, if there are such."""
+    places = sources(old, new)
+    return all(
+        (was := places[at]) is None or old.target.types(was) == new.target.types(at)
+        for at in columns
+    )
 
 
 def has_null_keys(db: sqlite3.Connection, old: Kept, new: Kept) -> bool:
@@ -101,8 +114,8 @@ def has_null_keys(db: sqlite3.Connection, old: Kept, new: Kept) -> bool:
         return False
     places = sources(old, new)
     nulls = [
-        f"{old.target.columns[at]} IS NULL" if (at := places[key]) is not None else "TRUE"
-        for key in new.target.key
+        f"{old.target.named(at)[0]} IS NULL" if (at := places[key]) is not None else "TRUE"
+        for key in new.keys
     ]
     return bool(
         db.execute(
@@ -114,13 +127,15 @@ def has_null_keys(db: sqlite3.Connection, old: Kept, new: Kept) -> bool:
 def put(cursor: sqlite3.Cursor, old: Kept, new: Kept) -> None:
     """Puts the old table's rows into the new one."""
     places = sources(old, new)
-    chosen = ", ".join("NULL" if at is None else old.target.columns[at] for at in places)
-    query = f"SELECT {chosen} FROM {OLD} ORDER BY {old.row_id()}"
-    kinds = [
-        (None if at is None else old.target.kinds[at][0], kind)
-        for at, (kind, _, _) in zip(places, new.target.kinds, strict=True)
-    ]
-    if all(was in (None, now) for was, now in kinds):
+    is_same = is_alike(old, new, range(len(places)))
+    chosen = list[str]()
+    for at, kinds in zip(places, new.target.several, strict=True):
+        if at is None:
+            chosen += ["NULL"] * (len(kinds) if is_same else 1)
+        else:
+            chosen += old.target.named(at) if is_same else old.target.named(at)[-1:]
+    query = f"SELECT {', '.join(chosen)} FROM {OLD} ORDER BY {old.row_id()}"
+    if is_same:
         cursor.execute(f"INSERT INTO {identifier(new.name)} {query}")
     else:
         cursor.executemany(new.insertion, converted(cursor.connection, query, old, new))
@@ -128,14 +143,16 @@ def put(cursor: sqlite3.Cursor, old: Kept, new: Kept) -> None:
 
 def converted(db: sqlite3.Connection, query: str, old: Kept, new: Kept) -> Iterator[list[Bound]]:
     """The rows with what their values are in the new shape."""
-    columns = [
-        None if at is None else with_columns(old.relation).shape.columns[at]
-        for at in sources(old, new)
-    ]
+    places, shape = sources(old, new), old.target.relation.shape
+    columns = [None if at is None else shape.columns[at] for at in places]
+    lost = set(old.target.inexact()).difference(new.target.inexact())
     # (closed where a value isn't one of the new type, as a table that is read can't be dropped)
     with contextlib.closing(db.execute(query)) as rows:
         for row in rows:
-            pairs = zip(columns, row, strict=True)
+            pairs = list(zip(columns, row, strict=True))
+            if gone := [it.name for it, value in pairs if it in lost and value is not None]:
+                why = f"the column {gone[0]} was kept by --numeric real, and its exact values aren't here"
+                raise Unkept(new.relation, why)
             yield new.row(
                 [None if column is None else printed(column, value) for column, value in pairs]
             )

@@ -18,8 +18,9 @@ from ..relation import Relation
 from ..texts import identifier, lsn_text
 from .applier import Applier
 from .file import Rows
-from .reshape import sources
+from .reshape import is_alike, sources
 from .table import Valued
+from .values import NUMERIC
 
 
 class Lost(Unfit):
@@ -126,11 +127,16 @@ def check_shape(rows: Rows, relation: Relation) -> None:
     kept = rows.kept.get(relation.oid)
     if kept is None or kept.relation == relation or not rows.is_chosen(relation):
         return
-    was = Valued(kept.name, relation)
-    for at, column, kind in zip(
-        sources(kept, was), was.target.relation.shape.columns, was.target.kinds, strict=True
+    was = Valued(kept.name, relation, rows.form)
+    for place, (at, column) in enumerate(
+        zip(sources(kept, was), was.target.relation.shape.columns, strict=True)
     ):
-        is_lost = at is None or kept.target.kinds[at][0] != kind[0]
+        # (the text of a numeric has all of it)
+        is_lost = at is None or not (
+            is_alike(kept, was, [place])
+            or column.type_oid == NUMERIC
+            and kept.target.types(at) == ["REAL", "TEXT"]
+        )
         if (
             is_lost
             and rows.db.execute(

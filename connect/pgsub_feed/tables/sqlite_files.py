@@ -14,17 +14,27 @@ OLDEST = (3, 37, 0)
 FULL = "is full"
 PASSING = ("is locked", FULL)
 # What tells these files from others: the application of the head, `pgse` or `pgst`.
-MAGIC, APPLICATION_AT = b"SQLite format 3\0", 68
+MAGIC, APPLICATION_AT, VERSION_AT = b"SQLite format 3\0", 68, 60
 EXPORT, FOLLOWING = 0x70677365, 0x70677374
+# The versions of files that have other types, by an earlier version of these programs.
+EARLIER = (0, 1, 2)
+
+
+def number_at(path: str, at: int) -> int | None:
+    """A number in the head of a file of SQLite; None of any other file."""
+    with open(path, "rb") as file:
+        head = file.read(100)
+    return int.from_bytes(head[at : at + 4], "big") if head.startswith(MAGIC) else None
 
 
 def application(path: str) -> int | None:
     """What the head of a file of SQLite says of whose it is; None of any other file."""
-    with open(path, "rb") as file:
-        head = file.read(100)
-    if not head.startswith(MAGIC):
-        return None
-    return int.from_bytes(head[APPLICATION_AT : APPLICATION_AT + 4], "big")
+    return number_at(path, APPLICATION_AT)
+
+
+def is_earlier(path: str) -> bool:
+    """Whether an export, or a file of tables, is one of an earlier version."""
+    return number_at(path, VERSION_AT) in EARLIER
 
 
 def is_export(path: str) -> bool:

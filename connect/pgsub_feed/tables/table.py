@@ -10,10 +10,10 @@ from collections.abc import Sequence
 from ..reader.commits import Cell
 from ..relation import Relation
 from ..texts import identifier
-from .names import folded, name_columns
+from .names import folded
 from .set_aside import Unkept
-from .target import Bound, Target, key_index, unlike_reason, with_columns
-from .values import Unlike
+from .target import Bound, Target, key_index, unlike_reason
+from .values import BOTH, Unlike
 
 # How many columns the index has by which a row without a key is found.
 INDEXED = 4
@@ -43,13 +43,13 @@ def rows_index(oid: int) -> str:
 class Valued:
     """A relation as a table of SQLite: what a row's cells are there."""
 
-    def __init__(self, name: str, relation: Relation, primary: tuple[str, ...] = ()) -> None:
+    def __init__(
+        self, name: str, relation: Relation, form: str = BOTH, primary: tuple[str, ...] = ()
+    ) -> None:
         self.relation, self.oid, self.name, self.primary = relation, relation.oid, name, primary
-        self.target = Target(name, with_columns(relation), False, primary)
+        self.target = Target(name, relation, form, primary)
         self.width = len(self.target.columns)
-        # numbers of columns by names that they may have at the publisher beside their own, of a
-        # table of an export
-        self.others: dict[str, int] = {}
+        self.is_wider = self.width > len(self.target.several)
         # the columns whose values aren't what their cells are
         self.read = [at for at, (kind, _, _) in enumerate(self.target.kinds) if kind != "TEXT"]
 
@@ -57,6 +57,8 @@ class Valued:
         """A row's cells as SQLite takes them."""
         if not cells:
             return [None]
+        if self.is_wider:
+            cells = [cells[at] for at in self.target.places]
         values: list[Bound] = list(cells)
         if bytes in map(type, cells):
             return [self.value(at, cell) for at, cell in enumerate(cells)]
@@ -67,9 +69,11 @@ class Valued:
 
     def unlike(self, at: int, cell: Bound) -> Unkept:
         shown = cell if isinstance(cell, bytes) else str(cell).encode()
-        return Unkept(self.relation, unlike_reason(self.relation, Unlike(at, shown)))
+        unlike = Unlike(self.target.places[at], shown)
+        return Unkept(self.relation, unlike_reason(self.relation, unlike))
 
     def value(self, at: int, cell: Cell) -> Bound:
+        """A cell as a column of SQLite has it."""
         kind, read, read_binary = self.target.kinds[at]
         try:
             if isinstance(cell, bytes):
@@ -93,11 +97,17 @@ class Kept(Valued):
     """
 
     def __init__(
-        self, name: str, relation: Relation, primary: tuple[str, ...] = (), is_loose: bool = False
+        self,
+        name: str,
+        relation: Relation,
+        form: str = BOTH,
+        primary: tuple[str, ...] = (),
+        is_loose: bool = False,
     ) -> None:
-        super().__init__(name, relation, primary)
+        super().__init__(name, relation, form, primary)
         if is_loose:
             self.target.is_keyed = False
+        self.keys = [self.target.places[at] for at in self.target.key]
         self.has_index = False
         self.write_statements()
 
@@ -165,19 +175,18 @@ class Kept(Valued):
         """The values that find a row: of a keyed one only its key is looked at."""
         if not self.target.is_keyed:
             return self.row(cells)
-        return [self.value(at, cells[at]) for at in self.found]
+        return [self.value(at, cells[key]) for at, key in zip(self.found, self.keys, strict=True)]
 
     def keeps_key(self, before: Sequence[Cell], after: Sequence[Cell]) -> bool:
-        return self.target.is_keyed and all(before[at] == after[at] for at in self.target.key)
+        return self.target.is_keyed and all(before[at] == after[at] for at in self.keys)
 
     def has_null_key(self, cells: Sequence[Cell]) -> bool:
-        return self.target.is_keyed and any(cells[at] is None for at in self.target.key)
+        return self.target.is_keyed and any(cells[at] is None for at in self.keys)
 
     def is_of_key(self, error: sqlite3.IntegrityError) -> bool:
         """Whether the values of a key are there already."""
-        names = name_columns(it.name for it in self.target.relation.shape.columns)
         return str(error) == "UNIQUE constraint failed: " + ", ".join(
-            f"{self.name}.{names[at]}" for at in self.target.key
+            f"{self.name}.{self.target.names[at]}" for at in self.target.key
         )
 
     def make(self, db: sqlite3.Connection) -> None:

@@ -1,25 +1,40 @@
 """Values of the store as values of SQLite: the column types that they get, and what reads a cell.
+
+A `numeric` is a number of floating point, so that comparisons, order and sums answer. Where such a
+number doesn't tell all values of its column apart, a second column has the server's text. That is
+so by the type's modifier, never by values.
 """
 
 from __future__ import annotations
 
 import binascii
+import math
 import re
 import struct
 from collections.abc import Callable, Sequence
 
+from .. import log
 from ..relation import Column
 
 # What goes into a table: a TEXT as its bytes, so that those that aren't UTF-8 stay as they are.
 Value = int | float | bytes | None
 Read = Callable[[bytes], Value]
 
-BOOL, BYTEA, INT8, INT2, INT4, FLOAT4, FLOAT8 = 16, 17, 20, 21, 23, 700, 701
+# A column's type in SQLite, what reads a text and what reads a binary value.
+Kind = tuple[str, Read, Read]
+
+BOOL, BYTEA, INT8, INT2, INT4, FLOAT4, FLOAT8, NUMERIC = 16, 17, 20, 21, 23, 700, 701, 1700
 # Types whose binary form is their text: "char", name, text, json, xml, unknown, bpchar, varchar.
 TEXTS = (18, 19, 25, 114, 142, 705, 1042, 1043)
 NULL, TEXT, BINARY = b"ntb"
 FLOAT = re.compile(rb"-?\d+(?:\.\d+)?(?:e[+-]?\d+)?")
-NO_NUMBERS = (b"NaN", b"Infinity", b"-Infinity")
+NO_NUMBERS = {b"Infinity": math.inf, b"-Infinity": -math.inf}
+NAN = b"NaN"
+# How numerics are kept: as numbers, with texts where these say more; as texts; as numbers alone.
+# And how an export has them whose values are all texts.
+BOTH, AS_TEXT, AS_REAL, ALL_TEXT = "both", "text", "real", "all text"
+# How many digits any number of eight bytes tells apart, and how far from the point the last may be.
+DIGITS, FARTHEST = 15, 290
 ESCAPE = re.compile(rb"\\(?:\\|([0-3][0-7]{2}))")
 
 
@@ -38,13 +53,49 @@ def read_bool(text: bytes) -> int:
     return int(text == b"t")
 
 
-def read_float(text: bytes) -> float | bytes:
-    """A number; NaN and the infinities, which SQLite hasn't, stay texts."""
+def read_number(text: bytes) -> float:
     if FLOAT.fullmatch(text):
         return float(text)
     if text not in NO_NUMBERS:
         raise ValueError
-    return text
+    return NO_NUMBERS[text]
+
+
+def read_float(text: bytes) -> float | bytes:
+    """A number; NaN, which SQLite hasn't, stays a text: both are above all numbers."""
+    return text if text == NAN else read_number(text)
+
+
+def scale_of(column: Column) -> int | None:
+    """The scale of a numeric whose values are told apart by numbers of eight bytes, which is how
+    many digits it has behind the point; None of any other column."""
+    if column.type_oid != NUMERIC or column.modifier < 4:
+        return None
+    precision, scale = (column.modifier - 4) >> 16, ((column.modifier - 4) & 0x7FF ^ 0x400) - 0x400
+    return scale if precision <= DIGITS and abs(scale) <= FARTHEST else None
+
+
+def is_rounded(column: Column) -> bool:
+    """Whether different values of a numeric may be one number of eight bytes."""
+    return column.type_oid == NUMERIC and scale_of(column) is None
+
+
+def numeric_reader(column: Column, of: str) -> Read:
+    """What reads a numeric as the nearest number of eight bytes. NaN, which SQLite hasn't, becomes
+    Infinity, above all numbers as it is on the server; that is told once."""
+    told = set[bytes]()
+
+    def read(text: bytes) -> Value:
+        if text != NAN:
+            return read_number(text)
+        if not told:
+            told.add(text)
+            log.warning(
+                f"{of}: the column {column.name} has NaN, which SQLite hasn't: it is Infinity there"
+            )
+        return math.inf
+
+    return read
 
 
 def read_bytea(text: bytes) -> bytes:
@@ -68,16 +119,13 @@ def unpacked(form: str) -> Read:
         if len(body) != read.size:
             raise ValueError
         value: int | float = read.unpack(body)[0]
-        if value != value or value in (float("inf"), float("-inf")):
-            return b"NaN" if value != value else b"Infinity" if value > 0 else b"-Infinity"
-        return value
+        return NAN if value != value else value
 
     return number
 
 
-# By type: the column's type in a table, what reads a text and what reads a binary value. Any other
-# type is TEXT.
-KINDS: dict[int, tuple[str, Read, Read]] = {
+# By type. Any other type but numeric is TEXT.
+KINDS: dict[int, Kind] = {
     BOOL: ("INTEGER", read_bool, unpacked(">?")),
     BYTEA: ("BLOB", read_bytea, read_text),
     INT2: ("INTEGER", read_int, unpacked(">h")),
@@ -92,12 +140,14 @@ def no_binary(_: bytes) -> Value:
     raise ValueError
 
 
-def kind_of(column: Column, is_text: bool) -> tuple[str, Read, Read]:
-    """A column's type in a table, and what reads its cells. `is_text`: all of them as they are
-    printed."""
-    if is_text or column.type_oid not in KINDS:
-        return "TEXT", read_text, read_text if column.type_oid in TEXTS else no_binary
-    return KINDS[column.type_oid]
+def kinds_of(column: Column, form: str, of: str) -> list[Kind]:
+    """The columns of a table that a column becomes, two of a numeric that a number doesn't tell.
+    `form`: how numerics are kept; `of`: the table, as it is told."""
+    text = "TEXT", read_text, read_text if column.type_oid in TEXTS else no_binary
+    if column.type_oid == NUMERIC and form in (BOTH, AS_REAL):
+        number = "REAL", numeric_reader(column, of), no_binary
+        return [number, text] if form == BOTH and is_rounded(column) else [number]
+    return [text if form == ALL_TEXT else KINDS.get(column.type_oid, text)]
 
 
 class Malformed(Exception):
@@ -112,16 +162,16 @@ class Unlike(Exception):
         self.index, self.value = index, value
 
 
-def read_row(body: bytes, kinds: Sequence[tuple[str, Read, Read]]) -> list[Value]:
-    """The values of a row: an Int16 count, and of each cell a letter, and of one that isn't null an
-    Int32 length and the bytes."""
-    if int.from_bytes(body[:2], "big") != len(kinds):
+def read_row(body: bytes, columns: Sequence[Sequence[Kind]]) -> list[Value]:
+    """The values of a row, of each of its columns one for each of those that it becomes: an Int16
+    count, and of each cell a letter, and of one that isn't null an Int32 length and the bytes."""
+    if int.from_bytes(body[:2], "big") != len(columns):
         raise Malformed
     at, values = 2, list[Value]()
-    for index, (_, read, read_binary) in enumerate(kinds):
+    for index, kinds in enumerate(columns):
         letter = body[at] if at < len(body) else 0
         if letter == NULL:
-            values.append(None)
+            values += [None] * len(kinds)
             at += 1
             continue
         first = at + 5
@@ -130,7 +180,10 @@ def read_row(body: bytes, kinds: Sequence[tuple[str, Read, Read]]) -> list[Value
             raise Malformed
         cell = body[first:at]
         try:
-            values.append(read(cell) if letter == TEXT else read_binary(cell))
+            values += [
+                read(cell) if letter == TEXT else read_binary(cell)
+                for _, read, read_binary in kinds
+            ]
         except ValueError:
             raise Unlike(index, cell) from None
     if at != len(body):

@@ -7,10 +7,12 @@ import dataclasses
 from collections.abc import Callable
 
 from pgsub_feed.arguments import duration, size
+from pgsub_feed.tables.values import BOTH
 
 from ...follow.feed import FeedSettings
 from ...follow.tables_process import TablesSettings
 from .needs import check_needs
+from .numerics import add_numeric, check_numeric
 from .types import within
 
 
@@ -27,10 +29,13 @@ class FeedOptions:
     tables: str = ""
     init: str | None = None
     digests: bool = False
+    numeric: str = BOTH
 
     def feed_settings(self, store: str, mode: int) -> FeedSettings:
         tables = (
-            TablesSettings(self.tables, self.feed, store, mode, self.init, self.digests)
+            TablesSettings(
+                self.tables, self.feed, store, mode, self.init, self.digests, self.numeric
+            )
             if self.tables
             else None
         )
@@ -114,6 +119,7 @@ def add_tables(add: Callable[..., object]) -> None:
         action="store_true",
         help="with --tables: keep a digest of each table, for `verify`",
     )
+    add_numeric(add)
 
 
 def check_feed(parser: argparse.ArgumentParser, options: FeedOptions) -> None:
@@ -128,3 +134,6 @@ def check_feed(parser: argparse.ArgumentParser, options: FeedOptions) -> None:
         ("feed_max_bytes", "feed"),
         ("feed_max_age", "feed"),
     )
+    if options.numeric != BOTH and not options.tables:
+        parser.error("--numeric needs --tables")
+    check_numeric(parser, options.numeric, options.digests)
