@@ -10,6 +10,8 @@ from __future__ import annotations
 import collections
 import contextlib
 import json
+import math
+import re
 import sqlite3
 import threading
 import time
@@ -26,16 +28,20 @@ from .sessions import Session
 
 # A value in a table of SQLite.
 Value = Union[int, float, bytes, str, None]
-FLOATS = ("NaN", "Infinity", "-Infinity")
+Read = Callable[[str], Value]
 
 
 def number(text: str) -> Value:
-    return text if text in FLOATS else float(text)
+    return text if text == "NaN" else float(text)
+
+
+def rounded(text: str) -> Value:
+    return math.inf if text == "NaN" else float(text)
 
 
 # By the name of a type that of a column in a table of SQLite, and what that has of a value which is
 # printed so; any other is its text.
-HAS: Dict[str, Tuple[str, Callable[[str], Value]]] = {
+HAS: Dict[str, Tuple[str, Read]] = {
     "smallint": ("INTEGER", int),
     "integer": ("INTEGER", int),
     "bigint": ("INTEGER", int),
@@ -44,7 +50,9 @@ HAS: Dict[str, Tuple[str, Callable[[str], Value]]] = {
     "real": ("ANY", number),
     "double precision": ("ANY", number),
 }
-TEXT: Tuple[str, Callable[[str], Value]] = ("TEXT", str)
+TEXT: Tuple[str, Read] = ("TEXT", str)
+NUMERIC, REAL = 1700, ("REAL", rounded)
+LIMITS = re.compile(r"numeric\((\d+),(-?\d+)\)")
 # The OIDs of these types.
 OIDS = {
     "smallint": 21,
@@ -55,17 +63,36 @@ OIDS = {
     "real": 700,
     "double precision": 701,
 }
-BY_OID = {oid: HAS[name] for name, oid in OIDS.items()}
+NAMES = {oid: name for name, oid in OIDS.items()}
 LOGGED = "CREATE TABLE logged (id bigserial PRIMARY KEY, tab text, op text, old text[], new text[])"
 LETTERS = {"INSERT": "c", "UPDATE": "u", "DELETE": "d"}
 # Of a change: its table, its letter, and the rows before and after.
 Change = Tuple[str, str, Optional[List[Optional[str]]], Optional[List[Optional[str]]]]
 
 
+def has(kind: str) -> list[tuple[str, Read]]:
+    """The columns of SQLite that one of a type becomes: two of a numeric of over 15 digits."""
+    limits = LIMITS.fullmatch(kind)
+    if kind != "numeric" and not limits:
+        return [HAS.get(kind, TEXT)]
+    return (
+        [REAL] if limits and int(limits[1]) <= 15 and abs(int(limits[2])) <= 290 else [REAL, TEXT]
+    )
+
+
+def kind_of(oid: int, modifier: int) -> str:
+    """The name of a type of a definition."""
+    if oid != NUMERIC:
+        return NAMES.get(oid, "")
+    limits = modifier - 4
+    scale = limits & 0x7FF if limits & 0x400 == 0 else (limits & 0x7FF) - 0x800
+    return f"numeric({limits >> 16},{scale})" if modifier >= 4 else "numeric"
+
+
 def columns_of(session: Session, table: str) -> list[tuple[str, str]]:
     """The published columns of a table, with the names of their types."""
     found = session.rows(
-        "SELECT attname, format_type(atttypid, NULL) FROM pg_attribute"
+        "SELECT attname, format_type(atttypid, CASE WHEN atttypid = 'numeric'::regtype THEN atttypmod END) FROM pg_attribute"
         f" WHERE attrelid = '{table}'::regclass AND attnum > 0 AND NOT attisdropped AND attgenerated = '' ORDER BY attnum"
     )
     return [(name or "", kind or "") for name, kind in found]
@@ -152,6 +179,13 @@ def segments(feed: Path) -> list[Path]:
     return sorted(it for it in feed.iterdir() if len(it.name) == 16)
 
 
+def definition_of(kind: str) -> tuple[int, int]:
+    """A type and its modifier, as a definition has them."""
+    if limits := LIMITS.fullmatch(kind):
+        return NUMERIC, (int(limits[1]) << 16 | int(limits[2]) & 0x7FF) + 4
+    return NUMERIC if kind == "numeric" else OIDS.get(kind, 0), -1
+
+
 def base_of(
     cluster: Cluster, program: Path, snapshot: Path, *publications: str, database: str = "shop"
 ) -> Replay:
@@ -165,7 +199,7 @@ def base_of(
                 session.value(f"SELECT '{name.replace(chr(39), chr(39) * 2)}'::regclass::oid")
             )
             columns = [
-                [it, OIDS.get(kind, 0), -1]
+                [it, *definition_of(kind)]
                 for it, kind in columns_of(session, name.replace("'", "''"))
             ]
             definition = {"oid": oid, "schema": schema, "table": table, "columns": columns}
@@ -251,11 +285,9 @@ def tables_of_session(session: Session, *publications: str) -> Tables:
     found: Tables = {}
     for schema, table, query in list(published(session, publications)):
         name = f"{quoted(schema)}.{quoted(table)}".replace("'", "''")
-        kinds = [HAS.get(kind, TEXT) for _, kind in columns_of(session, name)]
-        reads = [read for _, read in kinds]
-        it = held(
-            (kind for kind, _ in kinds), (valued(reads, row) for row in session.copied(query))
-        )
+        kinds = [has(kind) for _, kind in columns_of(session, name)]
+        types = (kind for several in kinds for kind, _ in several)
+        it = held(types, (valued(kinds, row) for row in session.copied(query)))
         if it.rows:
             found[schema, table] = it
     return found
@@ -272,8 +304,12 @@ def tables_of_server(cluster: Cluster, *publications: str, database: str = "shop
         return tables_of_session(session, *publications)
 
 
-def valued(reads: list[Callable[[str], Value]], row: Row) -> tuple[Value, ...]:
-    return tuple(None if cell is None else read(cell) for read, cell in zip(reads, row))
+def valued(kinds: list[list[tuple[str, Read]]], row: Row) -> tuple[Value, ...]:
+    return tuple(
+        None if cell is None else read(cell)
+        for several, cell in zip(kinds, row)
+        for _, read in several
+    )
 
 
 def compare_file(path: Path, theirs: Tables) -> int:
@@ -328,10 +364,10 @@ def digests_of_replay(state: Replay) -> Digests:
     found: Digests = {}
     for oid, rows in state.rows.items():
         definition = state.definitions[oid]
-        reads = [BY_OID.get(kind, TEXT)[1] for _, kind, _ in definition["columns"]]
+        kinds = [has(kind_of(oid, modifier)) for _, oid, modifier in definition["columns"]]
         told = collections.Counter[Any]()
         for row, count in (+rows).items():
-            told[valued(reads, row)] += count  # type: ignore[arg-type]
+            told[valued(kinds, row)] += count  # type: ignore[arg-type]
         if told:
             found[definition["schema"], definition["table"]] = digest_of(told)
     return found

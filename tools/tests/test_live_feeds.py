@@ -14,7 +14,20 @@ from feed_replay import Replay
 
 try:
     from live_server.errors import Failed
-    from live_server.feeds import HAS, Held, Images, Reader, Tables, compare_file, held, read_array
+    from live_server.feeds import (
+        HAS,
+        Held,
+        Images,
+        Reader,
+        Tables,
+        compare_file,
+        definition_of,
+        has,
+        held,
+        kind_of,
+        read_array,
+        valued,
+    )
 except ModuleNotFoundError:
     raise unittest.SkipTest("psycopg is needed") from None
 
@@ -127,6 +140,16 @@ class OfTables(unittest.TestCase):
         }
         found = {kind: HAS[kind][1](text) for kind, text in texts.items()}
         self.assertEqual(list(found.values()), [7, -7, (1 << 63) - 1, 1, b"\0\xff", 0.1, "NaN"])
+        for kind, row in (
+            ("numeric", (1.5, "1.50")),
+            ("numeric(15,2)", (1.5,)),
+            ("numeric(3,-300)", (1.5, "1.50")),
+            ("numeric(16,2)", (1.5, "1.50")),
+            ("numeric[]", ("1.50",)),
+        ):
+            self.assertEqual(valued([has(kind)], ["1.50"]), row)
+            if kind != "numeric[]":
+                self.assertEqual(kind_of(*definition_of(kind)), kind)
 
     def replayed(self, b: str) -> Replay:
         state = Replay(0x100)

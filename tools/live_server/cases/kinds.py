@@ -200,7 +200,9 @@ class Made:
     def check(self, path: Path) -> None:
         """Fails where a file's tables aren't the server's, or not STRICT with their keys."""
         compare_tables(self.place.cluster, path, "pgsub", database=self.place.database)
-        keys = {"kinds": "id", "Odd schema.whole": None, **dict.fromkeys(self.keys, "k")}
+        # (rounded numbers are no keys)
+        exact = {it: "k_text" if kind == "numeric" else "k" for it, kind in self.keys.items()}
+        keys = {"kinds": "id", "Odd schema.whole": None, **exact}
         with contextlib.closing(sqlite3.connect(path)) as base:
             found: dict[str, Tuple[int, object]] = {
                 name: (strict, key)
