@@ -3,6 +3,7 @@
 from __future__ import annotations
 
 import contextlib
+import dataclasses
 import os
 import sqlite3
 from collections.abc import Iterator
@@ -13,7 +14,7 @@ from ..interruption import Check
 from ..meter import Meter
 from ..reader.commits import Cells
 from ..reader.reading import Reading
-from ..relation import Relation
+from ..relation import Relation, Shape
 from ..tables.first_rows import EARLIER, check_begin
 from ..tables.names import POSITION, names_of
 from ..tables.schema import RELATIONS, read_definition
@@ -51,7 +52,8 @@ class Exported(Base):
         for name, text in self.db.execute(
             f"SELECT name, definition FROM {RELATIONS} ORDER BY oid"
         ).fetchall():
-            relation, form, _ = read_definition(text)
+            relation, form, primary = read_definition(text)
+            relation = with_key(relation, primary) if primary else relation
             if not self.chosen or self.chosen & names_of(relation.namespace, relation.name):
                 if form != ALL_TEXT:
                     raise FileError(
@@ -69,6 +71,12 @@ class Exported(Base):
                 meter.note(done, total)
             # (one without columns has one there)
             yield list(row) if relation.shape.columns else []
+
+
+def with_key(relation: Relation, primary: tuple[str, ...]) -> Relation:
+    """A relation whose primary key tells its rows apart."""
+    columns = tuple(it._replace(key=it.name in primary) for it in relation.shape.columns)
+    return dataclasses.replace(relation, shape=Shape("d", columns))
 
 
 @contextlib.contextmanager

@@ -45,7 +45,11 @@ class Rows:
     commits with an LSN. `form`: how numerics are kept."""
 
     def __init__(
-        self, path: str, init: Init | None = None, known: KnownTables | None = None, form: str = BOTH
+        self,
+        path: str,
+        init: Init | None = None,
+        known: KnownTables | None = None,
+        form: str = BOTH,
     ) -> None:
         self.path, self.init, self.keys, self.form = path, init, Keys(known), form
         self.db = sqlite3.connect(path, timeout=BUSY, isolation_level=None, cached_statements=2000)
