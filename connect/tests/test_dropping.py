@@ -2,9 +2,12 @@
 
 from __future__ import annotations
 
+import contextlib
 import fcntl
 import json
 import os
+import sqlite3
+from pathlib import Path
 from typing import Any
 from unittest import mock
 
@@ -13,6 +16,7 @@ from pgsub_connect.commands.drop import Dropper, ask_terminal, files_of
 from pgsub_connect.errors import ServerError
 from pgsub_connect.store.checkpoint import Checkpoint
 from pgsub_feed.errors import FileError, Passing, Unfit
+from pgsub_feed.tables.first_rows import prepare
 
 from .fake_server import FakeServer, Quiet, Row
 
@@ -91,6 +95,62 @@ class Dropping(Quiet):
             self.server.index('DROP PUBLICATION "pgsub"'),
         )
         self.assertEqual(self.left(), ["copy.db2", "rows.db"])
+
+    def feed(self) -> str:
+        """A feed with a reader, and the tables that follow it."""
+        feed, tables = self.store + ".feed", self.folder + "/rows.db"
+        os.makedirs(feed + "/readers")
+        for name in ("0000000000000100", "confirmed", "readers/tables", "readers/mine"):
+            Path(feed, name).touch()
+        os.unlink(tables)
+        with contextlib.closing(sqlite3.connect(tables)) as db:
+            prepare(db, feed, (), False)
+        for suffix in ("-wal", ".base.pgsub-7", ".mine"):
+            Path(tables + suffix).touch()
+        checkpoint = Checkpoint(self.store)
+        checkpoint.note_tables(tables)
+        os.close(checkpoint.file)
+        self.remember(made={"pgsub": 777}, feed=feed)
+        return feed
+
+    def test_the_feed_and_the_tables_stay(self) -> None:
+        """What to do before another copy begins there is told."""
+        feed = self.feed()
+        self.run_it(yes=True)
+        self.assertEqual(
+            self.left(),
+            [
+                "copy.db.feed",
+                "copy.db2",
+                *("rows.db" + it for it in ("", "-wal", ".base.pgsub-7", ".mine")),
+            ],
+        )
+        self.assertIn(
+            f"before another copy begins there: rm -r {feed} {self.folder}/rows.db", self.said[-1]
+        )
+
+    def test_all(self) -> None:
+        """The feed and the tables go, with what is beside them; what others have put there
+        stays."""
+        feed = self.feed()
+        self.run_it(yes=True, all=True)
+        self.assertEqual(self.left(), ["copy.db2", "rows.db.mine"])
+        self.assertFalse(any("stays" in it for it in self.said), self.said)
+
+    def test_all_but_what_others_have_put_into_the_feed(self) -> None:
+        feed = self.feed()
+        Path(feed, "notes").touch()
+        self.run_it(yes=True, all=True)
+        self.assertEqual(os.listdir(feed), ["notes"])
+        self.assertIn(f"stays: {feed}. ", self.said[-1])
+
+    def test_all_but_tables_of_another_feed(self) -> None:
+        self.feed()
+        with contextlib.closing(sqlite3.connect(self.folder + "/rows.db")) as db:
+            db.execute("UPDATE pgsub_feed SET folder = '/another'")
+            db.commit()
+        self.run_it(yes=True, all=True)
+        self.assertIn("rows.db", self.left())
 
     def test_the_checkpoint_goes_last(self) -> None:
         self.assertEqual(
@@ -174,9 +234,6 @@ class Dropping(Quiet):
         self.refused(
             Unfit, "the store follows the database shop of the server 77, and this is shop of 78"
         )
-
-    def test_another_slot_than_the_store_s(self) -> None:
-        self.refused(Unfit, "follows the slot s1, and not other", slot="other")
 
     def test_a_slot_of_another_plugin(self) -> None:
         self.slots = [["f", "f"]]

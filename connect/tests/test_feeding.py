@@ -16,6 +16,7 @@ from unittest import mock
 
 from feed_text import Column, lsn_text
 
+from pgsub_connect.commands.arguments.feed import settled_feed
 from pgsub_connect.drift.remembered import Remembered
 from pgsub_connect.drift.tolerance import Tolerance
 from pgsub_connect.follow import feed as feed_module
@@ -31,7 +32,7 @@ from pgsub_connect.status.progress import Progress
 from pgsub_connect.status.status_file import status_fields
 from pgsub_connect.stream.filter_end import FilterEnded
 from pgsub_connect.stream.statuses import Reached
-from pgsub_feed.errors import FileError, Unfit
+from pgsub_feed.errors import FileError, Unfit, UsageError
 from pgsub_feed.files import replace_file
 from pgsub_feed.reader.positions import Noted, make_folder
 from pgsub_feed.reader.segments import CONFIRMED, Reader, read_confirmed, segments
@@ -361,7 +362,8 @@ class Refused(Quiet):
     def test_a_new_store_and_an_old_feed(self) -> None:
         os.makedirs(self.store + ".feed/readers")
         with self.assertRaisesRegex(
-            Unfit, "a new store begins a new feed, and the folder .*copy.db.feed isn't empty"
+            Unfit,
+            "begins anew, and an older copy has left: .*copy.db.feed. .*, rm -r .*copy.db.feed;",
         ):
             self.feeding().check()
         os.rmdir(self.store + ".feed/readers")
@@ -380,10 +382,15 @@ class Refused(Quiet):
         ):
             self.feeding(tables=rows).check()
         with mock.patch.object(tables_process, "is_tables", lambda _: True), self.assertRaisesRegex(
-            Unfit, "has the tables of an older copy"
+            Unfit, "an older copy has left: .*/rows.db"
         ):
             self.feeding(tables=rows).check()
         self.assertFalse(os.path.exists(self.store + ".feed"))
+        os.makedirs(self.store + ".feed/readers")
+        with mock.patch.object(tables_process, "is_tables", lambda _: True), self.assertRaisesRegex(
+            Unfit, "rm -r .*/copy.db.feed .*/rows.db;"
+        ):
+            self.feeding(tables=rows).check()
 
     def test_a_folder_for_whoever_may_read_its_files(self) -> None:
         before = os.umask(0o177)
@@ -397,9 +404,18 @@ class Refused(Quiet):
             "follow --store s --tables rows.db --feed-max-bytes 10GB --feed-max-age 7d".split()
         )
         self.assertEqual(
-            (options.feed, options.feed_max_bytes, options.feed_max_age),
+            (settled_feed(options, "s").feed, options.feed_max_bytes, options.feed_max_age),
             ("s.feed", 10 << 30, 7 * 86400.0),
         )
+        for words, text in (
+            ("--init f", "--init needs --tables"),
+            ("--digests --feed f", "--digests needs --tables"),
+            ("--feed-max-bytes 5", "--feed-max-bytes needs --feed"),
+            ("--feed-segment-seconds 5", "--feed-segment-seconds needs --feed"),
+            ("--feed-max-age 5d", "--feed-max-age needs --feed"),
+        ):
+            with self.assertRaisesRegex(UsageError, f"^{text}$"):
+                settled_feed(options_of(f"follow --store s {words}".split()), "s")
         self.assertEqual(
             options_of("follow --store s --feed f --feed-max-bytes 500".split()).feed_max_bytes, 500
         )

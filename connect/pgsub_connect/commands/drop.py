@@ -8,17 +8,22 @@ import contextlib
 import dataclasses
 import os
 import select
+import shlex
 import sys
 import time
-from collections.abc import Callable
+from collections.abc import Callable, Iterable
 from typing import Any
 
 from pgsub_feed import log
 from pgsub_feed.errors import FileError, Passing, Unfit
-from pgsub_feed.files import OF_FILE, meant, own_files
+from pgsub_feed.files import NEW, OF_FILE, meant, own_files, remove
 from pgsub_feed.interruption import Check, never
 from pgsub_feed.json_texts import Unreadable, object_of, whole_of
 from pgsub_feed.program import check_signals
+from pgsub_feed.reader.positions import READERS
+from pgsub_feed.reader.segments import CONFIRMED, segments
+from pgsub_feed.tables.position import read_position
+from pgsub_feed.tables.sqlite_files import is_tables
 from pgsub_feed.texts import identifier, literal
 
 from ..drift.remembered_lines import read_lines
@@ -52,6 +57,7 @@ class Options(StoreOptions):
     """Whose slot, publications and files go."""
 
     yes: bool = False
+    all: bool = False
 
 
 def add_options(parser: argparse.ArgumentParser) -> None:
@@ -60,6 +66,9 @@ def add_options(parser: argparse.ArgumentParser) -> None:
         "--yes",
         action="store_true",
         help="don't ask; what somebody else may have made or may use stays",
+    )
+    parser.add_argument(
+        "--all", action="store_true", help="the feed and the tables that follow it go, too"
     )
 
 
@@ -78,27 +87,48 @@ def made_publications(remembered: dict[str, Any]) -> dict[str, int]:
     return {}
 
 
-def files_of(store: str) -> list[str]:
-    """The files of a store that are there, the checkpoint last."""
-    folder, there, patterns = (
-        os.path.dirname(store),
-        list[str](),
-        [own_files(store + it) for it in ASKED],
-    )
+def files_beside(path: str, suffixes: Iterable[str]) -> list[str]:
+    """The files that processes have made for themselves beside these names."""
+    folder, there = os.path.dirname(path), list[str]()
+    patterns = [own_files(path + it) for it in suffixes]
     with contextlib.suppress(FileNotFoundError):
         there = sorted(os.listdir(folder or "."))
-    asked = [
+    return [
         os.path.join(folder, name) for name in there if any(it.fullmatch(name) for it in patterns)
     ]
+
+
+def files_of(store: str) -> list[str]:
+    """The files of a store that are there, the checkpoint last."""
     # (the program has its own ones beside what a link leads to)
     linked = (
         [meant(store) + it for it in (*OF_COPY, *OF_FILE[1:], "")] if os.path.islink(store) else []
     )
     return [
         path
-        for path in (*asked, *linked, *(store + it for it in (STATUS, *OF_STORE)))
+        for path in (
+            *files_beside(store, ASKED),
+            *linked,
+            *(store + it for it in (STATUS, *OF_STORE)),
+        )
         if os.path.lexists(path)
     ]
+
+
+def remove_feed(folder: str) -> None:
+    """Removes a feed and what its readers have noted. What else is there stays, with the folder."""
+    readers = os.path.join(folder, READERS)
+    names = [name for _, name in segments(folder)] + [CONFIRMED, CONFIRMED + NEW]
+    for path in [os.path.join(folder, it) for it in names]:
+        remove(path)
+    with contextlib.suppress(FileNotFoundError):
+        for it in list(os.scandir(readers)):
+            if it.is_file(follow_symlinks=False):
+                remove(it.path)
+    for path in (readers, folder):
+        with contextlib.suppress(FileNotFoundError):
+            if not os.listdir(path):
+                os.rmdir(path)
 
 
 Ask = Callable[[str], bool]
@@ -138,10 +168,6 @@ class Dropper:
     def run(self) -> None:
         """Slot first, since the server's disk fills because of it; files last, since they say what
         else there is."""
-        if self.known.slot and self.options.slot not in ("pgsub", self.known.slot):
-            raise Unfit(
-                f"the store follows the slot {self.known.slot}, and not {self.options.slot}"
-            )
         with locked(self.store + ".connector"):
             connection = Connection(self.options.dsn, name=f"{self.slot} drop", check=self.check)
             try:
@@ -239,18 +265,31 @@ class Dropper:
                 log.info(f"dropped the publication {name}")
 
     def drop_files(self) -> None:
-        files = files_of(self.store)
+        read = self.files_read()
+        files = (read if self.options.all else []) + files_of(self.store)
         if not files or not self.ask(f"remove {', '.join(files)}?"):
             return
         for path in files:
             try:
-                with contextlib.suppress(FileNotFoundError):
-                    os.unlink(path)
+                remove_feed(path) if os.path.isdir(path) else remove(path)
             except OSError as error:
                 raise FileError(f"{path}: {error.strerror}") from None
-        log.info(f"removed {', '.join(files)}")
-        if (feed := self.remembered.get("feed")) and os.path.isdir(str(feed)):
-            log.info(f"the feed {feed} stays: remove the folder once nobody reads it")
+        gone = [it for it in files if not os.path.lexists(it)]
+        log.info(f"removed {', '.join(gone)}")
+        if read := [it for it in read if it not in gone]:
+            log.info(
+                f"what others may read stays: {', '.join(read)}. Once nobody does, and before another copy begins there:"
+                f" rm -r {' '.join(map(shlex.quote, read))}"
+            )
+
+    def files_read(self) -> list[str]:
+        """The feed and the tables of the store that are there, which others may read."""
+        feed, tables = str(self.remembered.get("feed") or f"{self.store}.feed"), self.known.tables
+        found = [feed] if os.path.isdir(feed) and not os.path.islink(feed) else []
+        if tables and is_tables(tables) and read_position(tables)[1] == feed:
+            found += [it for it in (tables + it for it in OF_FILE) if os.path.lexists(it)]
+            found += files_beside(tables, ("", ".base"))
+        return found
 
 
 def run(options: Options) -> int:

@@ -22,6 +22,7 @@ from ..errors import MISSED
 from ..follow.common import Common
 from ..follow.feed import Feeding
 from ..follow.follower import Follower
+from ..follow.refused import leaving_nothing, own_files
 from ..follow.request_socket import RequestSocket
 from ..follow.server_watch import Asker
 from ..follow.settings import FollowSettings
@@ -40,7 +41,7 @@ from ..store.snapshot import part_of
 from ..stream.filter import Filter
 from .arguments import exit_status
 from .arguments.altering import AlterOptions, add_altering
-from .arguments.feed import FeedOptions, add_feed, check_feed
+from .arguments.feed import FeedOptions, add_feed, settled_feed
 from .arguments.files import check_files
 from .arguments.needs import check_needs
 from .arguments.publishing import CopyOptions, add_copying, check_creates, check_publishing
@@ -165,8 +166,6 @@ def add_accepting(add: Callable[..., object]) -> None:
 
 def check_options(parser: argparse.ArgumentParser, options: Options) -> Options:
     """Rejects options that don't go together."""
-    if options.tables and not options.feed:
-        options = dataclasses.replace(options, feed=options.store + ".feed")
     check_creates(parser, options)
     check_needs(
         parser,
@@ -176,7 +175,8 @@ def check_options(parser: argparse.ArgumentParser, options: Options) -> Options:
         ("skip", "store"),
         ("strict", "store"),
     )
-    check_feed(parser, options)
+    if options.tables and options.without_tables:
+        parser.error("--tables and --without-tables exclude each other")
     if not options.store:
         parser.error("--store is needed")
     check_publishing(parser, options)
@@ -185,6 +185,7 @@ def check_options(parser: argparse.ArgumentParser, options: Options) -> Options:
 
 def settled(options: Options) -> Options:
     """The options with what they leave out."""
+    options = settled_feed(options, options.store)
     check_files(
         options.store,
         {
@@ -219,7 +220,15 @@ def follow(options: Options) -> int:
     start = Worker()
     stop_by_signals(start)
     check_start(options)
-    parts = made(options, start.check_stop)
+    before = own_files(options.store)
+    checkpoint = checkpoint_of(options, start.check_stop)
+    with leaving_nothing(checkpoint, before, (options.feed, options.record)):
+        return follow_locked(options, checkpoint, start)
+
+
+def follow_locked(options: Options, checkpoint: Checkpoint, start: Worker) -> int:
+    """Follows, where no other connector does."""
+    parts = made(options, checkpoint)
     signal.signal(signal.SIGUSR1, lambda *_: parts.snapshots.ask())
     workers = parts.copier, parts.follower.ending
     stop_by_signals(*workers)
@@ -287,10 +296,9 @@ class Parts:
         self.requests.close()
 
 
-def made(options: Options, check: Check) -> Parts:
+def made(options: Options, checkpoint: Checkpoint) -> Parts:
     """Makes all that takes part; nothing runs yet."""
     store, mode = options.store, options.mode
-    checkpoint = checkpoint_of(options, check)
     subscription, tolerance = options.subscription(), Tolerance(options.accept, options.strict)
     progress, remembered = Progress(notifier_of(os.environ)), Remembered(store, mode)
     settings = options.feed_settings(store, mode)

@@ -129,7 +129,7 @@ class Copier(Worker):
                 return
             self.forget_slot()
         if known.phase != COPIED:
-            self.maker.take_back()
+            self.remembered.forget_made(self.maker.take_back())
 
     def attempted(self, tries: Tries) -> bool:
         """One attempt. Returns whether it made the copy, and raises where another one makes no

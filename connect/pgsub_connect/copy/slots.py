@@ -100,7 +100,9 @@ def create_slot(
     except BaseException:
         if is_made:
             drop_slot(connection, slot)
-        maker.take_back()
+        gone = maker.take_back()
+        if remembered:
+            remembered.forget_made(gone)
         raise
     finally:
         connection.close()

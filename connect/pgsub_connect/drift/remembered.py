@@ -43,6 +43,12 @@ class Remembered(Baseline):
         self.note_made(made)
         self.save()
 
+    def forget_made(self, names: Iterable[str]) -> None:
+        """Notes durably that publications that were made are gone again."""
+        if gone := self.made.keys() & set(names):
+            self.made = {name: oid for name, oid in self.made.items() if name not in gone}
+            self.save()
+
     def want(self, oids: Iterable[int], unwanted: Iterable[int] = ()) -> None:
         """Notes durably that the rows of tables are to be added, anew where that was refused, and
         that those of others are to go."""

@@ -20,6 +20,7 @@ from __future__ import annotations
 import contextlib
 import dataclasses
 import os
+import shlex
 import time
 from collections.abc import Callable
 from typing import TYPE_CHECKING
@@ -97,12 +98,12 @@ class Feeding:
     def check(self) -> None:
         """Rejects a folder that can't have the store's feed, before anything is made; and makes the
         folder."""
-        if os.path.exists(self.settings.store):
-            self.check_followed()
-        elif self.folder:
-            self.check_empty()
         if self.settings.tables:
             check_tables(self.settings.tables)
+        if os.path.exists(self.settings.store):
+            self.check_followed()
+        else:
+            self.check_new()
         if self.folder:
             self.make_folder()
 
@@ -126,13 +127,16 @@ class Feeding:
             " --without-feed, which ends that feed for good"
         )
 
-    def check_empty(self) -> None:
-        """Rejects a folder with files: the feed of a new store has nothing of an older one's, nor
-        have its readers."""
-        if os.path.isdir(self.folder) and os.listdir(self.folder):
+    def check_new(self) -> None:
+        """Rejects what an older copy has left: the feed of a new store has nothing of an older
+        one's, nor have its readers and tables."""
+        tables = self.settings.tables.path if self.settings.tables else ""
+        has_feed = os.path.isdir(self.folder) and os.listdir(self.folder)
+        left = [self.folder] if has_feed else []
+        if left := left + [tables] if os.path.lexists(tables) else left:
             raise Unfit(
-                f"a new store begins a new feed, and the folder {self.folder} isn't empty: name another one by --feed, or remove it"
-                " if nobody reads it any more"
+                f"{self.settings.store} begins anew, and an older copy has left: {', '.join(left)}. Once nobody reads that any more,"
+                f" rm -r {' '.join(map(shlex.quote, left))}; or name another feed by --feed, and other tables by --tables"
             )
 
     def make_folder(self) -> None:
@@ -144,8 +148,10 @@ class Feeding:
     def begin(
         self, child: Filter, reached: Callable[[], Reached], check: Check, wake: Callable[[], None]
     ) -> None:
-        """Notes the folder with the copy, and tells the filter of it. `wake` has the main loop look
-        what the tables have said."""
+        """Notes folder and tables with the copy, and tells the filter of it. `wake` has the main loop
+        look what the tables have said."""
+        tables = self.settings.tables
+        self.checkpoint.note_tables(os.path.abspath(tables.path) if tables else "")
         if not self.folder:
             if self.remembered.feed:
                 log.warning(
@@ -163,8 +169,8 @@ class Feeding:
         self.keeper = Keeper(
             self.folder, self.settings.limits(), self.settings.mode, self.progress, reached
         )
-        if self.settings.tables:
-            self.beside = Beside(self.settings.tables, self.progress, wake)
+        if tables:
+            self.beside = Beside(tables, self.progress, wake)
 
     def check_position(self, child: Filter, check: Check) -> None:
         """Rejects an older store, before a filter cuts off what the feed has above the store's

@@ -50,7 +50,7 @@ class Fitting:
         if known.system and ((server.system, slot) != (known.system, known.slot) or not is_same):
             raise Unfit(
                 f"the store follows slot {known.slot} of database {known.database} of the server {known.system}, "
-                f"and not slot {slot} of {server.database} of {server.system}"
+                f"and not slot {slot} of {server.database} of {server.system}: name its server by --dsn, or another store"
             )
         least = confirmed if known.timeline in (0, server.timeline) else position
         if server.log_end >= least:

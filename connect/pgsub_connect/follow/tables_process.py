@@ -28,7 +28,7 @@ from collections.abc import Callable
 from typing import IO
 
 from pgsub_feed import log
-from pgsub_feed.errors import FileError, Unfit
+from pgsub_feed.errors import FileError
 from pgsub_feed.reader.positions import READERS
 from pgsub_feed.tables.set_aside import shown_asides
 from pgsub_feed.tables.sqlite_files import is_tables, opened
@@ -80,10 +80,6 @@ def check(settings: TablesSettings) -> None:
     elif not (os.path.isfile(path) and is_tables(path)):
         raise FileError(
             f"{path} is there and has no tables that follow a feed: remove it, or name another file by --tables"
-        )
-    elif not os.path.exists(settings.store):
-        raise Unfit(
-            f"{path} has the tables of an older copy, and a new one begins: remove it, or name another file by --tables"
         )
 
 

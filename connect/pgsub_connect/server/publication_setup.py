@@ -290,13 +290,14 @@ class Maker:
         connection.run("ROLLBACK TO SAVEPOINT trial")
         return asked, left_out
 
-    def take_back(self) -> None:
-        """Drops what was made, if it is there: an interrupted transaction may have had no
-        effect."""
-        if not self.made:
-            return
+    def take_back(self) -> list[str]:
+        """Drops what was made, if it is there: an interrupted transaction may have had no effect.
+        Returns the names of what is gone."""
+        made, self.made = self.made, {}
+        if not made:
+            return []
         until = time.monotonic() + LIMIT
-        log.info(f"dropping {', '.join(self.made)} again, which may take {LIMIT:.0f} seconds")
+        log.info(f"dropping {', '.join(made)} again, which may take {LIMIT:.0f} seconds")
 
         def check() -> None:
             if time.monotonic() > until:
@@ -307,14 +308,15 @@ class Maker:
                 self.dsn, name=f"{self.name} publication", quiet=True, check=check
             )
             try:
-                drop_publications(connection, self.made)
+                drop_publications(connection, made)
             finally:
                 connection.close()
         except (ServerError, Unfit) as error:
             log.warning(
-                f"made and not dropped again, {error}: {', '.join(f'DROP PUBLICATION {identifier(it)}' for it in self.made)}"
+                f"made and not dropped again, {error}: {', '.join(f'DROP PUBLICATION {identifier(it)}' for it in made)}"
             )
-        self.made = {}
+            return []
+        return list(made)
 
     def keep(self) -> dict[str, int]:
         """What was made stays."""

@@ -21,6 +21,7 @@ What is known of the store:
 | `skipped` | the final LSN of the commit that was skipped last |
 | `adding` | where there are any: the OIDs of tables whose changes are left out until their rows are stored, as the module `add.replacement` says, each with the LSN at which these will be, 0 where that isn't known |
 | `encrypted` | connections were encrypted, so that none follows that isn't, unless somebody accepts it |
+| `tables` | the file of the tables that follow the store's feed, "" where there is none |
 
 What is counted of changes that found no row. Where an earlier version of this program has counted
 none, they are from the store's position on then.
@@ -54,6 +55,8 @@ from .checkpoint_lines import NEW, SIZE, TEXT, Known, line_of, padded, read_file
 
 MODE = 0o600
 PATIENCE = 60
+# How long a path may be, as JSON, beside which all findings have room.
+LONGEST_PATH = 1024
 # What stands before the two positions in what is known, and between them. (In a text of it each of
 # its quotes has a backslash.)
 BEFORE, BETWEEN = '"confirmed":', ',"position":'
@@ -175,8 +178,19 @@ class Checkpoint:
         """Forgets whose changes the store holds, and how far it was."""
         known = self.known
         self.known = Known(
-            found=known.found, skipped=known.skipped, adding=known.adding, encrypted=known.encrypted
+            found=known.found,
+            skipped=known.skipped,
+            adding=known.adding,
+            encrypted=known.encrypted,
+            tables=known.tables,
         )
+
+    def note_tables(self, path: str) -> None:
+        """Notes durably which file has the tables that follow, "" where none has."""
+        if len(TEXT.encode(path)) > LONGEST_PATH:
+            raise FileError(f"--tables {path}: that path is too long to be remembered")
+        if path != self.known.tables:
+            self.write(True, tables=path)
 
     def note(self, confirmed: int, position: int) -> None:
         """Notes what is about to be confirmed to the server, before it is.

@@ -5,7 +5,7 @@ turns: as long as one isn't whole the other one counts. A line is one object of 
 
 | Field | Means |
 |---|---|
-| `version` | 2 |
+| `version` | 3 |
 | `crc32` | the checksum of the version and of what follows in the line, as eight digits |
 | `number` | the line with the higher one was written last |
 | `known` | what is known of the store |
@@ -14,8 +14,9 @@ turns: as long as one isn't whole the other one counts. A line is one object of 
 A text ends with a line feed and blanks fill the rest, which nobody reads: so one that is shorter
 than a sector of the disk is there or not, as the disk finishes each sector it begins.
 
-Version 1 had `known` and `counted` as lines of 512 bytes, without a checksum. It is read, and its
-lines stay until a line of this version, which is written behind them, is on the disk.
+Version 2 had no `tables` in `known`. Version 1 had `known` and `counted` as lines of 512 bytes,
+without a checksum. Both are read, and their lines stay until a line of this version, which is
+written behind them, is on the disk.
 """
 
 from __future__ import annotations
@@ -33,7 +34,8 @@ from pgsub_feed.json_texts import Unreadable, object_of, parsed, whole_of
 
 from ..status.findings import Counted
 
-VERSION, SIZE, OLD_SIZE = 2, 4096, 512
+VERSION, SIZE, OLD_SIZE = 3, 4096, 512
+READ = (2, VERSION)
 TEXT = json.JSONEncoder(separators=(",", ":"))
 LINE = re.compile(rb'\{"version":([0-9]{1,9}),"crc32":"([0-9a-f]{8})",(.*)', re.DOTALL)
 NEW, COPYING, SLOT, COPIED, FOLLOWING = "new", "copying", "slot", "copied", "following"
@@ -56,6 +58,7 @@ class Known:
     skipped: str = ""
     adding: dict[str, int] = dataclasses.field(default_factory=dict)
     encrypted: bool = False
+    tables: str = ""
 
     def move(self, confirmed: int, position: int) -> None:
         """The store is further."""
@@ -113,7 +116,7 @@ def read_line(content: bytes, at: int, path: str) -> Line | None:
     found = LINE.match(content[: content.find(b"\n") + 1])
     if not found or checksum(version := int(found[1]), found[3]) != int(found[2], 16):
         return None
-    if version != VERSION:
+    if version not in READ:
         raise FileError(f"{path}: of another version of this program ({version}): install that one")
     said = object_of(parsed(b"{" + found[3]))
     counted = None if said.get("counted") is None else counted_of(said["counted"])

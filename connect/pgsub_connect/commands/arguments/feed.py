@@ -4,16 +4,31 @@ from __future__ import annotations
 
 import argparse
 import dataclasses
+import os
 from collections.abc import Callable
+from typing import TypeVar
 
 from pgsub_feed.arguments import duration, size
+from pgsub_feed.errors import Unfit, UsageError
 from pgsub_feed.tables.values import BOTH
 
+from ...drift.remembered import Remembered
 from ...follow.feed import FeedSettings
 from ...follow.tables_process import TablesSettings
-from .needs import check_needs
-from .numerics import add_numeric, check_numeric
+from ...store.checkpoint_at_rest import read_known
+from .numerics import add_numeric
 from .types import within
+
+
+# What each of these options needs.
+NEEDS = {
+    "init": "tables",
+    "digests": "tables",
+    "feed_segment_bytes": "feed",
+    "feed_segment_seconds": "feed",
+    "feed_max_bytes": "feed",
+    "feed_max_age": "feed",
+}
 
 
 @dataclasses.dataclass(frozen=True)
@@ -27,6 +42,7 @@ class FeedOptions:
     feed_max_bytes: int = 0
     feed_max_age: float | None = None
     tables: str = ""
+    without_tables: bool = False
     init: str | None = None
     digests: bool = False
     numeric: str = BOTH
@@ -59,7 +75,7 @@ def add_feed(parser: argparse.ArgumentParser) -> None:
         "--feed",
         metavar="FOLDER",
         default="",
-        help="keep a feed of all commits in this folder, as lines of JSON with each row before and after",
+        help="keep a feed of all commits in this folder, as lines of JSON with each row before and after (default: the one that the store has had)",
     )
     add(
         "--without-feed",
@@ -107,7 +123,12 @@ def add_tables(add: Callable[..., object]) -> None:
         "--tables",
         metavar="FILE",
         default="",
-        help="keep ordinary tables in this file of SQLite, by `pgsub-connect tables` beside the follower; the feed is STORE.feed by default",
+        help="keep ordinary tables in this file of SQLite, by `pgsub-connect tables` beside the follower (default: those that the store has had); the feed is STORE.feed by default",
+    )
+    add(
+        "--without-tables",
+        action="store_true",
+        help="leave the tables that the store has had: they follow no more",
     )
     add(
         "--init",
@@ -122,18 +143,26 @@ def add_tables(add: Callable[..., object]) -> None:
     add_numeric(add)
 
 
-def check_feed(parser: argparse.ArgumentParser, options: FeedOptions) -> None:
-    """Rejects options on a feed, or on tables, where there are none."""
-    check_needs(
-        parser,
-        options,
-        ("init", "tables"),
-        ("digests", "tables"),
-        ("feed_segment_bytes", "feed"),
-        ("feed_segment_seconds", "feed"),
-        ("feed_max_bytes", "feed"),
-        ("feed_max_age", "feed"),
-    )
+Settled = TypeVar("Settled", bound=FeedOptions)
+
+
+def settled_feed(options: Settled, store: str) -> Settled:
+    """The options with the feed and the tables that a store has had where none are named. Raises
+    where others are, or where options need what there isn't."""
+    leaves = options.without_tables or options.without_feed
+    was = "" if leaves else read_known(store + ".connector").tables
+    tables, feed = options.tables or was, options.feed
+    if was and os.path.lexists(was) and os.path.realpath(was) != os.path.realpath(tables):
+        raise Unfit(
+            f"the tables of {store} are in {was}: leave --tables out. To have them in {tables}, move or remove that file, or say --without-tables once"
+        )
+    if not feed and not options.without_feed and os.path.exists(store):
+        feed = Remembered(store).feed
+    feed = feed or (store + ".feed" if tables else "")
+    options = dataclasses.replace(options, tables=tables, feed=feed)
+    for given, needed in NEEDS.items():
+        if getattr(options, given) and not getattr(options, needed):
+            raise UsageError(f"--{given.replace('_', '-')} needs --{needed}")
     if options.numeric != BOTH and not options.tables:
-        parser.error("--numeric needs --tables")
-    check_numeric(parser, options.numeric, options.digests)
+        raise UsageError("--numeric needs --tables")
+    return options

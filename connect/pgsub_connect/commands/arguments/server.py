@@ -9,6 +9,7 @@ from collections.abc import Iterable, Sequence
 from typing import TypeVar
 
 from pgsub_feed import log
+from pgsub_feed.errors import Unfit
 from pgsub_feed.ownership import readable_by, readable_text
 
 from ...drift.remembered import Remembered
@@ -16,6 +17,8 @@ from ...server.addresses import parameters
 from ...server.name_length import check_lengths
 from ...server.publication_setup import inserts_of
 from ...server.subscription import Subscription
+from ...store.checkpoint_at_rest import read_known
+from ...store.checkpoint_lines import COPYING, Known
 from .files import add_mode, use_mode
 from .texts import add_repeated, check_texts, each
 from .types import seconds
@@ -46,7 +49,11 @@ def add_server(parser: argparse.ArgumentParser) -> None:
         metavar="FILE",
         help="a file whose first line is the connection string, for one with a password",
     )
-    add("--slot", default="pgsub", help="replication slot (default: pgsub)")
+    add(
+        "--slot",
+        default="",
+        help="replication slot (default: the one that the store follows, else pgsub)",
+    )
     add_repeated(
         add, "--publication", "publication", "those that the store has followed, else pgsub"
     )
@@ -76,8 +83,8 @@ def settled_server(
     keyless: str = "refuse",
     told: Iterable[tuple[str, str]] = (),
 ) -> Settled:
-    """The options with the connection string of a file, and with the publications that a store has
-    followed where none is named; and has files get their mode. `told`: what else the server or
+    """The options with the connection string of a file, and with the slot and the publications that
+    a store has followed where none is named; and has files get their mode. `told`: what else the server or
     the program is told."""
     dsn, readable = options.dsn, ""
     if options.dsn_file:
@@ -88,8 +95,21 @@ def settled_server(
     warn_of_password(options, dsn, readable)
     remembered = Remembered(store).publications() if store and os.path.exists(store) else []
     names = followed_again(options.publication, keyless, remembered) or remembered or ["pgsub"]
+    slot = slot_of(store, options.slot)
     use_mode(options.mode)
-    return dataclasses.replace(options, dsn=dsn, publication=names)
+    return dataclasses.replace(options, dsn=dsn, slot=slot, publication=names)
+
+
+def slot_of(store: str, given: str) -> str:
+    """The slot that a store follows, or is to follow. Raises where another one is given."""
+    known = read_known(store + ".connector") if store else Known()
+    # (an interrupted copy has no slot before that phase is over)
+    if given and known.slot not in ("", given) and known.phase != COPYING:
+        raise Unfit(
+            f"{store} follows the slot {known.slot}, and not {given}: leave --slot out. To follow {given}, name another store;"
+            f" `pgsub-connect drop --store {store}` ends this one"
+        )
+    return given or known.slot or "pgsub"
 
 
 def warn_of_password(options: ServerOptions, dsn: str, readable: str) -> None:

@@ -1,0 +1,47 @@
+"""What a start has made that is refused, or stopped before there is a copy: it goes again."""
+
+from __future__ import annotations
+
+import contextlib
+import os
+from collections.abc import Iterable, Iterator
+
+from pgsub_feed.files import meant, remove
+
+from ..drift.remembered import Remembered
+from ..store.checkpoint import Checkpoint
+from ..store.checkpoint_lines import COPYING, NEW
+from ..store.placing import OF_STORE
+
+
+def own_files(store: str) -> set[str]:
+    """The files of a store that are there; the program has its own ones where a link leads."""
+    names = {name + it for name in (store, meant(store)) for it in OF_STORE}
+    return {it for it in names if os.path.lexists(it)}
+
+
+@contextlib.contextmanager
+def leaving_nothing(
+    checkpoint: Checkpoint, before: set[str], others: Iterable[str | None]
+) -> Iterator[None]:
+    """Removes what wasn't among a store's files before, unless there is a slot by now that the next
+    start goes on with; and other files and folders that weren't there and are empty. The checkpoint
+    is locked, and so goes last."""
+    empty = [it for it in others if it and not os.path.lexists(it)]
+    try:
+        yield
+    finally:
+        store = checkpoint.path.removesuffix(".connector")
+        made = own_files(store) - before if checkpoint.known.phase in (NEW, COPYING) else set()
+        # (publications that can't be dropped now are remembered)
+        if store + ".tables" in made and Remembered(store).made:
+            made.remove(store + ".tables")
+        for path in sorted(made, key=lambda it: it == checkpoint.path):
+            with contextlib.suppress(OSError):
+                remove(path)
+        for path in empty:
+            with contextlib.suppress(OSError):
+                if os.path.isdir(path):
+                    os.rmdir(path)
+                elif not os.path.getsize(path):
+                    remove(path)

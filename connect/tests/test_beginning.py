@@ -1,0 +1,216 @@
+"""What a start goes on with where nothing else is said, and what one leaves that is refused."""
+
+from __future__ import annotations
+
+import os
+from collections.abc import Callable
+from pathlib import Path
+from typing import Any
+from unittest import mock
+
+from pgsub_connect.commands import drop, follow, refresh
+from pgsub_connect.drift.remembered import Remembered
+from pgsub_connect.errors import ServerError
+from pgsub_connect.follow.refused import leaving_nothing
+from pgsub_connect.store.checkpoint import LONGEST_PATH, Checkpoint
+from pgsub_connect.store.checkpoint_at_rest import read_known
+from pgsub_connect.store.checkpoint_lines import COPYING, FOLLOWING, SLOT
+from pgsub_feed.errors import Failure, FileError, Passing, Stopped, Unfit
+
+from .fake_server import Quiet
+from .test_copying import Copying
+from .settled import options_of, settled
+
+
+class Begun(Quiet):
+    def setUp(self) -> None:
+        super().setUp()
+        self.addCleanup(os.umask, os.umask(0o022))
+        self.folder = self.make_folder()
+        self.store = self.folder + "/copy.db"
+        self.rows, self.feed = self.folder + "/rows.db", self.folder + "/far"
+
+    def followed(self, phase: str = FOLLOWING, tables: str = "", feed: str = "") -> None:
+        """A store that was followed so."""
+        Path(self.store).touch()
+        checkpoint = Checkpoint(self.store)
+        checkpoint.write(True, phase=phase, system="77", database="shop", slot="app")
+        checkpoint.note_tables(tables)
+        os.close(checkpoint.file)
+        Remembered(self.store).note_feed(feed)
+
+    def follow(self, *words: str) -> follow.Options:
+        options: follow.Options = settled(["follow", "--store", self.store, *words])
+        return options
+
+
+class Remembers(Begun):
+    def test_all_of_it(self) -> None:
+        self.followed(tables=self.rows, feed=self.feed)
+        options = self.follow()
+        self.assertEqual(
+            (options.slot, options.tables, options.feed), ("app", self.rows, self.feed)
+        )
+        self.assertEqual(self.follow("--slot", "app", "--tables", self.rows), options)
+        # what needs tables, or a feed, has them
+        self.assertEqual(self.follow("--digests", "--feed-max-bytes", "5GB").tables, self.rows)
+
+    def test_nothing(self) -> None:
+        options = self.follow()
+        self.assertEqual((options.slot, options.tables, options.feed), ("pgsub", "", ""))
+        self.assertEqual(self.follow("--tables", self.rows).feed, self.store + ".feed")
+
+    def test_the_feed_beside_the_store(self) -> None:
+        """Where only the tables are known still."""
+        self.followed(tables=self.rows)
+        self.assertEqual(self.follow().feed, self.store + ".feed")
+
+    def test_others(self) -> None:
+        """They are refused, with what to do."""
+        self.followed(tables=self.rows, feed=self.feed)
+        for command in ("follow", "verify", "add --table t", "check"):
+            with self.assertRaisesRegex(
+                Unfit, "follows the slot app, and not pgsub: leave --slot out. .* drop --store"
+            ):
+                settled([*command.split(), "--store", self.store, "--slot", "pgsub"])
+            self.assertEqual(settled([*command.split(), "--store", self.store]).slot, "app")
+        runs: tuple[Callable[[Any], int], ...] = (drop.run, refresh.run)
+        for run in runs:
+            with self.assertRaisesRegex(Unfit, "follows the slot app, and not other"):
+                run(
+                    options_of(
+                        [run.__module__.split(".")[-1], "--store", self.store, "--slot", "other"]
+                    )
+                )
+        Path(self.rows).touch()
+        with self.assertRaisesRegex(
+            Unfit, f"are in {self.rows}: leave --tables out. .* move or remove that file, or"
+        ):
+            self.follow("--tables", self.folder + "/other.db")
+        os.rename(self.rows, self.folder + "/other.db")
+        self.assertEqual(
+            self.follow("--tables", self.folder + "/other.db").tables, self.folder + "/other.db"
+        )
+
+    def test_left(self) -> None:
+        self.followed(tables=self.rows, feed=self.feed)
+        for words, left in (
+            (("--without-tables",), ("", self.feed)),
+            (("--without-feed",), ("", "")),
+            (("--without-feed", "--feed", "new"), ("", "new")),
+            (("--without-feed", "--tables", "t"), ("t", self.store + ".feed")),
+        ):
+            options = self.follow(*words)
+            self.assertEqual((options.tables, options.feed), left, words)
+
+    def test_the_slot_of_an_interrupted_copy(self) -> None:
+        for phase, is_made in ((COPYING, False), (SLOT, True)):
+            self.followed(phase)
+            os.unlink(self.store)
+            self.assertEqual(self.follow().slot, "app")
+            if is_made:
+                with self.assertRaisesRegex(Unfit, "follows the slot app"):
+                    self.follow("--slot", "other")
+            else:
+                self.assertEqual(self.follow("--slot", "other").slot, "other")
+
+    def test_what_a_checkpoint_has_no_room_for(self) -> None:
+        checkpoint = Checkpoint(self.store)
+        self.addCleanup(os.close, checkpoint.file)
+        checkpoint.note_tables("/" + "a" * (LONGEST_PATH - 10))
+        with self.assertRaisesRegex(FileError, "--tables /.*: that path is too long"):
+            checkpoint.note_tables("/" + "\u0431" * 200)
+
+
+class LeavesNothing(Begun):
+    """Whatever refuses a start."""
+
+    def refused(self, kind: type[Exception], text: str, *words: str) -> None:
+        before = {it: it.stat().st_mtime_ns for it in Path(self.folder).rglob("*") if it.is_file()}
+        folders = sorted(it for it in Path(self.folder).rglob("*") if it.is_dir())
+        with mock.patch("pgsub_connect.commands.follow.stop_by_signals"), self.assertRaisesRegex(
+            kind, text
+        ):
+            follow.run(
+                follow.Options(
+                    **vars(self.follow("--dsn", f"host={self.folder}/nowhere dbname=shop", *words))
+                )
+            )
+        after = {it: it.stat().st_mtime_ns for it in Path(self.folder).rglob("*") if it.is_file()}
+        self.assertEqual(after, before)
+        self.assertEqual(sorted(it for it in Path(self.folder).rglob("*") if it.is_dir()), folders)
+
+    def test_no_server(self) -> None:
+        for words in (
+            ("--create",),
+            ("--create", "--tables", self.rows),
+            ("--create", "--no-copy", "--feed", self.feed),
+            ("--create", "--record", self.folder + "/r.pgx", "--table", "t"),
+        ):
+            with self.subTest(words):
+                self.refused(Failure, "connection to server", *words)
+
+    def test_no_store(self) -> None:
+        self.refused(Unfit, "there is no store .*: --create makes it")
+
+    def test_files_in_the_way(self) -> None:
+        os.mkdir(self.feed)
+        Path(self.feed, "x").touch()
+        self.refused(Unfit, "an older copy has left", "--create", "--feed", self.feed)
+        Path(self.rows).write_text("mine", encoding="utf-8")
+        self.refused(FileError, "has no tables that follow", "--create", "--tables", self.rows)
+        self.refused(FileError, "rows.db", "--create", "--record", self.rows)
+        Path(self.store + "-wal").touch()
+        self.refused(Unfit, "is the log of a store that is gone", "--create")
+
+    def test_a_store_of_which_nothing_is_known(self) -> None:
+        """It stays, and no checkpoint is made."""
+        Path(self.store).write_text("rows", encoding="utf-8")
+        self.refused(Failure, "pgsub|filter")
+
+    def test_what_was_there_stays(self) -> None:
+        self.followed(COPYING)
+        os.unlink(self.store)
+        self.refused(Passing, "connection to server", "--create")
+        self.assertEqual(read_known(self.store + ".connector").slot, "app")
+
+
+class Copies(Copying):
+    """So do those that are refused while the rows are copied, with publication and slot."""
+
+    def test_all_of_it(self) -> None:
+        self.server.answer("SELECT p.pubname FROM", lambda it: [["pgsub"]] if "= 777" in it else [])
+        for command, error in (
+            ("CREATE_REPLICATION_SLOT", ServerError("all replication slots are in use", "53400")),
+            ("COPY (", ServerError("denied", "42501")),
+            ("pg_copy_logical_replication_slot", ServerError("denied", "42501")),
+            ("CREATE PUBLICATION", ServerError("denied", "42501")),
+            ("SET TRANSACTION SNAPSHOT", Stopped()),
+        ):
+            with self.subTest(command):
+                self.server.commands.clear()
+                self.server.answer(command, mock.Mock(side_effect=error))
+                copier = self.copier()
+                with self.assertRaises(type(error)), leaving_nothing(self.checkpoint, set(), ()):
+                    copier.run()
+                self.assertEqual((os.listdir(self.folder), self.slots), ([], []))
+                self.server.answers.pop(0)
+
+    def test_a_slot_that_the_next_start_goes_on_with(self) -> None:
+        copier = self.copier()
+        self.patch(copier.slot, "drop", lambda _: False)
+        self.server.answer("COPY (", ServerError("denied", "42501"))
+        with self.assertRaises(ServerError), leaving_nothing(self.checkpoint, set(), ()):
+            copier.run()
+        self.assertEqual(read_known(self.store + ".connector").phase, SLOT)
+
+    def test_a_publication_that_cant_be_dropped(self) -> None:
+        """It is remembered, so that the next start drops it."""
+        self.server.answer("DROP PUBLICATION", ServerError("gone", "57P01"))
+        self.server.answer("SELECT p.pubname FROM", lambda it: [["pgsub"]] if "= 777" in it else [])
+        self.server.answer("COPY (", ServerError("denied", "42501"))
+        copier = self.copier()
+        with self.assertRaises(ServerError), leaving_nothing(self.checkpoint, set(), ()):
+            copier.run()
+        self.assertEqual(os.listdir(self.folder), ["copy.db.tables"])
+        self.assertEqual(self.made(), {"pgsub": 777})
