@@ -144,6 +144,18 @@ class Dropping(Quiet):
         self.assertEqual(os.listdir(feed), ["notes"])
         self.assertIn(f"stays: {feed}. ", self.said[-1])
 
+    def test_all_where_the_tables_are_gone(self) -> None:
+        self.feed()
+        os.unlink(self.folder + "/rows.db")
+        self.run_it(all=True)
+        self.assertNotIn("copy.db.connector", self.left())
+
+    def test_all_but_what_has_no_tables_any_more(self) -> None:
+        self.feed()
+        Path(self.folder, "rows.db").write_bytes(b"SQLite format 3\0" + b"x" * 100)
+        self.run_it(all=True)
+        self.assertIn("rows.db", self.left())
+
     def test_all_but_tables_of_another_feed(self) -> None:
         self.feed()
         with contextlib.closing(sqlite3.connect(self.folder + "/rows.db")) as db:

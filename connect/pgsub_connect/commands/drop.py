@@ -9,6 +9,7 @@ import dataclasses
 import os
 import select
 import shlex
+import sqlite3
 import sys
 import time
 from collections.abc import Callable, Iterable
@@ -284,11 +285,13 @@ class Dropper:
 
     def files_read(self) -> list[str]:
         """The feed and the tables of the store that are there, which others may read."""
-        feed, tables = str(self.remembered.get("feed") or f"{self.store}.feed"), self.known.tables
-        found = [feed] if os.path.isdir(feed) and not os.path.islink(feed) else []
-        if tables and is_tables(tables) and read_position(tables)[1] == feed:
-            found += [it for it in (tables + it for it in OF_FILE) if os.path.lexists(it)]
-            found += files_beside(tables, ("", ".base"))
+        feed = os.path.abspath(self.remembered.get("feed") or f"{self.store}.feed")
+        found, tables = [feed] if os.path.isdir(feed) else [], self.known.tables
+        # (nothing else that has the name by now)
+        with contextlib.suppress(OSError, sqlite3.Error, TypeError, ValueError):
+            if tables and is_tables(tables) and read_position(tables)[1] == feed:
+                found += [it for it in (tables + it for it in OF_FILE) if os.path.lexists(it)]
+                found += files_beside(tables, ("", ".base"))
         return found
 
 
