@@ -11,7 +11,7 @@ import unittest
 from typing import Any
 from unittest import mock
 
-from pgsub_connect.commands.follow import ACCEPTED
+from pgsub_connect.commands.arguments.session import ACCEPTED
 from pgsub_connect.status.findings import Counted
 from pgsub_connect.store import checkpoint as known_of
 from pgsub_connect.store.at_rest import locked_checkpoint

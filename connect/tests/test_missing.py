@@ -13,7 +13,8 @@ from unittest import mock
 
 from pgsub_connect import cli
 from pgsub_connect.commands import follow
-from pgsub_connect.commands.follow import ACCEPTED, ENDS
+from pgsub_connect.commands.arguments.session import ACCEPTED
+from pgsub_connect.commands.follow import ENDS
 from pgsub_connect.drift.remembered import Remembered
 from pgsub_connect.drift.tolerance import Tolerance
 from pgsub_connect.errors import MISSED, ServerError

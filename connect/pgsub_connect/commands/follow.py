@@ -7,9 +7,7 @@ import argparse
 import dataclasses
 import os
 import signal
-from collections.abc import Callable
 
-from pgsub_feed.arguments import lsn
 from pgsub_feed.errors import Stopped, Unfit
 from pgsub_feed.interruption import Check
 from pgsub_feed.program import Worker, stop_by_signals
@@ -44,19 +42,18 @@ from .arguments.altering import AlterOptions, add_altering
 from .arguments.feed import FeedOptions, add_feed, settled_feed
 from .arguments.files import check_files
 from .arguments.needs import check_needs
+from .arguments.numerics import check_numeric
 from .arguments.publishing import CopyOptions, add_copying, check_creates, check_publishing
 from .arguments.recording import add_longest
 from .arguments.server import ServerOptions, add_server, settled_server
+from .arguments.session import add_session
 from .arguments.sizes import SizeOptions, add_sizes, settled_sizes
-from .arguments.store import PLAINTEXT
 from .arguments.texts import each
-from .arguments.types import lsn_or_now, seconds
 from .arguments.watching import WatchOptions, add_watching
 from .snapshot import check_copied
 
 ABOUT = "follow into a store"
 ENDS = exit_status.ENDS
-ACCEPTED = ("history", "slot", "names", "publication", "values", "missing", "gap", "all", PLAINTEXT)
 
 
 @dataclasses.dataclass(frozen=True)
@@ -116,54 +113,6 @@ def add_options(parser: argparse.ArgumentParser) -> None:
     add_longest(add)
 
 
-def add_session(add: Callable[..., object]) -> None:
-    """Options on how long it is followed, and on what is taken as it is."""
-    add(
-        "--until",
-        type=lsn_or_now,
-        metavar="LSN|now",
-        help="stop once all that was committed up to this LSN, or up to now, is stored",
-    )
-    add(
-        "--silence",
-        type=seconds,
-        default=60.0,
-        metavar="N",
-        help="give a server up that says nothing for N seconds (default: 60)",
-    )
-    add(
-        "--strict",
-        action="store_true",
-        help="end with status 5 where something was found that may have made the copy wrong",
-    )
-    add_accepting(add)
-
-
-def add_accepting(add: Callable[..., object]) -> None:
-    """Options on what is taken as it is, or passed over."""
-    add(
-        "--accept",
-        action="append",
-        default=[],
-        choices=ACCEPTED,
-        help="take what was found of this kind as it is, may be repeated; plaintext, which isn't in all: go on without TLS",
-    )
-    add(
-        "--accept-gap",
-        dest="accept",
-        action="append_const",
-        const="gap",
-        help="go on although changes between the store and the slot may be missing",
-    )
-    add(
-        "--skip",
-        type=lsn,
-        default=0,
-        metavar="LSN",
-        help="pass over the changes of the commit with this final LSN",
-    )
-
-
 def check_options(parser: argparse.ArgumentParser, options: Options) -> Options:
     """Rejects options that don't go together."""
     check_creates(parser, options)
@@ -177,6 +126,7 @@ def check_options(parser: argparse.ArgumentParser, options: Options) -> Options:
     )
     if options.tables and options.without_tables:
         parser.error("--tables and --without-tables exclude each other")
+    check_numeric(parser, options.numeric, options.digests)
     if not options.store:
         parser.error("--store is needed")
     check_publishing(parser, options)

@@ -9,6 +9,7 @@ from collections.abc import Iterable, Iterator
 from pgsub_feed.files import meant, remove
 
 from ..drift.remembered import Remembered
+from ..status.files import STATUS
 from ..store.checkpoint import Checkpoint
 from ..store.checkpoint_lines import COPYING, NEW
 from ..store.placing import OF_STORE
@@ -16,7 +17,7 @@ from ..store.placing import OF_STORE
 
 def own_files(store: str) -> set[str]:
     """The files of a store that are there; the program has its own ones where a link leads."""
-    names = {name + it for name in (store, meant(store)) for it in OF_STORE}
+    names = {name + it for name in (store, meant(store)) for it in (STATUS, *OF_STORE)}
     return {it for it in names if os.path.lexists(it)}
 
 
