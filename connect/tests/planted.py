@@ -693,6 +693,27 @@ BUGS = (
         ("test_sink_keys",),
     ),
     Bug(
+        "an index that the server has no more stays",
+        "pgsub_feed/tables/indexes.py",
+        '            db.execute(f"DROP INDEX {identifier(name)}")\n',
+        "            pass\n",
+        ("test_feed_indexes",),
+    ),
+    Bug(
+        "rows that are made anew lose their indexes",
+        "pgsub_feed/tables/file.py",
+        "        if self.is_init_due and self.indexes:",
+        "        if self.is_init_due and self.indexes and self.indexes.has_news():",
+        ("test_feed_indexes",),
+    ),
+    Bug(
+        "an index on other columns is taken for that of the key",
+        "pgsub_feed/tables/indexes.py",
+        "    if parts == [target.columns[at] for at in target.key]:",
+        "    if target.key:",
+        ("test_feed_indexes",),
+    ),
+    Bug(
         "a new table isn't waited for until the server was looked at",
         "pgsub_feed/known_tables.py",
         "and self.lsn < lsn and",

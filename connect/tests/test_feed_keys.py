@@ -14,7 +14,7 @@ from feed_text import Cell, Column, Definition, Line
 from pgsub_connect.drift.remembered import Remembered
 from pgsub_connect.store.export import ExportSettings, export_store
 from pgsub_feed.interruption import never
-from pgsub_feed.known_tables import KnownTables
+from pgsub_feed.known_tables import Index, KnownTables
 from pgsub_feed.reader.following import Following
 from pgsub_feed.reader.reading import Reading
 from pgsub_feed.tables.file import Rows
@@ -50,11 +50,19 @@ def wider(*more: Column) -> Definition:
     return table(columns=[ID, NAME, MORE, *more], letter="f")
 
 
-def look(store: str, lsn: int, *primary: str, oid: int = 1, letter: str = "f") -> None:
+def look(
+    store: str,
+    lsn: int,
+    *primary: str,
+    oid: int = 1,
+    letter: str = "f",
+    indexes: tuple[Index, ...] = (),
+) -> None:
     """The follower of a store looks at the server, which has a table with this primary key."""
     found = a_table(oid, "stock", a_shape(COLUMNS, letter))
+    found = dataclasses.replace(found, primary=primary, indexes=indexes)
     remembered = Remembered(store)
-    remembered.begin(a_catalog(dataclasses.replace(found, primary=primary), lsn=lsn))
+    remembered.begin(a_catalog(found, lsn=lsn))
     remembered.save()
 
 

@@ -10,6 +10,7 @@ from pgsub_feed.tables.values import ALL_TEXT, BOTH
 
 from ..store.export import ExportSettings, export_store
 from .arguments.exit_status import COPIED
+from .arguments.following import INDEXES
 from .arguments.numerics import add_numeric
 from .arguments.store_copy import StoreCopyOptions, add_store_copy, settled_store_copy
 from .arguments.texts import add_repeated, check_texts, each
@@ -26,6 +27,7 @@ class Options(StoreCopyOptions):
 
     text: bool = False
     numeric: str = BOTH
+    indexes: bool = False
     table: tuple[str, ...] = ()
 
 
@@ -34,6 +36,7 @@ def add_options(parser: argparse.ArgumentParser) -> None:
     add = parser.add_argument
     add("--text", action="store_true", help="each value as TEXT, as the server prints it")
     add_numeric(add)
+    add("--indexes", action="store_true", help=f"with {INDEXES}")
     add_repeated(add, "--table", "export this table", "all")
 
 
@@ -46,6 +49,8 @@ def run(options: Options) -> int:
     """Exports a store; the exit status."""
     options = settled(options)
     form = ALL_TEXT if options.text else options.numeric
-    settings = ExportSettings(options.store, options.into, form, options.table, options.mode)
+    settings = ExportSettings(
+        options.store, options.into, form, options.table, options.mode, options.indexes
+    )
     export_store(settings, check_signals())
     return 0

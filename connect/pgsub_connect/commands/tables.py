@@ -10,6 +10,7 @@ import sqlite3
 
 from pgsub_feed import log
 from pgsub_feed.arguments import lsn
+from pgsub_feed.errors import UsageError
 from pgsub_feed.interruption import Check
 from pgsub_feed.known_tables import known_beside
 from pgsub_feed.program import check_signals
@@ -24,7 +25,7 @@ from pgsub_feed.texts import lsn_text
 from ..server.publication_setup import names_of
 from .arguments.exit_status import FED
 from .arguments.files import add_mode, check_files, use_mode
-from .arguments.following import FollowingOptions, add_beginning, add_end, add_kept
+from .arguments.following import INDEXES, FollowingOptions, add_beginning, add_end, add_kept
 from .arguments.numerics import add_numeric, check_numeric
 from .arguments.texts import check_texts, each
 
@@ -48,6 +49,7 @@ class Options(FollowingOptions):
     init: str | None = None
     digests: bool = False
     numeric: str = BOTH
+    indexes: bool = False
     while_input: bool = False
     at: int | None = None
 
@@ -55,7 +57,10 @@ class Options(FollowingOptions):
         """What is kept, and the rows that it begins with."""
         reading = self.reading(self.table, self.at)
         known = known_beside(self.feed, self.store)
-        return Wanted(self.into, reading, self.init, self.digests, known, self.numeric)
+        if self.indexes and not known:
+            raise UsageError("--indexes needs the store of the feed: name it by --store")
+        more = known, self.numeric, self.indexes
+        return Wanted(self.into, reading, self.init, self.digests, *more)
 
 
 def add_options(parser: argparse.ArgumentParser) -> None:
@@ -68,6 +73,7 @@ def add_options(parser: argparse.ArgumentParser) -> None:
         metavar="FILE",
         help="run this SQL once a table was made or altered, for indexes and views: CREATE INDEX IF NOT EXISTS ..",
     )
+    add("--indexes", action="store_true", help=f"with {INDEXES}; it needs the store of the feed")
     add_kept(add, "the disk")
     add(
         "--digests",

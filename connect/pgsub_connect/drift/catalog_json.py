@@ -6,6 +6,7 @@ import dataclasses
 import json
 from typing import Any
 
+from pgsub_feed.known_tables import index_of
 from pgsub_feed.relation import Column, Relation, Shape
 from pgsub_feed.texts import lsn_text, parse_lsn
 
@@ -60,6 +61,7 @@ def catalog_written(catalog: Catalog) -> dict[str, Any]:
                 "node": it.node,
                 "altered": it.altered,
                 "primary": it.primary,
+                "indexes": it.indexes,
             }
             for it in catalog.tables.values()
         ],
@@ -152,7 +154,7 @@ def partition_of(
 
 def table_of(said: dict[str, Any]) -> Table:
     """A table; an earlier version of this program didn't keep when its columns were altered, nor by
-    what publications have it, nor its primary key."""
+    what publications have it, nor its primary key and indexes."""
     since = {
         name: tuple(str(it) for it in entries)
         for name, entries in said.get("since", {}).items()
@@ -175,6 +177,7 @@ def table_of(said: dict[str, Any]) -> Table:
         node=int(said.get("node", 0)),
         altered=str(said.get("altered", "")),
         primary=tuple(str(it) for it in said.get("primary", ())),
+        indexes=tuple(index_of(it) for it in said.get("indexes", ())),
     )
 
 

@@ -153,6 +153,7 @@ TABLE = fields(
     node=oid_of,
     altered=name,
     primary=each(name),
+    indexes=each(row(oid_of, name, each(row(name, flag_of)), name)),
 )
 PARTITION = row(oid_of, oid_of, name, flag_of, oid_of, least=4)
 ABOUT = fields(

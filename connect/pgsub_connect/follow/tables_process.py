@@ -57,7 +57,7 @@ CODE = f"import sys; sys.path[:] = [{TOP!r}, *filter(None, sys.path)]; from pgsu
 class TablesSettings:
     """The file of tables, the feed that it follows and the store that the feed is of. `init`: the
     SQL that is run once a table was made or altered; `digests`: whether one is kept of each
-    table; `numeric`: how numerics are kept."""
+    table; `numeric`: how numerics are kept; `indexes`: whether there are the server's."""
 
     path: str
     feed: str
@@ -66,6 +66,7 @@ class TablesSettings:
     init: str | None = None
     digests: bool = False
     numeric: str = BOTH
+    indexes: bool = False
 
 
 def check(settings: TablesSettings) -> None:
@@ -99,6 +100,7 @@ def words_of(settings: TablesSettings) -> list[str]:
     ]
     words += ["--reader", READER, "--mode", f"{settings.mode:o}", "--while-input"]
     words += ["--numeric", settings.numeric] + ["--digests"] * settings.digests
+    words += ["--indexes"] * settings.indexes
     return words + (["--init", settings.init] if settings.init else [])
 
 

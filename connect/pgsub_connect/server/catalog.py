@@ -6,6 +6,7 @@ from __future__ import annotations
 import dataclasses
 from typing import NamedTuple
 
+from pgsub_feed.known_tables import Index
 from pgsub_feed.relation import Column, Shape
 from pgsub_feed.texts import identifier
 
@@ -54,7 +55,7 @@ class Table:
     rows, 0 where that isn't known; `altered`: which transactions have made or altered its columns;
     `logged`: its changes are in the log; `toast`: the OID of what keeps its long values, 0 where it
     has none, or that isn't known; `primary`: the columns of its primary key, none where that is
-    deferrable, or isn't known; `leaves`: what some of its partitions are whose changes are in no
+    deferrable, or isn't known; `indexes`: all that it has; `leaves`: what some of its partitions are whose changes are in no
     log, where it is to be read."""
 
     oid: int
@@ -70,6 +71,7 @@ class Table:
     logged: bool = True
     toast: int = 0
     primary: tuple[str, ...] = ()
+    indexes: tuple[Index, ...] = ()
     leaves: Leaves | None = None
 
     @property

@@ -6,6 +6,7 @@ from __future__ import annotations
 import dataclasses
 from collections.abc import Iterator
 
+from pgsub_feed.known_tables import Index
 from pgsub_feed.relation import Column, Shape
 from pgsub_feed.texts import literal, parse_lsn
 
@@ -116,9 +117,12 @@ def read_tables(connection: Connection, names: list[str]) -> dict[int, Table]:
     tables: dict[int, Table] = {}
     for table in read_parts(connection, names, QUICK):
         tables.setdefault(table.oid, table).parts.update(table.parts)
-    keys = read_keys(connection, list(tables))
+    keys, indexes = read_keys(connection, list(tables)), read_indexes(connection, list(tables))
     return {
-        oid: dataclasses.replace(it, primary=tuple(keys.get(oid, ()))) for oid, it in tables.items()
+        oid: dataclasses.replace(
+            it, primary=tuple(keys.get(oid, ())), indexes=tuple(indexes.get(oid, ()))
+        )
+        for oid, it in tables.items()
     }
 
 
@@ -219,6 +223,36 @@ def read_keys(connection: Connection, oids: list[int]) -> dict[int, list[str]]:
     for oid, name in rows:
         keys.setdefault(number(oid), []).append(name or "")
     return keys
+
+
+# Why an index `i` of an access method `m` is none of plain columns alone, "" where it is.
+UNLIKE = (
+    "CASE WHEN NOT i.indisvalid THEN 'it isn''t valid' WHEN m.amname <> 'btree' THEN 'it is of ' || m.amname"
+    " WHEN i.indpred IS NOT NULL THEN 'it is partial' WHEN i.indexprs IS NOT NULL THEN 'it has an expression' ELSE '' END"
+)
+
+
+def read_indexes(connection: Connection, oids: list[int]) -> dict[int, list[Index]]:
+    """All indexes of tables, with the columns that they include."""
+    rows = connection.rows(
+        f"SELECT i.indrelid, i.indexrelid, c.relname, {UNLIKE}, a.attname,"
+        " COALESCE((i.indoption::pg_catalog.int2[])[k.place - 1] & 1, 0) = 1 FROM pg_catalog.pg_index i"
+        " JOIN pg_catalog.pg_class c ON c.oid = i.indexrelid JOIN pg_catalog.pg_am m ON m.oid = c.relam"
+        " CROSS JOIN LATERAL pg_catalog.unnest(i.indkey::pg_catalog.int2[]) WITH ORDINALITY k (attnum, place)"
+        " LEFT JOIN pg_catalog.pg_attribute a ON a.attrelid = i.indrelid AND a.attnum = k.attnum"
+        f" WHERE i.indrelid IN ({listed_oids(oids)}) ORDER BY i.indrelid, i.indexrelid, k.place",
+        QUICK,
+    )
+    found: dict[tuple[int, int], Index] = {}
+    for oid, relation, name, why, column, descends in rows:
+        key = number(oid), number(relation)
+        it = found.setdefault(key, Index(key[1], name or "", (), why or ""))
+        part = ((column or "", descends == "t"),)
+        found[key] = it if it.why else it._replace(columns=it.columns + part)
+    indexes: dict[int, list[Index]] = {}
+    for (table, _), it in found.items():
+        indexes.setdefault(table, []).append(it)
+    return indexes
 
 
 def read_partitions(connection: Connection, names: list[str]) -> dict[int, Partition]:

@@ -20,8 +20,10 @@ from pgsub_feed import log
 from pgsub_feed.errors import FileError, Passing, Stopped, Unfit
 from pgsub_feed.files import placed
 from pgsub_feed.interruption import Check
+from pgsub_feed.known_tables import KnownTables
 from pgsub_feed.meter import Meter
 from pgsub_feed.relation import Relation
+from pgsub_feed.tables.indexes import Indexes
 from pgsub_feed.tables.names import OLD, POSITION, TABLES, name_tables, names_of
 from pgsub_feed.tables.primary_keys import primary_key
 from pgsub_feed.tables.schema import RELATIONS, SCHEMA, definition
@@ -56,8 +58,10 @@ class Export:
         form: str,
         check: Check,
         names: Sequence[str],
+        indexes: Indexes | None = None,
     ) -> None:
         self.store, self.into, self.form, self.check, self.names = store, into, form, check, names
+        self.indexes = indexes
         self.waiting, self.meter = 0, Meter("exporting")
 
     def run(self, remembered: Remembered) -> tuple[int, int, int]:
@@ -70,6 +74,8 @@ class Export:
         keys = {it.oid: primary_key(known.get(it.oid, ()), it) for it in relations}
         self.begin(position, relations, keys)
         self.copy_rows(stored)
+        if self.indexes:
+            self.indexes.make(self.into, self.targets.values())
         self.into.execute("COMMIT")
         return position, len(self.targets), sum(it.rows for it in self.targets.values())
 
@@ -221,13 +227,15 @@ def stop(check: Check) -> Callable[[], int]:
 @dataclasses.dataclass(frozen=True)
 class ExportSettings:
     """Which store is exported into which file. `form`: how numerics are kept, or each value;
-    `chosen`: the tables that are named, all where there are none."""
+    `chosen`: the tables that are named, all where there are none; `has_indexes`: with the server's
+    indexes."""
 
     store: str
     into: str
     form: str = BOTH
     chosen: Sequence[str] = ()
     mode: int = 0o600
+    has_indexes: bool = False
 
 
 def export_store(settings: ExportSettings, check: Check) -> None:
@@ -256,13 +264,15 @@ def export(path: str, new: str, settings: ExportSettings, check: Check) -> tuple
     """Exports a file at rest into a new one. What is remembered of the publications lies beside the
     store."""
     remembered = Remembered(settings.store)
+    indexes = Indexes(KnownTables(settings.store)) if settings.has_indexes else None
     try:
         with contextlib.closing(opened(path)) as store, contextlib.closing(
             sqlite3.connect(new, isolation_level=None)
         ) as into:
             for db in (store, into):
                 db.set_progress_handler(stop(check), STEPS)
-            return Export(store, into, settings.form, check, settings.chosen).run(remembered)
+            made = Export(store, into, settings.form, check, settings.chosen, indexes)
+            return made.run(remembered)
     except Malformed:
         raise FileError(
             f"{settings.store}: a malformed row or definition: the disk, or another program, has spoiled the file"

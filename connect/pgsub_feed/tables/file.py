@@ -14,6 +14,7 @@ from ..texts import identifier, lsn_text, parse_lsn
 from .digests import FORMAT as WITH_DIGESTS
 from .digests import SCHEMA as DIGESTS_SCHEMA
 from .digests import Digests, has_digests
+from .indexes import Indexes
 from .names import OLD, POSITION, TABLES, distinct_name, folded, names_of
 from .primary_keys import Keys, inherited
 from .reshape import LOOSE, carry, is_alike, loosen, sources
@@ -50,8 +51,10 @@ class Rows:
         init: Init | None = None,
         known: KnownTables | None = None,
         form: str = BOTH,
+        indexes: Indexes | None = None,
     ) -> None:
         self.path, self.init, self.keys, self.form = path, init, Keys(known), form
+        self.indexes = indexes
         self.db = sqlite3.connect(path, timeout=BUSY, isolation_level=None, cached_statements=2000)
         self.asides = Asides(self.db, path)
         try:
@@ -373,7 +376,9 @@ class Rows:
         self.settle(self.at)
 
     def initialize(self) -> None:
-        """Runs what the user wants to have run after a table was made or altered."""
+        """Makes indexes, and runs what the user wants, after a table was made or altered."""
+        if self.is_init_due and self.indexes:
+            self.indexes.make(self.db, [it.target for it in self.kept.values()])
         if self.is_init_due and self.init:
             self.init.run(self.db)
         self.is_init_due = False

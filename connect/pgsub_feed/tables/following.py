@@ -18,6 +18,7 @@ from ..texts import lsn_text
 from .applier import Applier
 from .file import Rows
 from .first_rows import EARLIER, keeping, make
+from .indexes import Indexes
 from .rewind import walk
 from .set_aside import shown_asides
 from .sqlite_files import is_earlier
@@ -31,7 +32,8 @@ MOST = 20000
 @dataclasses.dataclass(frozen=True)
 class Wanted:
     """The file that is wanted: with a user's SQL after a table was made, and with digests. `keys`
-    knows primary keys; `form`: how numerics are kept."""
+    knows primary keys, and indexes that are made where they are wanted; `form`: how numerics are
+    kept."""
 
     into: str
     reading: Reading
@@ -39,6 +41,7 @@ class Wanted:
     has_digests: bool = False
     keys: KnownTables | None = None
     form: str = BOTH
+    has_indexes: bool = False
 
 
 class Tables:
@@ -71,7 +74,9 @@ class Tables:
         self.end = self.rows.at
 
     def look(self) -> None:
-        """Nobody else writes the file."""
+        """Has the indexes that the server has by now. (Nobody else writes the file.)"""
+        if self.rows.indexes and self.rows.indexes.has_news():
+            self.rows.run_init()
 
     def safe(self) -> int:
         """(`Noted` has the disk have the file's log.)"""
@@ -89,7 +94,8 @@ def keep(wanted: Wanted, check: Check, parent: Parent | None = None) -> tuple[in
     if not is_there:
         with keeping(reading):
             make(wanted.into, reading, wanted.form, check)
-    rows, is_orderly = Rows(wanted.into, init, wanted.keys, wanted.form), False
+    indexes = Indexes(wanted.keys) if wanted.keys and wanted.has_indexes else None
+    rows, is_orderly = Rows(wanted.into, init, wanted.keys, wanted.form, indexes), False
     try:
         prepare(rows, wanted, check)
         is_stopped = follow(rows, wanted, check, parent)
@@ -111,7 +117,7 @@ def prepare(rows: Rows, wanted: Wanted, check: Check) -> None:
         rows.keep_digests()
     if reading.until is not None and rows.at > reading.until:
         walk(reading.feed, rows, reading.until, check)
-    if rows.init:
+    if rows.init or rows.indexes:
         rows.run_init()
     rows.asides.tell(folder)
 

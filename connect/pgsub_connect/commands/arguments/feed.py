@@ -16,6 +16,7 @@ from ...drift.remembered import Remembered
 from ...follow.feed import FeedSettings
 from ...follow.tables_process import TablesSettings
 from ...store.checkpoint_at_rest import read_known
+from .following import INDEXES
 from .numerics import add_numeric
 from .types import within
 
@@ -24,6 +25,7 @@ from .types import within
 NEEDS = {
     "init": "tables",
     "digests": "tables",
+    "indexes": "tables",
     "feed_segment_bytes": "feed",
     "feed_segment_seconds": "feed",
     "feed_max_bytes": "feed",
@@ -46,11 +48,19 @@ class FeedOptions:
     init: str | None = None
     digests: bool = False
     numeric: str = BOTH
+    indexes: bool = False
 
     def feed_settings(self, store: str, mode: int) -> FeedSettings:
         tables = (
             TablesSettings(
-                self.tables, self.feed, store, mode, self.init, self.digests, self.numeric
+                self.tables,
+                self.feed,
+                store,
+                mode,
+                self.init,
+                self.digests,
+                self.numeric,
+                self.indexes,
             )
             if self.tables
             else None
@@ -140,6 +150,7 @@ def add_tables(add: Callable[..., object]) -> None:
         action="store_true",
         help="with --tables: keep a digest of each table, for `verify`",
     )
+    add("--indexes", action="store_true", help=f"with --tables: {INDEXES}")
     add_numeric(add)
 
 

@@ -12,6 +12,8 @@ from pgsub_feed.reader.reading import Reading
 from ..beside import StoreBeside
 from .texts import add_repeated
 
+INDEXES = "the server's indexes of btree over plain columns, none of them unique; what is left out is told"
+
 
 @dataclasses.dataclass(frozen=True)
 class FollowingOptions:
