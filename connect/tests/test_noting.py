@@ -276,8 +276,8 @@ class Relations(Case):
         )
         self.assertEqual(len(self.found()["values"]), 1)
 
-    def test_a_table_that_comes_again(self) -> None:
-        """It may have another primary key, where that isn't the identity."""
+    def test_a_table_whose_primary_key_isnt_told(self) -> None:
+        """It may have another one."""
         for identity, xid, wants in (
             ("d", 0, False),
             ("f", 9, False),
@@ -285,17 +285,15 @@ class Relations(Case):
             ("i", 0, True),
         ):
             with self.subTest(identity=identity, xid=xid):
-                self.noting.begin_session()
-                self.noting.relation_log.wants_look = False
                 for lsn in (500, 510):
-                    self.assertFalse(self.noting.relation_log.wants_look)
+                    self.noting.relation_log.wants_look = False
                     it = relation(1, "t", identity=identity, xid=xid or None)
                     if xid:
                         blocks = vectors.start(xid, True), it, insert(1, xid), vectors.stop()
                         self.note(*blocks, vectors.stream_commit(xid, lsn, lsn + 8))
                     else:
                         self.note(begin(lsn, 7), it, insert(1), commit(lsn, lsn + 8))
-                self.assertEqual(self.noting.relation_log.wants_look, wants)
+                    self.assertEqual(self.noting.relation_log.wants_look, wants)
 
     def test_a_table_of_the_same_name(self) -> None:
         self.note(begin(500, 7), relation(3, "t"), insert(3), commit(500, 508))

@@ -182,10 +182,11 @@ def compare_messages(nats: NatsServer, feed: Path) -> Tuple[Counted, int]:
     return rows, len(ids)
 
 
+# The primary key, unless that is deferrable, and else the index of the replica identity.
 KEY = (
-    "SELECT a.attname FROM pg_index i JOIN pg_class c ON c.oid = i.indrelid JOIN pg_attribute a ON a.attrelid = c.oid"
-    " AND a.attnum = ANY ((i.indkey::int2[])[0:i.indnkeyatts - 1]) WHERE c.oid = '{0}'::regclass"
-    " AND (c.relreplident = 'd' AND i.indisprimary OR c.relreplident = 'i' AND i.indisreplident) ORDER BY a.attnum"
+    "SELECT a.attname FROM (SELECT * FROM pg_index WHERE indrelid = '{0}'::regclass AND indimmediate"
+    " AND (indisprimary OR indisreplident) ORDER BY indisprimary DESC LIMIT 1) i JOIN pg_attribute a"
+    " ON a.attrelid = i.indrelid AND a.attnum = ANY ((i.indkey::int2[])[0:i.indnkeyatts - 1]) ORDER BY a.attnum"
 )
 
 

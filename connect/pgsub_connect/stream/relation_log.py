@@ -13,14 +13,12 @@ from .transactions import Described
 
 class RelationLog:
     """Compares them. `wants_look`: a table came that isn't among those that are remembered, or
-    wasn't published when these were, or one came again whose primary key no message tells."""
+    wasn't published when these were, or one came whose primary key no message tells."""
 
     def __init__(self, remembered: Remembered) -> None:
         self.remembered = remembered
         self.wants_look = False
         self.strangers: set[int] = set()
-        # those that have come in this session
-        self.seen: set[int] = set()
         # the last Relation message of each table that was compared with what is remembered, as it
         # came
         self.compared: dict[int, bytes] = {}
@@ -29,7 +27,7 @@ class RelationLog:
 
     def begin_session(self) -> None:
         """Forgets those of a session that has ended."""
-        self.described, self.seen = {}, set()
+        self.described = {}
 
     def note_look(self, wants_look: bool) -> None:
         self.wants_look = wants_look
@@ -49,10 +47,9 @@ class RelationLog:
         changed = {number(key[-4:]): None for key in counts}
         oids = [number(body[:4]) for _, body in relations.bodies]
         for oid, (maker, body) in zip(oids, relations.bodies):
-            # (each transaction that is streamed in blocks has its own)
-            if not maker and oid in self.seen and identity_of(body) in OTHER:
+            # (it comes once in a session, and after each alteration; in blocks with each of them)
+            if not maker and identity_of(body) in OTHER:
                 self.wants_look = True
-            self.seen.add(oid)
             if oid in changed or not self.remembered.is_partition(oid):
                 self.described.setdefault(oid, []).append(body)
             if self.remembered.is_known(oid) and not (

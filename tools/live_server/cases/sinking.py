@@ -366,8 +366,9 @@ def confirm(place: Place, follower: Supervisor) -> None:
 
 
 def last_end(feed: Path) -> int:
-    """Where the last commit of a feed ends."""
-    return max(lsn_of(commit["end"]) for path in segments(feed)[-2:] for commit, _ in commits(path))
+    """Where the last commit of a feed ends, 0 where it has none."""
+    ends = (lsn_of(commit["end"]) for path in segments(feed)[-2:] for commit, _ in commits(path))
+    return max(ends, default=0)
 
 
 def of_a_server(place: Place) -> None:
