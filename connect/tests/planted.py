@@ -890,7 +890,7 @@ BUGS = (
     ),
     Bug(
         "the tables run what is in the working directory",
-        "pgsub_connect/follow/tables_process.py",
+        "pgsub_connect/follow/process_beside.py",
         "*filter(None, sys.path)",
         "*sys.path",
         ("test_feeding",),

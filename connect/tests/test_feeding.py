@@ -20,12 +20,12 @@ from pgsub_connect.commands.arguments.feed import settled_feed
 from pgsub_connect.drift.remembered import Remembered
 from pgsub_connect.drift.tolerance import Tolerance
 from pgsub_connect.follow import feed as feed_module
-from pgsub_connect.follow import feed_keeper, tables_process
+from pgsub_connect.follow import feed_keeper, process_beside, tables_process
 from pgsub_connect.follow.common import Common
 from pgsub_connect.follow.feed import Feeding, FeedSettings
 from pgsub_connect.follow.feed_keeper import Keeper
 from pgsub_connect.follow.follower import Follower
-from pgsub_connect.follow.tables_process import Beside, TablesSettings, words_of
+from pgsub_connect.follow.tables_process import Beside, TablesSettings
 from pgsub_connect.server.subscription import Subscription
 from pgsub_connect.status.metrics import metrics_text
 from pgsub_connect.status.progress import Progress
@@ -571,7 +571,7 @@ class Tables(FeedCase):
     def setUp(self) -> None:
         super().setUp()
         self.said: list[str] = []
-        delay = mock.patch.object(tables_process, "FIRST_DELAY", 0.02)
+        delay = mock.patch.object(process_beside, "FIRST_DELAY", 0.02)
         delay.start()
         self.addCleanup(delay.stop)
         patch = mock.patch(
@@ -717,7 +717,7 @@ class Tables(FeedCase):
 
     def test_how_it_is_started(self) -> None:
         settings = dataclasses.replace(self.settings, init="my.sql", mode=0o640)
-        options = options_of(words_of(settings)[3:])
+        options = options_of(Beside(settings, self.progress).words[3:])
         self.assertEqual((options.feed, options.into), (str(self.path), self.into))
         self.assertEqual(options.store, self.settings.store)
         self.assertEqual(
@@ -736,7 +736,7 @@ class Tables(FeedCase):
             name: value for name, value in os.environ.items() if not name.startswith("PYTHON")
         }
         done = subprocess.run(
-            [*words_of(self.settings)[:3], "tables"],
+            [*Beside(self.settings, self.progress).words[:3], "tables"],
             cwd=self.folder,
             env=environment,
             capture_output=True,

@@ -86,7 +86,8 @@ class Waited(Case):
         told = self.follow()
         self.assertEqual((self.tries, len(told)), (6, 3), told)
         self.assertEqual(
-            told[0], f"warning: {REFUSED}: it is waited for, and tried again up to each 60 s"
+            told[0],
+            f"warning: {REFUSED}: it is waited for, and tried again each 60 seconds at least",
         )
         self.assertRegex(told[1], "is written from 0/0 on")
         self.assertEqual(self.server.rows(), stock(("1", "a")))

@@ -211,7 +211,7 @@ class Told(FeedCase):
         kept.ask(0x200)
         before = self.woken
         assert kept.child
-        with mock.patch("pgsub_connect.follow.tables_process.FIRST_DELAY", 0.01):
+        with mock.patch("pgsub_connect.follow.process_beside.FIRST_DELAY", 0.01):
             kept.child.kill()
             self.assertTrue(wait_for(lambda: self.woken > before, 20))
         self.assertEqual(kept.asked, set())

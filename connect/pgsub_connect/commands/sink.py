@@ -18,6 +18,7 @@ from pgsub_feed.sinks import nats_engine, redis_calls, redis_hashes, redis_strea
 from pgsub_feed.sinks.engine import Engine
 from pgsub_feed.sinks.following import keep
 from pgsub_feed.sinks.redis_engine import Redis, Writer
+from pgsub_feed.sinks.urls import ENVIRONMENT, FORMS, scheme, url
 
 from .arguments.files import add_mode, use_mode
 from .arguments.following import FollowingOptions, add_beginning, add_end, add_kept
@@ -53,22 +54,6 @@ exit status: 0 ended as asked; 1 a change is larger than the engine takes; 2 usa
 command for good; 5 the feed lacks commits after those that are written, or another sink has begun, or something else has written what the
 sink keeps; 6 a bug; 7 something is in the way only for now, as with --once an engine that isn't there: start it again
 """
-# The variable of the environment that may have the URL.
-ENVIRONMENT = "PGSUB_SINK"
-SCHEMES = {"redis": "redis", "rediss": "redis", "unix": "redis", "nats": "nats", "tls": "nats"}
-
-
-def scheme(url: str) -> str:
-    return SCHEMES.get(url.partition("://")[0], "")
-
-
-def url(text: str) -> str:
-    # (where there is none, the default is read as if it were one)
-    if text and not scheme(text):
-        raise argparse.ArgumentTypeError(
-            f"{text!r} is no URL as redis://localhost:6379/0, rediss://.., unix:///path, nats://localhost or tls://.."
-        )
-    return text
 
 
 def stream_name(text: str) -> str:
@@ -99,8 +84,7 @@ def add_options(parser: argparse.ArgumentParser) -> None:
         nargs="?",
         type=url,
         default="",
-        help="where to write: redis://[[USER]:PASSWORD@]HOST[:PORT][/NUMBER], unix://PATH[?db=NUMBER] or nats://[USER:PASSWORD@]HOST[:PORT];"
-        " by TLS rediss:// or tls:// in their place (default: PGSUB_SINK of the environment)",
+        help=f"where to write: {FORMS} (default: {ENVIRONMENT} of the environment)",
     )
     add(
         "--url-file",

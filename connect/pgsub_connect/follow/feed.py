@@ -43,6 +43,7 @@ from ..stream.statuses import Reached
 from .common import Common
 from .feed_keeper import Keeper
 from .retention import Limits
+from .sink_process import Sink, SinkSettings
 from .tables_process import Beside, TablesSettings
 from .tables_process import check as check_tables
 
@@ -64,8 +65,8 @@ def has_segments(folder: str) -> bool:
 
 @dataclasses.dataclass(frozen=True)
 class FeedSettings:
-    """Where the feed of a store is and how it is kept, and the tables that follow it. `is_left`:
-    the store goes on without the feed that it has had."""
+    """Where the feed of a store is and how it is kept, and the tables and sinks that follow it.
+    `is_left`: the store goes on without the feed that it has had."""
 
     store: str
     folder: str = ""
@@ -76,6 +77,7 @@ class FeedSettings:
     max_bytes: int = 0
     max_age: float | None = None
     tables: TablesSettings | None = None
+    sinks: tuple[SinkSettings, ...] = ()
 
     def limits(self) -> Limits:
         return Limits(self.max_bytes or None, self.max_age)
@@ -90,6 +92,7 @@ class Feeding:
         self.folder = os.path.abspath(settings.folder) if settings.folder else ""
         self.keeper: Keeper | None = None
         self.beside: Beside | None = None
+        self.sinks: list[Sink] = []
         # what the tables are to have before the follower ends by itself
         self.wanted: int | None = None
         # the end of the last commit of which the tables were told
@@ -171,6 +174,7 @@ class Feeding:
         )
         if tables:
             self.beside = Beside(tables, self.progress, wake)
+        self.sinks = [Sink(it, self.progress) for it in self.settings.sinks]
 
     def check_position(self, child: Filter, check: Check) -> None:
         """Rejects an older store, before a filter cuts off what the feed has above the store's
@@ -237,7 +241,7 @@ class Feeding:
 
     def note_opened(self) -> None:
         """A filter has opened the feed, so what looks after it and follows it may begin."""
-        for it in (self.keeper, self.beside):
+        for it in (self.keeper, self.beside, *self.sinks):
             if it and it.ident is None:
                 it.start()
 
@@ -245,9 +249,11 @@ class Feeding:
         """Tells those that read the feed what the store has now, and so the feed."""
         if self.keeper:
             self.keeper.changed.set()
-        if self.beside and reached.position != self.told:
+        if reached.position != self.told:
             self.told = reached.position
-            self.beside.tell()
+            for it in (self.beside, *self.sinks):
+                if it:
+                    it.tell()
 
     def is_read(self, position: int) -> bool:
         """Whether the tables have what the store had when this was asked first. One that is to end
@@ -267,7 +273,7 @@ class Feeding:
         )
 
     def finish(self) -> None:
-        for it in (self.beside, self.keeper):
+        for it in (self.beside, *self.sinks, self.keeper):
             if it and it.ident is not None:
                 it.finish()
 

@@ -1,4 +1,4 @@
-"""What is known of the feed beside a store, its readers, and the tables that follow it."""
+"""What is known of the feed beside a store, its readers, and the tables and sinks that follow it."""
 
 from __future__ import annotations
 
@@ -19,6 +19,8 @@ class FeedState:
         # what ended the tables that follow it, and which of them are set aside, and why
         self.tables_error = ""
         self.tables_aside: dict[str, str] = {}
+        # what is wrong with each sink, "" where it is well
+        self.sinks: dict[str, str] = {}
 
     def note(self, readers: dict[str, int], size: int) -> None:
         now = time.time()
@@ -36,3 +38,6 @@ class FeedState:
 
     def note_tables_aside(self, tables: dict[str, str]) -> None:
         self.tables_aside = tables
+
+    def note_sink(self, where: str, wrong: str) -> None:
+        self.sinks = {**self.sinks, where: wrong}

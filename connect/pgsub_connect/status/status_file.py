@@ -106,6 +106,7 @@ def shown_feed(progress: Progress, now: float) -> dict[str, object]:
         "tables_error": feed.tables_error or None,
         "tables_missing": feed.tables if feed.tables and not os.path.exists(feed.tables) else None,
         "tables_aside": feed.tables_aside or None,
+        "sinks": {name: wrong or None for name, wrong in sorted(feed.sinks.items())} or None,
     }
 
 

@@ -25,6 +25,7 @@ GRACE = 0.7
 # After how many seconds an engine that is away is tried again, at first and at most, how long it
 # has to be there until that is forgotten, and how often it is looked meanwhile whether to end.
 FIRST_DELAY, LONGEST_DELAY, FORGET, STEP = 1.0, 60.0, 60.0, 0.1
+WAITS = f"it is waited for, and tried again each {LONGEST_DELAY:.0f} seconds at least"
 
 
 class Outages:
@@ -47,9 +48,7 @@ class Outages:
             self.delay, self.is_told = 0.0, False
         self.at, self.delay = at or self.at, min(2 * self.delay, LONGEST_DELAY) or FIRST_DELAY
         if not self.is_told:
-            log.warning(
-                f"{error}: it is waited for, and tried again up to each {LONGEST_DELAY:.0f} s"
-            )
+            log.warning(f"{error}: {WAITS}")
             self.is_told = self.is_away = True
 
     def tell_there(self, text: str) -> None:

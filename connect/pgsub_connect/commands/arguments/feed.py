@@ -5,15 +5,17 @@ from __future__ import annotations
 import argparse
 import dataclasses
 import os
-from collections.abc import Callable
+from collections.abc import Callable, Sequence
 from typing import TypeVar
 
 from pgsub_feed.arguments import duration, size
 from pgsub_feed.errors import Unfit, UsageError
+from pgsub_feed.sinks.urls import FORMS, url
 from pgsub_feed.tables.values import BOTH
 
 from ...drift.remembered import Remembered
 from ...follow.feed import FeedSettings
+from ...follow.sink_process import SinkSettings
 from ...follow.tables_process import TablesSettings
 from ...store.checkpoint_at_rest import read_known
 from .following import INDEXES
@@ -49,6 +51,7 @@ class FeedOptions:
     digests: bool = False
     numeric: str = BOTH
     indexes: bool = False
+    sink: Sequence[str] = ()
 
     def feed_settings(self, store: str, mode: int) -> FeedSettings:
         tables = (
@@ -75,6 +78,7 @@ class FeedOptions:
             self.feed_max_bytes,
             self.feed_max_age,
             tables,
+            tuple(SinkSettings(it, self.feed, store, mode) for it in dict.fromkeys(self.sink)),
         )
 
 
@@ -108,6 +112,7 @@ def add_feed(parser: argparse.ArgumentParser) -> None:
     )
     add_ends_of_segments(add)
     add_tables(add)
+    add_sinks(add)
 
 
 def add_ends_of_segments(add: Callable[..., object]) -> None:
@@ -154,6 +159,18 @@ def add_tables(add: Callable[..., object]) -> None:
     add_numeric(add)
 
 
+def add_sinks(add: Callable[..., object]) -> None:
+    """Options on the sinks that follow the feed."""
+    add(
+        "--sink",
+        action="append",
+        type=url,
+        default=[],
+        metavar="URL",
+        help=f"write the rows to Redis or NATS, by `pgsub-connect sink` beside the follower, may be repeated: {FORMS}; the feed is STORE.feed by default",
+    )
+
+
 Settled = TypeVar("Settled", bound=FeedOptions)
 
 
@@ -169,7 +186,7 @@ def settled_feed(options: Settled, store: str) -> Settled:
         )
     if not feed and not options.without_feed and os.path.exists(store):
         feed = Remembered(store).feed
-    feed = feed or (store + ".feed" if tables else "")
+    feed = feed or (store + ".feed" if tables or options.sink else "")
     options = dataclasses.replace(options, tables=tables, feed=feed)
     for given, needed in NEEDS.items():
         if getattr(options, given) and not getattr(options, needed):

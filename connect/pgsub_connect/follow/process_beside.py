@@ -1,0 +1,175 @@
+"""A process of this program beside a follower, which reads from its feed.
+
+It is a reader of the feed with a name, so that the feed has what it lacks, and begins with a copy
+of the store, for which it asks the follower as any other program does. It ends with the follower: a
+signal ends it, and where the follower is killed, the end of its input. A line of its input tells
+that the feed has more: until then it sleeps.
+"""
+
+from __future__ import annotations
+
+import contextlib
+import os
+import signal
+import subprocess
+import sys
+import threading
+import time
+from collections.abc import Mapping, Sequence
+from typing import IO
+
+from pgsub_feed import log
+
+from ..stream.filter import KEPT
+
+# The statuses that another try doesn't mend; one that was killed by a signal has none above 0. And
+# that of one that can't be started now.
+LASTING, PASSING = (1, 2, 3, 4, 5, 6), 7
+# After how many seconds it is started again, at first and at most, and how long it has to run until
+# that is forgotten.
+FIRST_DELAY, LONGEST_DELAY, FORGET = 1.0, 60.0, 60.0
+# How long it may take to end, in seconds: it ends between two transactions.
+PATIENCE = 60.0
+TOP = os.path.dirname(os.path.dirname(os.path.dirname(os.path.realpath(__file__))))
+# (the working directory, which is the first of its path, may have modules of others)
+CODE = f"import sys; sys.path[:] = [{TOP!r}, *filter(None, sys.path)]; from pgsub_connect.cli import run; run()"
+
+
+class ProcessBeside(threading.Thread):
+    """Starts it, again and again where that may help, and tells how it ended. `name`: what it
+    writes; `head`: what goes before its lines in the log; `environment`: what it has beside what
+    each has."""
+
+    child: subprocess.Popen[bytes] | None
+
+    def __init__(
+        self, name: str, head: str, words: Sequence[str], environment: Mapping[str, str] = {}
+    ) -> None:
+        super().__init__(daemon=True, name=name)
+        self.head, self.environment = head, environment
+        self.words = [sys.executable, "-c", CODE, *words, "--while-input"]
+        self.child = None
+        self.lock, self.ended = threading.Lock(), threading.Event()
+        self.said = ""
+
+    def run(self) -> None:
+        delay = FIRST_DELAY
+        self.look()
+        while True:
+            began = time.monotonic()
+            status = self.run_once()
+            if self.ended.is_set():
+                return
+            if status in LASTING:
+                error = self.said or f"status {status}"
+                self.note_error(error)
+                log.error(f"{self.name} follows no more, status {status}: {error}")
+                return
+            delay = FIRST_DELAY if time.monotonic() - began > FORGET else delay
+            log.warning(
+                f"{self.name}: what follows has ended with status {status}: it is started again in {delay:.0f} s"
+            )
+            if self.ended.wait(delay):
+                return
+            delay = min(2 * delay, LONGEST_DELAY)
+
+    def run_once(self) -> int:
+        """Starts it, passes on what it says, and returns the status with which it ends."""
+        self.said = ""
+        with self.lock:
+            if self.ended.is_set():
+                return 0
+            try:
+                child = self.launched()
+            except OSError as error:
+                # (processes or memory may be too few)
+                log.warning(f"{self.name}: what follows can't be started now: {error.strerror}")
+                return PASSING
+            self.child = child
+            self.note_started()
+        assert child.stdin and child.stdout and child.stderr
+        telling = threading.Thread(target=self.hear_output, args=(child.stdout,), daemon=True)
+        telling.start()
+        for line in child.stderr:
+            self.hear(line.decode(errors="replace").rstrip("\n"))
+        telling.join()
+        status = child.wait()
+        with self.lock:
+            child.stdin.close()
+        child.stdout.close()
+        child.stderr.close()
+        return status
+
+    def launched(self) -> subprocess.Popen[bytes]:
+        """A process of it, whose input doesn't block. (A session of its own: an interrupt at the
+        terminal is for the follower, which ends it.)"""
+        kept = {
+            name: value
+            for name, value in os.environ.items()
+            if name in KEPT or name.startswith("PYTHON")
+        }
+        pipe, environment = subprocess.PIPE, {**kept, **self.environment}
+        child = subprocess.Popen(
+            self.words,
+            stdin=pipe,
+            stdout=pipe,
+            stderr=pipe,
+            start_new_session=True,
+            env=environment,
+        )
+        assert child.stdin
+        os.set_blocking(child.stdin.fileno(), False)
+        return child
+
+    def tell(self, text: str = "") -> bool:
+        """Tells that the feed has more, or something else. Returns false where the pipe is full, so
+        that it is about to look anyway, or nothing runs."""
+        with self.lock, contextlib.suppress(OSError):
+            if self.child and self.child.stdin and not self.child.stdin.closed:
+                return os.write(self.child.stdin.fileno(), f"{text}\n".encode()) > 0
+        return False
+
+    def hear(self, line: str) -> None:
+        """Passes a line on, without its time and the name of this program."""
+        head, _, text = line.partition(f" {log.PROGRAM}: ")
+        level, _, rest = text.partition(": ")
+        if head and level in ("info", "warning", "error"):
+            log.line(level, f"{self.head}: {rest}")
+        else:
+            log.info(f"{self.head}: {line}")
+        if level == "error":
+            self.said = rest
+        self.note_said(level, rest)
+        self.look()
+
+    def finish(self) -> None:
+        """Ends it."""
+        self.ended.set()
+        with self.lock:
+            child = self.child
+        if child and child.poll() is None:
+            child.send_signal(signal.SIGTERM)
+        if self.is_alive():
+            self.join(PATIENCE)
+        if child and child.poll() is None:
+            log.warning(f"{self.name}: what follows doesn't end, and is killed")
+            child.kill()
+
+    # what one of a kind does
+
+    def look(self) -> None:
+        """Looks what has become of what it writes."""
+
+    def note_started(self) -> None:
+        """It was started."""
+
+    def note_said(self, level: str, text: str) -> None:
+        """It has said a line."""
+
+    def note_error(self, error: str) -> None:
+        """It has ended for good."""
+
+    def hear_output(self, said: IO[bytes]) -> None:
+        """Takes what it tells."""
+        for _ in said:
+            pass
