@@ -32,7 +32,10 @@ NEEDS = {
     "systemd": "systemd-analyze",
     "procps": "pgrep",
 }
-UNITS = [Path("/usr/lib/systemd/system", it) for it in ("pgsub@.service", "pgsub-account@.service")]
+UNITS = [
+    Path("/usr/lib/systemd/system", it)
+    for it in ("pgsub@.service", "pgsub-account@.service", "pgsub-sink@.service")
+]
 
 
 class Wrong(Exception):

@@ -115,6 +115,7 @@ class Case(unittest.TestCase):
                 "lib/pgsub/pgsub_feed/BUILD",
                 "lib/systemd/system/pgsub@.service",
                 "lib/systemd/system/pgsub-account@.service",
+                "lib/systemd/system/pgsub-sink@.service",
                 "share/doc/pgsub/alerts.yml",
                 "share/doc/pgsub/README.md",
                 "share/doc/pgsub/CHANGELOG.md",

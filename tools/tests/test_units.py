@@ -1,6 +1,7 @@
 """The units of systemd: their rating, what they leave to a follower, the account that they make."""
 
 import errno
+import os
 import re
 import shlex
 import shutil
@@ -12,7 +13,7 @@ from pathlib import Path
 from built import TOP
 from confinement import allowed_by, settings_of
 
-UNITS = ("pgsub@.service", "pgsub-account@.service")
+UNITS = ("pgsub@.service", "pgsub-account@.service", "pgsub-sink@.service")
 RATED = re.compile(r"Overall exposure level for \S+: ([\d.]+)")
 # what a follower may not do, each with the error that it gets
 DENIED = {
@@ -54,18 +55,19 @@ class Case(unittest.TestCase):
         self.assertEqual((ran.returncode, ran.stderr), (0, ""))
 
     def test_rating(self) -> None:
-        words = [
-            "systemd-analyze",
-            "security",
-            "--offline=true",
-            "--no-pager",
-            f"{self.room}/{UNITS[0]}",
-        ]
-        found = RATED.search(
-            subprocess.run(words, capture_output=True, text=True, check=True).stdout
-        )
-        assert found
-        self.assertLess(float(found[1]), 2.0)
+        for unit in (UNITS[0], UNITS[2]):
+            words = [
+                "systemd-analyze",
+                "security",
+                "--offline=true",
+                "--no-pager",
+                f"{self.room}/{unit}",
+            ]
+            found = RATED.search(
+                subprocess.run(words, capture_output=True, text=True, check=True).stdout
+            )
+            assert found
+            self.assertLess(float(found[1]), 2.0, unit)
 
     def test_what_keeps_a_follower_running(self) -> None:
         settings = settings_of((TOP / "connect" / UNITS[0]).read_text())
@@ -79,6 +81,31 @@ class Case(unittest.TestCase):
         self.assertEqual(
             {it: settings[it] for it in wanted}, {name: [value] for name, value in wanted.items()}
         )
+
+    def test_a_sink_runs_as_its_follower_does(self) -> None:
+        """Its account, its folder and no more rights; its words are those of the command."""
+        follower, sink = (
+            settings_of((TOP / "connect" / it).read_text()) for it in (UNITS[0], UNITS[2])
+        )
+        own = {"ExecStart", "EnvironmentFile", "Type", "TimeoutStopSec"}
+        own |= {"Description", "Documentation", "After"}
+        self.assertEqual(
+            {name: it for name, it in sink.items() if name not in own},
+            {name: it for name, it in follower.items() if name in sink and name not in own},
+        )
+        # (what says how a follower is watched, and where its status file is)
+        others = {"NotifyAccess", "TimeoutStartSec", "WatchdogSec", "SuccessExitStatus", "KillMode"}
+        others |= {it for it in follower if it.startswith("RuntimeDirectory")}
+        self.assertEqual(follower.keys() - sink.keys(), others)
+        self.assertEqual(sink["EnvironmentFile"], ["/etc/pgsub/%i.sink.conf"])
+        _, *words = shlex.split(sink["ExecStart"][0].replace("%i", "shop"))
+        ran = subprocess.run(
+            [TOP / "connect/pgsub-connect", *words[:-1], "--once"],
+            capture_output=True,
+            text=True,
+            env={**os.environ, "PGSUB_SINK": "unix:///no/socket"},
+        )
+        self.assertEqual((words[-1], ran.returncode), ("$OPTIONS", 7), ran.stderr)
 
     def test_a_filter_of_calls(self) -> None:
         """Lines allow one after the other, and take away."""
