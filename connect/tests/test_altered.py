@@ -144,11 +144,14 @@ class Renewed(Case):
     def test_by_a_message(self) -> None:
         """The message tells it, and the look that follows decides."""
         self.remembered.note(Relation(1, "public", "t", a_shape([ID, NAME, MORE])), 150, -1)
-        self.watch.tend(False, never, 100)
+        with mock.patch.object(self.watch, "look_again", return_value=True) as again:
+            self.watch.tend(False, never, 100)
         self.assertEqual((self.told("found: values"), self.remembered.wanted), (1, {}))
+        again.assert_called_once()
         self.server.answer("SELECT EXISTS", [["t"]])
         self.look(a_catalog(with_shape(T, WIDER), U))
         self.is_wanted(1)
+        self.assertFalse(self.watch.altered.is_due())
 
     def test_dropped_meanwhile(self) -> None:
         self.remembered.note(Relation(1, "public", "t", a_shape([ID, NAME, MORE])), 150, -1)
@@ -268,7 +271,8 @@ class Told(Case):
     def test_a_strict_run_ends_where_something_stays(self) -> None:
         self.run_anew(strict=True)
         self.remembered.note(Relation(1, "public", "t", a_shape([ID, MORE])), 150, -1)
-        self.watch.tend(False, never, 100)
+        with mock.patch.object(self.watch, "look_again", return_value=True):
+            self.watch.tend(False, never, 100)
         self.look(self.NOW)
         self.is_wanted(1)
         self.begin(a_catalog(T, U))

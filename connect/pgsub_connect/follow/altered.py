@@ -75,8 +75,9 @@ class Altered:
         return time.monotonic() >= self.due
 
     def look_later(self, seconds: float) -> None:
-        """A look wasn't possible now."""
-        self.due = time.monotonic() + seconds
+        """A look wasn't possible now, or something was found without one."""
+        if self.most is not None:
+            self.due = min(self.due, time.monotonic() + seconds)
 
     def is_open(self, kind: str, text: str) -> bool:
         """Whether something is still to be done about what was found."""

@@ -193,6 +193,8 @@ class Watch:
         news = self.remembered.take_news()
         for line in news:
             log.warning(f"found: {line}")
+        if news:
+            self.altered.look_later(0.0)
         self.is_shown = self.is_shown and not news
         if news and self.tolerance.is_strict:
             self.show()

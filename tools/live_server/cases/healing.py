@@ -4,6 +4,7 @@ right for them."""
 from __future__ import annotations
 
 import time
+from collections.abc import Callable
 from signal import SIGKILL
 
 from ..child import Child
@@ -39,6 +40,14 @@ def begin(place: Place, *more: str) -> Child:
     return child
 
 
+def waits(child: Child, holds: Callable[[], bool], what: str) -> None:
+    """Waits until something holds. What was said until then tells why it doesn't."""
+    try:
+        wait_until(holds, what, 60, child.check)
+    except Failed as error:
+        raise Failed(f"{error}: {child.said()}") from None
+
+
 def touch(place: Place) -> None:
     place.run("UPDATE stock SET price = 1 WHERE sku = 5", "DELETE FROM other WHERE id = 9")
 
@@ -48,7 +57,7 @@ def is_healed(place: Place) -> bool:
 
 
 def healed(place: Place, child: Child) -> None:
-    wait_until(lambda: is_healed(place), "mending the tables", 120, child.check)
+    waits(child, lambda: is_healed(place), "mending the tables")
     place.catch_up(child)
 
 
@@ -67,7 +76,7 @@ def while_followed(place: Place) -> None:
     for at, command in enumerate(ALTERED, 1):
         place.run(command)
         touch(place)
-        wait_until(lambda: child.said().count(DONE) == at, "beginning", 60, child.check)
+        waits(child, lambda: child.said().count(DONE) == at, "beginning")
         healed(place, child)
         verify(place)
     if ends_well(place, child).count(DONE) != len(ALTERED):
@@ -108,7 +117,7 @@ def not_done(place: Place) -> None:
         "INSERT INTO other (id) VALUES (9000)",
     )
     place.catch_up(child)
-    wait_until(lambda: child.said().count("right as they are") == 2, "a look", 60, child.check)
+    waits(child, lambda: child.said().count("right as they are") == 2, "a look")
     said = ends_well(place, child)
     again = place.follow("--strict")
     if DONE in said + again or place.found() or "begins anew" in said + again:
@@ -193,10 +202,7 @@ def killed(place: Place) -> None:
     place.run("ALTER TABLE stock ADD COLUMN z int DEFAULT 3", "DROP TABLE other")
     touch_stock = "UPDATE stock SET price = 3 WHERE sku = 7"
     place.run(touch_stock)
-    wait_until(
-        lambda: not remembered_of(place.store).get("wanted"), "mending the tables", 120, child.check
-    )
-    wait_until(lambda: "stock" not in str(place.found()), "mending stock", 120, child.check)
+    waits(child, lambda: not remembered_of(place.store).get("wanted"), "mending the tables")
     place.catch_up(child)
     child.stop()
     place.follow("--accept", "publication", "--accept", "values")
