@@ -34,7 +34,7 @@ from ..sinks import (
     rows_of_server,
 )
 from .case import Case
-from .common import feed_of
+from .common import feed_of, moving
 
 STOCK = Definition(1, "public", "stock", "d", (Column("id", 23, -1, True), Column("name", 25)))
 # The tables of the load of a server that have a key as long as it runs.
@@ -419,8 +419,52 @@ def of_a_server(place: Place) -> None:
     print(f"   {count} hashes, {messages} messages; {sinks.said()}", flush=True)
 
 
+def beside_a_follower(place: Place) -> None:
+    """Redis and NATS go away and come back while a follower writes to them by itself: it shows
+    that, and they have the server's rows, and each commit once."""
+    rng = random.Random(f"sinks of a follower {place.options.seed}")
+    engines: tuple[RedisServer, NatsServer] = (
+        RedisServer(place.folder / "redis"),
+        NatsServer(place.folder / "nats"),
+    )
+    words = ["--feed-max-age", "1d", "--status-file", str(place.folder / "status")]
+    for it in engines:
+        started(place, it)
+        words += ["--sink", it.url()]
+    with moving(place, *words) as child:
+        for _ in range(place.options.kills):
+            engine = rng.choice(engines)
+            time.sleep(1.5 * rng.random())
+            engine.kill()
+            time.sleep(rng.choice((0.0, 0.5, 2.0)) * rng.random())
+            engine.start()
+            child.check()
+        engines[0].kill()
+        shown = place.folder / "status"
+        wait_until(
+            lambda: any(place.status(shown)["sinks"].values()), "showing it", 60, child.check
+        )
+        engines[0].start()
+    place.catch_up(child)
+    end = last_end(feed_of(place))
+    for engine in engines:
+        wait_until(lambda engine=engine: has_reached(engine, end), f"writing all to {engine.url()}", 180, child.check)  # type: ignore[misc]
+    wait_until(
+        lambda: not any(place.status(shown)["sinks"].values()), "being well", 60, child.check
+    )
+    said = child.stop()
+    if "started again in" in said:
+        raise Failed(f"a sink has ended: {said}")
+    hashes, rows = rows_of_server(place.cluster, "pgsub")
+    count = compare_hashes(engines[0], hashes)
+    told, messages = compare_messages(engines[1], feed_of(place))
+    compare("rows of the messages", told, rows)
+    print(f"   {count} hashes, {messages} messages; waited {said.count('is waited for')} times")
+
+
 CASES = (
     Case("sinks-killed", killed),
+    Case("sinks-beside-a-follower", beside_a_follower),
     Case("sinks-second", second_sink),
     Case("sinks-in-the-way", in_the_way),
     Case("sinks-too-large", too_large),
