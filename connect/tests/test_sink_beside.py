@@ -6,6 +6,7 @@ import sys
 import unittest
 from unittest import mock
 
+from pgsub_connect.commands.arguments.feed import settled_feed
 from pgsub_connect.follow import process_beside
 from pgsub_connect.follow.sink_process import Sink, SinkSettings
 from pgsub_connect.status.progress import Progress
@@ -51,7 +52,7 @@ class Started(unittest.TestCase):
 
     def test_options(self) -> None:
         words = ["follow", "--store", "s", "--sink", "redis://h/1", "--sink", "nats://h"]
-        options = options_of([*words, "--sink", "redis://h/1"])
+        options = settled_feed(options_of([*words, "--sink", "redis://h/1"]), "s")
         self.assertEqual(options.feed, "s.feed")
         settings = options.feed_settings("s", 0o600)
         self.assertEqual([it.url for it in settings.sinks], ["redis://h/1", "nats://h"])
