@@ -41,6 +41,12 @@ from .vectors import logged
 
 # Two numbers of 19 digits that are rounded to the same one of eight bytes.
 ONE, OTHER = "0.1000000000000000001", "0.1000000000000000002"
+# Numerics of up to 41 digits, also above and below all numbers of eight bytes.
+DECIMALS = st.builds(
+    lambda digits, scale: Decimal(f"{digits}e{scale}"),
+    st.integers(-(10**40), 10**40),
+    st.one_of(st.integers(-40, 40), st.integers(-400, 400)),
+)
 
 
 def modifier(precision: int, scale: int) -> int:
@@ -99,7 +105,7 @@ class Drawn(unittest.TestCase):
             self.assertEqual(text, "NaN" if value > 0 else "-inf")
 
     @ANY
-    @given(*2 * [st.decimals(allow_nan=False, allow_infinity=False)])
+    @given(*2 * [DECIMALS])
     def test_rounding_keeps_the_order(self, one: Decimal, other: Decimal) -> None:
         numbers = [read_number(f"{it:f}".encode()) for it in (one, other)]
         self.assertTrue(numbers[0] <= numbers[1] if one <= other else numbers[0] >= numbers[1])

@@ -6,6 +6,7 @@ from __future__ import annotations
 import dataclasses
 import time
 
+from . import questions
 from .checks import Checks
 from .follower import wait_until
 from .killing import Run, mixed
@@ -25,6 +26,7 @@ def run(options: Options, checks: Checks) -> None:
         if checks.run("copies rows while others are written", lambda: copies(run, load)):
             load.truncate(True)
             follows(run, checks)
+            checks.run("its tables answer as the server", lambda: answers(run))
     finally:
         run.close()
     checks.run("README's walkthrough with a server", lambda: walk(options))
@@ -32,6 +34,7 @@ def run(options: Options, checks: Checks) -> None:
 
 def copies(run: Run, load: Mixed) -> None:
     load.truncate(False)
+    questions.fill(run.cluster, 1000, run.options.seed)
     load.fill(20_000)
     run.begin()
     run.wait_copied(60)
@@ -55,3 +58,8 @@ def goes_on(run: Run, victim: str) -> None:
 def equal(run: Run) -> str:
     committed = run.load.end()
     return f"{run.compare()}; {committed} transactions"
+
+
+def answers(run: Run) -> str:
+    assert run.fed
+    return questions.compare(run.cluster, run.fed.rows, run.options.seed)

@@ -13,6 +13,7 @@ from ..place import Place, Shared
 from . import (
     adding,
     altering,
+    answering,
     confining,
     copying,
     feeding,
@@ -70,6 +71,7 @@ THEMES: dict[str, Sequence[Case]] = {
         *twice.CASES,
         *keys.CASES,
         *indexes.CASES,
+        *answering.CASES,
         *resting.CASES,
     ),
     "sinks": (*sinking.CASES, *sink_keys.CASES),
