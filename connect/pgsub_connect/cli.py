@@ -11,6 +11,7 @@ from typing import Any, Protocol, cast
 
 from pgsub_feed import log
 from pgsub_feed.arguments import TellVersion
+from pgsub_feed.options import add_fields
 from pgsub_feed.program import guarded
 
 from .commands.arguments.exit_status import ENDS
@@ -53,15 +54,13 @@ COMMANDS = (
 
 
 class Command(Protocol):
-    """A module of `commands`. It may have `check_options` too, which rejects options that don't go
-    together, and gives what they mean."""
+    """A module of `commands`. It may have `add_options` too, where its options are more than the
+    fields of `Options`, and `check_options`, which rejects those that don't go together, and gives
+    what they mean."""
 
     ABOUT: str
     ENDS: str | None
     Options: Callable[..., Any]
-
-    def add_options(self, parser: argparse.ArgumentParser) -> None:
-        ...
 
     def run(self, options: Any) -> int:
         ...
@@ -81,7 +80,10 @@ def parser_of(name: str) -> argparse.ArgumentParser:
         epilog=command.ENDS,
         allow_abbrev=False,
     )
-    command.add_options(parser)
+    if add := getattr(command, "add_options", None):
+        add(parser)
+    else:
+        add_fields(parser.add_argument, command.Options)
     return parser
 
 

@@ -12,8 +12,18 @@ from typing import Any, NamedTuple
 
 from . import log
 from .interruption import Check
-from .json_texts import LARGEST, Unreadable, flag_of, list_of, lsn_of, object_of, oid_of
-from .json_texts import open_plain, parsed, text_of
+from .json_texts import (
+    LARGEST,
+    Unreadable,
+    flag_of,
+    list_of,
+    lsn_of,
+    object_of,
+    oid_of,
+    open_plain,
+    parsed,
+    text_of,
+)
 from .tables.set_aside import store_at
 
 FORMAT = 1

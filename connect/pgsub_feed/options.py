@@ -8,9 +8,8 @@ A word with no value beside it is a flag; one without dashes is known by its pla
 
 from __future__ import annotations
 
-import argparse
 import dataclasses
-from collections.abc import Callable
+from collections.abc import Callable, Sequence
 from typing import Any
 
 KEY = "option"
@@ -40,17 +39,27 @@ class Declared:
         elif default == ():
             told.setdefault("action", "append")
             default = []
-        add(word, dest=name, default=default, **told)
+        add(word, dest=name, **{"default": default, **told})
 
 
-def option(words: str, about: str, default: Any = None, **more: Any) -> Any:
+def option(words: str, about: str, default: Any = None, /, **more: Any) -> Any:
     """A field with an option. `more` is for argparse; a default of () may be given again and
     again."""
     return dataclasses.field(default=default, metadata={KEY: Declared(words, about, more)})
 
 
-def add_fields(add: Callable[..., object], kind: Any, *names: str) -> None:
-    """Adds the options of a dataclass: those of these fields, or of all."""
-    fields = {it.name: it for it in dataclasses.fields(kind) if KEY in it.metadata}
-    for name in names or fields:
-        fields[name].metadata[KEY].add(add, name, fields[name].default)
+def repeated(words: str, about: str, default: str, **more: Any) -> Any:
+    """One that may be given again and again, by default as is said."""
+    return option(words, f"{about}, may be repeated (default: {default})", (), **more)
+
+
+def add_fields(
+    add: Callable[..., object], kind: Any, group: Any = None, without: Sequence[Any] = ()
+) -> None:
+    """Adds the options of a dataclass. `group`: those of the fields that it has from this class
+    alone; `without`: none of fields that it has from these."""
+    names = {it.name for it in dataclasses.fields(group or kind)}
+    names -= {it.name for other in without for it in dataclasses.fields(other)}
+    for field in dataclasses.fields(kind):
+        if field.name in names and KEY in field.metadata:
+            field.metadata[KEY].add(add, field.name, field.default)

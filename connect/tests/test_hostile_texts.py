@@ -221,7 +221,6 @@ class Files(StoreCase):
                         "status",
                         "--status-file",
                         path,
-                        "--strict",
                         "--max-lag",
                         "5s",
                         "--max-lag",

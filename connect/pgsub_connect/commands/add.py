@@ -7,7 +7,6 @@ here, where none runs. The follower goes on with it whatever becomes of who aske
 
 from __future__ import annotations
 
-import argparse
 import contextlib
 import dataclasses
 import os
@@ -19,6 +18,7 @@ from types import MappingProxyType
 from pgsub_feed import log
 from pgsub_feed.errors import Passing, Stopped
 from pgsub_feed.interruption import Check
+from pgsub_feed.options import option
 from pgsub_feed.program import check_signals
 from pgsub_feed.texts import counted
 
@@ -34,7 +34,7 @@ from ..server.subscription import Subscription
 from ..store.at_rest import check_there, follower_of, is_followed
 from ..store.checkpoint_at_rest import locked, read_known
 from .arguments.exit_status import ADDED
-from .arguments.store import StoreOptions, add_store, settled_store
+from .arguments.store import StoreOptions, settled_store
 from .arguments.texts import each
 
 ABOUT = "copy tables anew beside what is followed: new ones of the publication, or any whose rows are wrong"
@@ -52,16 +52,17 @@ WAIT = 0.3
 class Options(StoreOptions):
     """Which tables are added, to which store."""
 
-    table: Sequence[str] = ()
-
-
-def add_options(parser: argparse.ArgumentParser) -> None:
-    add_store(parser, "the store; its follower adds them, or does so at its next start")
-    parser.add_argument(
-        "--table",
-        action="append",
+    store: str = option(
+        "--store FILE",
+        "the store; its follower adds them, or does so at its next start",
+        "",
         required=True,
-        help="a published table, may be repeated; what the copy has of it is replaced",
+    )
+    table: Sequence[str] = option(
+        "--table",
+        "a published table, may be repeated; what the copy has of it is replaced",
+        (),
+        required=True,
     )
 
 

@@ -10,6 +10,7 @@ import sys
 
 from pgsub_feed.interruption import Check, never
 from pgsub_feed.log import escaped
+from pgsub_feed.options import add_fields, option
 from pgsub_feed.program import check_signals
 
 from ..preconditions.judged import results
@@ -17,7 +18,7 @@ from ..preconditions.result import ERROR, Purpose
 from ..server.preflight import all_facts
 from ..server.transport import OWN
 from .arguments.publishing import CopyOptions, add_copying, check_publishing
-from .arguments.store import StoreOptions, add_store_server, settled_store
+from .arguments.store import StoreOptions, settled_store
 from .arguments.texts import each
 
 ABOUT = "tell what following needs of the server, and change nothing"
@@ -31,7 +32,12 @@ file can't be used; 5 TLS was in use before, and is gone; 6 a bug; 7 the server 
 class Options(StoreOptions, CopyOptions):
     """What the server is to be used for."""
 
-    json: bool = False
+    store: str = option(
+        "--store FILE",
+        "where it is there, what following into it needs; else what a new one does",
+        "",
+    )
+    json: bool = option("--json", "print a JSON array", False)
 
     def purpose(self) -> Purpose:
         # (where nothing is said of a start without a store, it is one with --create)
@@ -47,16 +53,8 @@ class Options(StoreOptions, CopyOptions):
 
 
 def add_options(parser: argparse.ArgumentParser) -> None:
-    add_store_server(parser)
+    add_fields(parser.add_argument, Options, without=(CopyOptions,))
     add_copying(parser)
-    add = parser.add_argument
-    add(
-        "--store",
-        metavar="FILE",
-        default="",
-        help="where it is there, what following into it needs; else what a new one does",
-    )
-    add("--json", action="store_true", help="print a JSON array")
 
 
 def check_options(parser: argparse.ArgumentParser, options: Options) -> Options:

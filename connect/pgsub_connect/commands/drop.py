@@ -3,7 +3,6 @@ publications and its files."""
 
 from __future__ import annotations
 
-import argparse
 import contextlib
 import dataclasses
 import os
@@ -20,6 +19,7 @@ from pgsub_feed.errors import FileError, Passing, Unfit
 from pgsub_feed.files import NEW, OF_FILE, meant, own_files, remove
 from pgsub_feed.interruption import Check, never
 from pgsub_feed.json_texts import Unreadable, object_of, whole_of
+from pgsub_feed.options import option
 from pgsub_feed.program import check_signals
 from pgsub_feed.reader.positions import READERS
 from pgsub_feed.reader.segments import CONFIRMED, segments
@@ -37,7 +37,7 @@ from ..server.ticks import TICK
 from ..status.files import STATUS
 from ..store.checkpoint_at_rest import locked, read_known
 from ..store.placing import OF_COPY, OF_STORE
-from .arguments.store import StoreOptions, add_store, settled_store
+from .arguments.store import StoreOptions, settled_store
 
 ABOUT = "drop slot, publications and files"
 ENDS = """\
@@ -57,19 +57,12 @@ PATIENCE = 5.0
 class Options(StoreOptions):
     """Whose slot, publications and files go."""
 
-    yes: bool = False
-    all: bool = False
-
-
-def add_options(parser: argparse.ArgumentParser) -> None:
-    add_store(parser, "the store whose slot, publications and files go")
-    parser.add_argument(
-        "--yes",
-        action="store_true",
-        help="don't ask; what somebody else may have made or may use stays",
+    store: str = option(
+        "--store FILE", "the store whose slot, publications and files go", "", required=True
     )
-    parser.add_argument(
-        "--all", action="store_true", help="the feed and the tables that follow it go, too"
+    all: bool = option("--all", "the feed and the tables that follow it go, too", False)
+    yes: bool = option(
+        "--yes", "don't ask; what somebody else may have made or may use stays", False
     )
 
 

@@ -2,18 +2,19 @@
 
 from __future__ import annotations
 
-import argparse
 import dataclasses
+from collections.abc import Sequence
 
+from pgsub_feed.options import option, repeated
 from pgsub_feed.program import check_signals
-from pgsub_feed.tables.values import ALL_TEXT, BOTH
+from pgsub_feed.tables.values import ALL_TEXT
 
 from ..store.export import ExportSettings, export_store
 from .arguments.exit_status import COPIED
 from .arguments.following import INDEXES
-from .arguments.numerics import add_numeric
-from .arguments.store_copy import StoreCopyOptions, add_store_copy, settled_store_copy
-from .arguments.texts import add_repeated, check_texts, each
+from .arguments.numerics import numeric_option
+from .arguments.store_copy import StoreCopyOptions, settled_store_copy
+from .arguments.texts import check_texts, each
 
 ABOUT = "make ordinary tables of SQLite from the rows of a store, or of a copy of one"
 ENDS = COPIED.replace(
@@ -25,19 +26,10 @@ ENDS = COPIED.replace(
 class Options(StoreCopyOptions):
     """What is exported."""
 
-    text: bool = False
-    numeric: str = BOTH
-    indexes: bool = False
-    table: tuple[str, ...] = ()
-
-
-def add_options(parser: argparse.ArgumentParser) -> None:
-    add_store_copy(parser)
-    add = parser.add_argument
-    add("--text", action="store_true", help="each value as TEXT, as the server prints it")
-    add_numeric(add)
-    add("--indexes", action="store_true", help=f"with {INDEXES}")
-    add_repeated(add, "--table", "export this table", "all")
+    text: bool = option("--text", "each value as TEXT, as the server prints it", False)
+    numeric: str = numeric_option()
+    table: Sequence[str] = repeated("--table", "export this table", "all")
+    indexes: bool = option("--indexes", f"with {INDEXES}", False)
 
 
 def settled(options: Options) -> Options:
@@ -50,7 +42,7 @@ def run(options: Options) -> int:
     options = settled(options)
     form = ALL_TEXT if options.text else options.numeric
     settings = ExportSettings(
-        options.store, options.into, form, options.table, options.mode, options.indexes
+        options.store, options.into, form, tuple(options.table), options.mode, options.indexes
     )
     export_store(settings, check_signals())
     return 0

@@ -10,6 +10,7 @@ import signal
 
 from pgsub_feed.errors import Stopped, Unfit
 from pgsub_feed.interruption import Check
+from pgsub_feed.options import add_fields, option
 from pgsub_feed.program import Worker, stop_by_signals
 
 from ..copy.copier import Copier, CopySettings
@@ -25,7 +26,7 @@ from ..follow.request_socket import RequestSocket
 from ..follow.server_watch import Asker
 from ..follow.settings import FollowSettings
 from ..follow.snapshots import Snapshots
-from ..record.recording import LONGEST, Aside, Recording
+from ..record.recording import Aside, Recording
 from ..server import transport
 from ..server.followed_publications import require_published
 from ..server.subscription import Subscription
@@ -38,18 +39,18 @@ from ..store.placing import check_meant
 from ..store.snapshot import part_of
 from ..stream.filter import Filter
 from .arguments import exit_status
-from .arguments.altering import AlterOptions, add_altering
-from .arguments.feed import FeedOptions, add_feed, settled_feed
+from .arguments.altering import AlterOptions
+from .arguments.feed import FeedOptions, settled_feed
 from .arguments.files import check_files
 from .arguments.needs import check_needs
 from .arguments.numerics import check_numeric
 from .arguments.publishing import CopyOptions, add_copying, check_creates, check_publishing
-from .arguments.recording import add_longest
-from .arguments.server import ServerOptions, add_server, settled_server
-from .arguments.session import add_session
-from .arguments.sizes import SizeOptions, add_sizes, settled_sizes
+from .arguments.recording import longest
+from .arguments.server import ServerOptions, settled_server
+from .arguments.session import SessionOptions, add_session
+from .arguments.sizes import SizeOptions, settled_sizes
 from .arguments.texts import each
-from .arguments.watching import WatchOptions, add_watching
+from .arguments.watching import WatchOptions
 from .snapshot import check_copied
 
 ABOUT = "follow into a store"
@@ -57,17 +58,20 @@ ENDS = exit_status.ENDS
 
 
 @dataclasses.dataclass(frozen=True)
-class Options(ServerOptions, CopyOptions, SizeOptions, FeedOptions, WatchOptions, AlterOptions):
+class Options(
+    ServerOptions,
+    CopyOptions,
+    SizeOptions,
+    SessionOptions,
+    AlterOptions,
+    WatchOptions,
+    FeedOptions,
+):
     """What is followed, into which store, and for how long."""
 
     store: str = ""
-    until: int | str | None = None
-    silence: float = 60.0
-    strict: bool = False
-    accept: tuple[str, ...] = ()
-    skip: int = 0
-    record: str | None = None
-    bytes: int = LONGEST
+    record: str | None = option("--record FILE", "add the sessions to this recording, a .pgx file")
+    bytes: int = longest()
 
     def follow_settings(self) -> FollowSettings:
         return FollowSettings(
@@ -99,18 +103,19 @@ class Options(ServerOptions, CopyOptions, SizeOptions, FeedOptions, WatchOptions
 
 
 def add_options(parser: argparse.ArgumentParser) -> None:
-    add_server(parser)
-    add = parser.add_argument_group("the store").add_argument
-    add("--store", metavar="FILE", default="", help="keep the copies in this store")
-    add_sizes(add)
-    add_session(add)
-    add_altering(add)
+    add_fields(parser.add_argument, ServerOptions)
+    group = parser.add_argument_group("the store")
+    store = group.add_argument
+    store("--store", metavar="FILE", default="", help="keep the copies in this store")
+    add_fields(store, SizeOptions)
+    add_session(group)
+    add_fields(store, AlterOptions)
     add_copying(parser)
-    add_watching(parser)
-    add_feed(parser)
-    add = parser.add_argument_group("recording").add_argument
-    add("--record", metavar="FILE", help="add the sessions to this recording, a .pgx file")
-    add_longest(add)
+    add_fields(parser.add_argument_group("watching").add_argument, WatchOptions)
+    add_fields(parser.add_argument_group("the feed").add_argument, FeedOptions)
+    add_fields(
+        parser.add_argument_group("recording").add_argument, Options, without=Options.__bases__
+    )
 
 
 def check_options(parser: argparse.ArgumentParser, options: Options) -> Options:

@@ -2,8 +2,9 @@
 
 from __future__ import annotations
 
-import argparse
 import dataclasses
+
+from pgsub_feed.options import option
 
 from ..drift.remembered import print_names
 
@@ -17,13 +18,7 @@ exit status: 0 printed; 2 usage error; 3 a file can't be used; 6 a bug
 class Options:
     """Of which store."""
 
-    store: str = ""
-
-
-def add_options(parser: argparse.ArgumentParser) -> None:
-    parser.add_argument(
-        "--store", metavar="FILE", required=True, help="the store, which may be in use"
-    )
+    store: str = option("--store FILE", "the store, which may be in use", "", required=True)
 
 
 def run(options: Options) -> int:

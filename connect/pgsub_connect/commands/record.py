@@ -4,20 +4,20 @@ from __future__ import annotations
 
 import argparse
 import dataclasses
-from collections.abc import Callable
 
 from pgsub_feed.arguments import lsn
+from pgsub_feed.options import add_fields, option
 from pgsub_feed.program import stop_by_signals
 
 from ..copy.slots import create_slot, maker_of
 from ..record.recorder import Recorder, RecordSettings
-from ..record.recording import LONGEST, Recording
+from ..record.recording import Recording
 from .arguments import exit_status
 from .arguments.files import check_files
 from .arguments.needs import check_needs
-from .arguments.publishing import PublishingOptions, add_publishing, check_creates, check_publishing
-from .arguments.recording import add_longest
-from .arguments.server import ServerOptions, add_server, settled_server
+from .arguments.publishing import PublishingOptions, check_creates, check_publishing
+from .arguments.recording import longest
+from .arguments.server import ServerOptions, settled_server
 from .arguments.texts import each
 from .arguments.types import any_seconds, lsn_or_now, within
 
@@ -29,18 +29,46 @@ ENDS = exit_status.ENDS
 class Options(ServerOptions, PublishingOptions):
     """What is recorded, and where it begins and ends."""
 
-    record: str = ""
-    append: bool = False
-    overwrite: bool = False
-    bytes: int = LONGEST
-    start: int = 0
-    until: int | str | None = None
-    seconds: float | None = None
-    transactions: int | None = None
-    confirm: int = 0
-    streaming: bool = False
-    binary: bool = False
-    messages: bool = False
+    record: str = option(
+        "--record FILE",
+        "the recording to write, a .pgx file of one session, which isn't confirmed",
+        "",
+    )
+    append: bool = option("--append", "add to the recording, after a line `--`", False)
+    overwrite: bool = option(
+        "--overwrite",
+        "write or add to it whatever it was before (default: a recording, or empty)",
+        False,
+    )
+    bytes: int = longest()
+    start: int = option("--start LSN", "where to start (default: where the slot is)", 0, type=lsn)
+    until: int | str | None = option(
+        "--until LSN|now",
+        "stop once all that was committed up to this LSN, or up to now, is recorded",
+        type=lsn_or_now,
+    )
+    seconds: float | None = option("--seconds N", "stop after N seconds", type=any_seconds)
+    transactions: int | None = option(
+        "--transactions N", "stop after N commits", type=within(0, 1 << 62)
+    )
+    confirm: int = option(
+        "--confirm LSN",
+        "confirm what was recorded up to this LSN, so that the server may forget it (default: nothing)",
+        0,
+        type=lsn,
+    )
+    streaming: bool = option(
+        "--streaming", "stream large transactions while they run (--proto 2)", False
+    )
+    binary: bool = option("--binary", "ask for values in binary format", False)
+    messages: bool = option("--messages", "ask for the messages of pg_logical_emit_message", False)
+    create: str | None = option(
+        "--create",
+        "make them; a temporary slot goes at the end",
+        nargs="?",
+        const="permanent",
+        choices=("permanent", "temporary"),
+    )
 
     def settings(self) -> RecordSettings:
         return RecordSettings(
@@ -57,63 +85,11 @@ class Options(ServerOptions, PublishingOptions):
 
 
 def add_options(parser: argparse.ArgumentParser) -> None:
-    add_server(parser)
+    add_fields(parser.add_argument, ServerOptions)
     add = parser.add_argument_group("recording").add_argument
-    add(
-        "--record",
-        metavar="FILE",
-        help="the recording to write, a .pgx file of one session, which isn't confirmed",
-    )
-    add("--append", action="store_true", help="add to the recording, after a line `--`")
-    add(
-        "--overwrite",
-        action="store_true",
-        help="write or add to it whatever it was before (default: a recording, or empty)",
-    )
-    add_longest(add)
-    add_session(add)
+    add_fields(add, Options, without=(ServerOptions, PublishingOptions))
     add = parser.add_argument_group("publication and slot").add_argument
-    add(
-        "--create",
-        nargs="?",
-        const="permanent",
-        choices=("permanent", "temporary"),
-        help="make them; a temporary slot goes at the end",
-    )
-    add_publishing(add)
-
-
-def add_session(add: Callable[..., object]) -> None:
-    """Options on where the session begins and ends, and on what it asks for."""
-    add(
-        "--start",
-        type=lsn,
-        default=0,
-        metavar="LSN",
-        help="where to start (default: where the slot is)",
-    )
-    add(
-        "--until",
-        type=lsn_or_now,
-        metavar="LSN|now",
-        help="stop once all that was committed up to this LSN, or up to now, is recorded",
-    )
-    add("--seconds", type=any_seconds, metavar="N", help="stop after N seconds")
-    add("--transactions", type=within(0, 1 << 62), metavar="N", help="stop after N commits")
-    add(
-        "--confirm",
-        type=lsn,
-        default=0,
-        metavar="LSN",
-        help="confirm what was recorded up to this LSN, so that the server may forget it (default: nothing)",
-    )
-    add(
-        "--streaming",
-        action="store_true",
-        help="stream large transactions while they run (--proto 2)",
-    )
-    add("--binary", action="store_true", help="ask for values in binary format")
-    add("--messages", action="store_true", help="ask for the messages of pg_logical_emit_message")
+    add_fields(add, Options, PublishingOptions)
 
 
 def check_options(parser: argparse.ArgumentParser, options: Options) -> Options:

@@ -14,7 +14,6 @@ changed since, and what was found and not accepted. Of the server only the catal
 
 from __future__ import annotations
 
-import argparse
 import dataclasses
 import json
 from typing import NamedTuple
@@ -22,6 +21,7 @@ from typing import NamedTuple
 from pgsub_feed import log
 from pgsub_feed.errors import FileError
 from pgsub_feed.interruption import Check
+from pgsub_feed.options import option
 from pgsub_feed.program import check_signals
 from pgsub_feed.texts import counted
 
@@ -38,7 +38,7 @@ from ..store.at_rest import check_there
 from ..store.checkpoint_at_rest import read_known
 from . import add
 from .arguments.exit_status import ADDED
-from .arguments.store import StoreOptions, add_store, settled_store
+from .arguments.store import StoreOptions, settled_store
 from .drop import ask_terminal
 
 ABOUT = "tell which tables lack rows, were altered, or left the publication, and mend it"
@@ -52,12 +52,10 @@ MISSING, CHANGED, EXTRA, OTHER = "missing", "changed", "extra", "other"
 class Options(StoreOptions):
     """Which store is compared, and whether it is mended without asking."""
 
-    yes: bool = False
-
-
-def add_options(parser: argparse.ArgumentParser) -> None:
-    add_store(parser, "the store that is compared with what is published")
-    parser.add_argument("--yes", action="store_true", help="mend it without asking")
+    store: str = option(
+        "--store FILE", "the store that is compared with what is published", "", required=True
+    )
+    yes: bool = option("--yes", "mend it without asking", False)
 
 
 def run(options: Options) -> int:

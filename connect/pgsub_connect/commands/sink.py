@@ -11,17 +11,18 @@ from pgsub_feed.arguments import lsn
 from pgsub_feed.errors import UsageError
 from pgsub_feed.interruption import Check
 from pgsub_feed.known_tables import KnownTables, known_beside
+from pgsub_feed.options import add_fields, option
 from pgsub_feed.ownership import readable_by, readable_text
 from pgsub_feed.program import check_signals
 from pgsub_feed.reader.polling import Parent
-from pgsub_feed.sinks import nats_engine, redis_calls, redis_hashes, redis_streams
+from pgsub_feed.sinks import nats_engine, redis_calls, redis_hashes, redis_streams, urls
 from pgsub_feed.sinks.engine import Engine
 from pgsub_feed.sinks.following import keep
 from pgsub_feed.sinks.redis_engine import Redis, Writer
-from pgsub_feed.sinks.urls import ENVIRONMENT, FORMS, scheme, url
+from pgsub_feed.sinks.urls import ENVIRONMENT, FORMS, scheme
 
-from .arguments.files import add_mode, use_mode
-from .arguments.following import FollowingOptions, add_beginning, add_end, add_kept
+from .arguments.files import use_mode
+from .arguments.following import FollowingOptions, add_beginning, add_end, add_reader
 from .arguments.texts import check_texts, each
 
 ABOUT = """\
@@ -68,48 +69,37 @@ def stream_name(text: str) -> str:
 class Options(FollowingOptions):
     """Which feed is followed, into which engine, and up to where."""
 
-    url: str = ""
-    url_file: str | None = None
-    form: str | None = None
-    stream: str | None = None
-    until: int | None = None
-    while_input: bool = False
+    url: str = option(
+        "URL",
+        f"where to write: {FORMS} (default: {ENVIRONMENT} of the environment)",
+        "",
+        nargs="?",
+        type=urls.url,
+        default="",
+    )
+    url_file: str | None = option(
+        "--url-file FILE", "a file whose first line is the URL, for one with a password"
+    )
+    form: str | None = option(
+        "--as",
+        "what Redis gets (default: hashes, which leave out tables without a key)",
+        choices=("hashes", "streams"),
+    )
+    stream: str | None = option(
+        "--stream NAME",
+        "the stream of JetStream, made where it isn't there (default: pgsub)",
+        type=stream_name,
+    )
+    until: int | None = option(
+        "--until LSN", "end before the first commit above this LSN", type=lsn
+    )
 
 
 def add_options(parser: argparse.ArgumentParser) -> None:
-    add = parser.add_argument
-    add(
-        "url",
-        metavar="URL",
-        nargs="?",
-        type=url,
-        default="",
-        help=f"where to write: {FORMS} (default: {ENVIRONMENT} of the environment)",
-    )
-    add(
-        "--url-file",
-        metavar="FILE",
-        help="a file whose first line is the URL, for one with a password",
-    )
-    add("--feed", metavar="FOLDER", required=True, help="the feed")
+    add_fields(parser.add_argument, Options)
     add_beginning(parser, "made by `export --text`, where nothing is kept there yet")
-    add(
-        "--as",
-        dest="form",
-        choices=("hashes", "streams"),
-        help="what Redis gets (default: hashes, which leave out tables without a key)",
-    )
-    add(
-        "--stream",
-        metavar="NAME",
-        type=stream_name,
-        help="the stream of JetStream, made where it isn't there (default: pgsub)",
-    )
-    add_kept(add, "the engine's disk")
+    add_reader(parser, "the engine's disk")
     add_end(parser, "written")
-    add("--while-input", action="store_true", help="end once standard input ends, too")
-    add("--until", type=lsn, metavar="LSN", help="end before the first commit above this LSN")
-    add_mode(add, "mode of a file that is made")
 
 
 def check_options(parser: argparse.ArgumentParser, options: Options) -> Options:

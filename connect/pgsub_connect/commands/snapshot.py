@@ -2,7 +2,6 @@
 
 from __future__ import annotations
 
-import argparse
 import dataclasses
 import os
 import sqlite3
@@ -19,7 +18,7 @@ from ..store.file import check_store, is_store
 from ..store.placing import check_into
 from ..store.snapshot import fold, position_in
 from .arguments.exit_status import COPIED
-from .arguments.store_copy import StoreCopyOptions, add_store_copy, settled_store_copy
+from .arguments.store_copy import StoreCopyOptions, settled_store_copy
 
 ABOUT = "copy a store into one file"
 ENDS = COPIED
@@ -28,10 +27,6 @@ ENDS = COPIED
 @dataclasses.dataclass(frozen=True)
 class Options(StoreCopyOptions):
     """What is copied."""
-
-
-def add_options(parser: argparse.ArgumentParser) -> None:
-    add_store_copy(parser)
 
 
 def is_snapshot(path: str) -> bool:

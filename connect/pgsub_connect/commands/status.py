@@ -21,6 +21,7 @@ from pgsub_feed import json_texts, log
 from pgsub_feed.arguments import BYTES, SECONDS, duration
 from pgsub_feed.errors import Stopped, UsageError
 from pgsub_feed.interruption import Check
+from pgsub_feed.options import add_fields, option
 from pgsub_feed.program import check_signals
 
 from ..status.files import STATUS
@@ -67,9 +68,19 @@ class Options:
 
     store: str = ""
     status_file: str = ""
-    max_lag: Sequence[Limit] = ()
-    max_age: float = 30.0
-    watch: bool = False
+    watch: bool = option("--watch", "go on with it on the screen, until q or Ctrl-C", False)
+    max_lag: Sequence[Limit] = option(
+        "--max-lag LAG",
+        "the most that the copy may be behind: a time (60s, 5min, 1h) or a size (10MB, 1GB), may be repeated (default: any)",
+        (),
+        type=lag_limit,
+    )
+    max_age: float = option(
+        "--max-age TIME",
+        "the most that the last sign of life may be old (default: 30s)",
+        30.0,
+        type=duration,
+    )
 
 
 def add_options(parser: argparse.ArgumentParser) -> None:
@@ -81,23 +92,7 @@ def add_options(parser: argparse.ArgumentParser) -> None:
         default="",
         help="the file that its follower replaces each second",
     )
-    add = parser.add_argument
-    add("--watch", action="store_true", help="go on with it on the screen, until q or Ctrl-C")
-    add(
-        "--max-lag",
-        type=lag_limit,
-        action="append",
-        default=[],
-        metavar="LAG",
-        help="the most that the copy may be behind: a time (60s, 5min, 1h) or a size (10MB, 1GB), may be repeated (default: any)",
-    )
-    add(
-        "--max-age",
-        type=duration,
-        default=30.0,
-        metavar="TIME",
-        help="the most that the last sign of life may be old (default: 30s)",
-    )
+    add_fields(parser.add_argument, Options)
 
 
 def files(options: Options) -> list[str]:

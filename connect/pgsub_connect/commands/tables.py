@@ -13,20 +13,20 @@ from pgsub_feed.arguments import lsn
 from pgsub_feed.errors import UsageError
 from pgsub_feed.interruption import Check
 from pgsub_feed.known_tables import known_beside
+from pgsub_feed.options import add_fields, option
 from pgsub_feed.program import check_signals
 from pgsub_feed.reader.polling import Parent
 from pgsub_feed.tables.first_rows import check_file
 from pgsub_feed.tables.following import Wanted, keep
 from pgsub_feed.tables.set_aside import cure, store_at
 from pgsub_feed.tables.sqlite_files import check_sqlite, failed
-from pgsub_feed.tables.values import BOTH
 from pgsub_feed.texts import lsn_text
 
 from ..server.publication_setup import names_of
 from .arguments.exit_status import FED
-from .arguments.files import add_mode, check_files, use_mode
-from .arguments.following import INDEXES, FollowingOptions, add_beginning, add_end, add_kept
-from .arguments.numerics import add_numeric, check_numeric
+from .arguments.files import check_files, use_mode
+from .arguments.following import INDEXES, FollowingOptions, add_beginning, add_end, add_reader
+from .arguments.numerics import check_numeric, numeric_option
 from .arguments.texts import check_texts, each
 
 ABOUT = """\
@@ -45,13 +45,23 @@ LEFT = 1
 class Options(FollowingOptions):
     """Which feed is followed, into which file, and up to where."""
 
-    into: str = ""
-    init: str | None = None
-    digests: bool = False
-    numeric: str = BOTH
-    indexes: bool = False
-    while_input: bool = False
-    at: int | None = None
+    into: str = option("--into FILE", "the file with the tables", "", required=True)
+    init: str | None = option(
+        "--init FILE",
+        "run this SQL once a table was made or altered, for indexes and views: CREATE INDEX IF NOT EXISTS ..",
+    )
+    digests: bool = option(
+        "--digests",
+        "keep a digest of each table, for `verify`; a file that has them keeps them",
+        False,
+    )
+    numeric: str = numeric_option()
+    indexes: bool = option("--indexes", f"with {INDEXES}; it needs the store of the feed", False)
+    at: int | None = option(
+        "--at LSN",
+        "the tables as of this LSN: end before the first commit above it, or go back to there",
+        type=lsn,
+    )
 
     def wanted(self) -> Wanted:
         """What is kept, and the rows that it begins with."""
@@ -64,32 +74,10 @@ class Options(FollowingOptions):
 
 
 def add_options(parser: argparse.ArgumentParser) -> None:
-    add = parser.add_argument
-    add("--feed", metavar="FOLDER", required=True, help="the feed")
-    add("--into", metavar="FILE", required=True, help="the file with the tables")
+    add_fields(parser.add_argument, Options)
     add_beginning(parser, "or file of tables, where the file isn't there yet")
-    add(
-        "--init",
-        metavar="FILE",
-        help="run this SQL once a table was made or altered, for indexes and views: CREATE INDEX IF NOT EXISTS ..",
-    )
-    add("--indexes", action="store_true", help=f"with {INDEXES}; it needs the store of the feed")
-    add_kept(add, "the disk")
-    add(
-        "--digests",
-        action="store_true",
-        help="keep a digest of each table, for `verify`; a file that has them keeps them",
-    )
-    add_numeric(add)
+    add_reader(parser, "the disk")
     add_end(parser, "in the file")
-    add("--while-input", action="store_true", help="end once standard input ends, too")
-    add(
-        "--at",
-        type=lsn,
-        metavar="LSN",
-        help="the tables as of this LSN: end before the first commit above it, or go back to there",
-    )
-    add_mode(add, "mode of a file that is made")
 
 
 def check_options(parser: argparse.ArgumentParser, options: Options) -> Options:

@@ -6,11 +6,12 @@ from __future__ import annotations
 import argparse
 import dataclasses
 import sqlite3
-from collections.abc import Callable, Sequence
+from collections.abc import Sequence
 
 from pgsub_feed import log
 from pgsub_feed.errors import FileError, Passing, Stopped, Unfit
 from pgsub_feed.interruption import Check
+from pgsub_feed.options import option, repeated
 from pgsub_feed.program import check_signals
 from pgsub_feed.tables.values import Malformed
 
@@ -21,8 +22,8 @@ from ..verify.store import StoreComparison, compare, repair
 from ..verify.tables_comparison import TablesComparison
 from ..verify.tables_file import compare_tables, store_of
 from . import add
-from .arguments.store import StoreOptions, add_store, settled_store
-from .arguments.texts import add_repeated, each
+from .arguments.store import StoreOptions, settled_store
+from .arguments.texts import each
 from .arguments.types import within, within_seconds
 
 ABOUT = "compare the copy of a follower that runs with its server, both at one LSN"
@@ -35,14 +36,45 @@ exit status: 0 equal, or repaired; 1 the copy differs; 8 the server made no slot
 class Options(StoreOptions):
     """What is compared, and what is told of it."""
 
-    tables: str = ""
-    other: str = ""
-    feed: str = ""
-    digests: bool = False
-    table: Sequence[str] = ()
-    repair: bool = False
-    show: int = 20
-    hold: float = 10.0
+    store: str = option(
+        "--store FILE",
+        "the store, which has to be followed meanwhile; with --tables whose publications are meant (default: that of the feed STORE.feed)",
+        "",
+    )
+    tables: str = option(
+        "--tables FILE",
+        "compare these tables that follow a feed, and hold nothing meanwhile",
+        "",
+    )
+    other: str = option(
+        "--with FILE", "compare --tables with those of this file, and not with the server", ""
+    )
+    feed: str = option(
+        "--feed FOLDER", "the feed of --tables (default: the one that the file follows)", ""
+    )
+    digests: bool = option(
+        "--digests",
+        "compare the digests that --tables keep, and read rows only where they differ",
+        False,
+    )
+    table: Sequence[str] = repeated("--table", "compare this table", "all that are published")
+    repair: bool = option(
+        "--repair",
+        "have the follower mend the rows that differ, or copy a table anew of which many do",
+        False,
+    )
+    show: int = option(
+        "--show N",
+        "print at most N keys that differ (default: 20)",
+        20,
+        type=within(0, 1 << 20),
+    )
+    hold: float = option(
+        "--hold N",
+        "wait for at most N seconds until the server has made a slot, and hold the stream to a store meanwhile (default: 10)",
+        10.0,
+        type=within_seconds(600.0),
+    )
 
     def store_comparison(self) -> StoreComparison:
         return StoreComparison(self.subscription(), self.store, self.hold, self.show)
@@ -59,64 +91,6 @@ class Options(StoreOptions):
             self.hold,
             self.show,
         )
-
-
-def add_options(parser: argparse.ArgumentParser) -> None:
-    add_store(
-        parser,
-        "the store, which has to be followed meanwhile; with --tables whose publications are meant (default: that of the feed STORE.feed)",
-        required=False,
-    )
-    add = parser.add_argument
-    add(
-        "--tables",
-        metavar="FILE",
-        default="",
-        help="compare these tables that follow a feed, and hold nothing meanwhile",
-    )
-    add(
-        "--with",
-        dest="other",
-        metavar="FILE",
-        default="",
-        help="compare --tables with those of this file, and not with the server",
-    )
-    add(
-        "--feed",
-        metavar="FOLDER",
-        default="",
-        help="the feed of --tables (default: the one that the file follows)",
-    )
-    add(
-        "--digests",
-        action="store_true",
-        help="compare the digests that --tables keep, and read rows only where they differ",
-    )
-    add_told(add)
-
-
-def add_told(add: Callable[..., object]) -> None:
-    """Options on which tables are compared, and what becomes of what differs."""
-    add_repeated(add, "--table", "compare this table", "all that are published")
-    add(
-        "--repair",
-        action="store_true",
-        help="have the follower mend the rows that differ, or copy a table anew of which many do",
-    )
-    add(
-        "--show",
-        type=within(0, 1 << 20),
-        default=20,
-        metavar="N",
-        help="print at most N keys that differ (default: 20)",
-    )
-    add(
-        "--hold",
-        type=within_seconds(600.0),
-        default=10.0,
-        metavar="N",
-        help="wait for at most N seconds until the server has made a slot, and hold the stream to a store meanwhile (default: 10)",
-    )
 
 
 def check_options(parser: argparse.ArgumentParser, options: Options) -> Options:

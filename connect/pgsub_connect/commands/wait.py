@@ -6,16 +6,17 @@ follower runs, file and feed are looked at again and again.
 
 from __future__ import annotations
 
-import argparse
 import contextlib
 import dataclasses
 import os
 import sqlite3
 import time
 
-from pgsub_feed.arguments import duration, lsn
+from pgsub_feed import arguments
+from pgsub_feed.arguments import duration
 from pgsub_feed.errors import FileError, Passing, Stopped
 from pgsub_feed.interruption import Check
+from pgsub_feed.options import option
 from pgsub_feed.program import check_signals
 from pgsub_feed.reader.segments import Reader, read_confirmed
 from pgsub_feed.tables.position import read_position
@@ -40,23 +41,14 @@ LOOK = 0.02
 class Options:
     """What is waited for, in which file, and for how long."""
 
-    lsn: int = 0
-    tables: str = ""
-    feed: str | None = None
-    within: float = 60.0
-
-
-def add_options(parser: argparse.ArgumentParser) -> None:
-    parser.add_argument("lsn", type=lsn, metavar="LSN", help="what is waited for")
-    add = parser.add_argument
-    add("--tables", metavar="FILE", required=True, help="the file with the tables")
-    add("--feed", metavar="FOLDER", help="the feed (default: the one that the file follows)")
-    add(
-        "--within",
-        metavar="TIME",
+    lsn: int = option("LSN", "what is waited for", 0, type=arguments.lsn)
+    tables: str = option("--tables FILE", "the file with the tables", "", required=True)
+    feed: str | None = option("--feed FOLDER", "the feed (default: the one that the file follows)")
+    within: float = option(
+        "--within TIME",
+        "give up after this time, as 30s or 5min (default: 60s)",
+        60.0,
         type=duration,
-        default=60.0,
-        help="give up after this time, as 30s or 5min (default: 60s)",
     )
 
 

@@ -2,14 +2,14 @@
 
 from __future__ import annotations
 
-import argparse
 import dataclasses
 import os
-from collections.abc import Callable, Sequence
+from collections.abc import Sequence
 from typing import TypeVar
 
 from pgsub_feed.arguments import duration, size
 from pgsub_feed.errors import Unfit, UsageError
+from pgsub_feed.options import option
 from pgsub_feed.sinks.urls import FORMS, url
 from pgsub_feed.tables.values import BOTH
 
@@ -19,9 +19,8 @@ from ...follow.sink_process import SinkSettings
 from ...follow.tables_process import TablesSettings
 from ...store.checkpoint_at_rest import read_known
 from .following import INDEXES
-from .numerics import add_numeric
+from .numerics import numeric_option
 from .types import within
-
 
 # What each of these options needs.
 NEEDS = {
@@ -39,19 +38,60 @@ NEEDS = {
 class FeedOptions:
     """The folder of the feed, when segments of it begin and go, and the file of tables."""
 
-    feed: str = ""
-    without_feed: bool = False
-    feed_segment_bytes: int = 0
-    feed_segment_seconds: int = 0
-    feed_max_bytes: int = 0
-    feed_max_age: float | None = None
-    tables: str = ""
-    without_tables: bool = False
-    init: str | None = None
-    digests: bool = False
-    numeric: str = BOTH
-    indexes: bool = False
-    sink: Sequence[str] = ()
+    feed: str = option(
+        "--feed FOLDER",
+        "keep a feed of all commits in this folder, as lines of JSON with each row before and after (default: the one that the store has had)",
+        "",
+    )
+    without_feed: bool = option(
+        "--without-feed", "leave the feed that the store has had; it ends for good", False
+    )
+    feed_segment_bytes: int = option(
+        "--feed-segment-bytes BYTES",
+        "begin another segment before one gets larger (default: 67108864)",
+        0,
+        type=within(1 << 12, 1 << 40),
+    )
+    feed_segment_seconds: int = option(
+        "--feed-segment-seconds N",
+        "begin another segment after N seconds (default: never)",
+        0,
+        type=within(1, 1 << 31),
+    )
+    feed_max_bytes: int = option(
+        "--feed-max-bytes SIZE",
+        "remove the oldest segments of a feed that gets larger, as 10GB, whoever hasn't read them",
+        0,
+        type=size,
+    )
+    feed_max_age: float | None = option(
+        "--feed-max-age TIME",
+        "remove segments that are older, as 7d, and that all readers have read (default: as soon as all readers have, where there are any)",
+        type=duration,
+    )
+    tables: str = option(
+        "--tables FILE",
+        "keep ordinary tables in this file of SQLite, by `pgsub-connect tables` beside the follower (default: those that the store has had); the feed is STORE.feed by default",
+        "",
+    )
+    without_tables: bool = option(
+        "--without-tables", "leave the tables that the store has had: they follow no more", False
+    )
+    init: str | None = option(
+        "--init FILE",
+        "with --tables: run this SQL once a table was made or altered, for indexes and views",
+    )
+    digests: bool = option(
+        "--digests", "with --tables: keep a digest of each table, for `verify`", False
+    )
+    numeric: str = numeric_option()
+    indexes: bool = option("--indexes", f"with --tables: {INDEXES}", False)
+    sink: Sequence[str] = option(
+        "--sink URL",
+        f"write the rows to Redis or NATS, by `pgsub-connect sink` beside the follower, may be repeated: {FORMS}; the feed is STORE.feed by default",
+        (),
+        type=url,
+    )
 
     def feed_settings(self, store: str, mode: int) -> FeedSettings:
         tables = (
@@ -80,95 +120,6 @@ class FeedOptions:
             tables,
             tuple(SinkSettings(it, self.feed, store, mode) for it in dict.fromkeys(self.sink)),
         )
-
-
-def add_feed(parser: argparse.ArgumentParser) -> None:
-    """Options on the feed of commits, and on the tables that follow it."""
-    add = parser.add_argument_group("the feed").add_argument
-    add(
-        "--feed",
-        metavar="FOLDER",
-        default="",
-        help="keep a feed of all commits in this folder, as lines of JSON with each row before and after (default: the one that the store has had)",
-    )
-    add(
-        "--without-feed",
-        action="store_true",
-        help="leave the feed that the store has had; it ends for good",
-    )
-    add(
-        "--feed-segment-bytes",
-        type=within(1 << 12, 1 << 40),
-        default=0,
-        metavar="BYTES",
-        help="begin another segment before one gets larger (default: 67108864)",
-    )
-    add(
-        "--feed-segment-seconds",
-        type=within(1, 1 << 31),
-        default=0,
-        metavar="N",
-        help="begin another segment after N seconds (default: never)",
-    )
-    add_ends_of_segments(add)
-    add_tables(add)
-    add_sinks(add)
-
-
-def add_ends_of_segments(add: Callable[..., object]) -> None:
-    """Options on when segments of the feed go."""
-    add(
-        "--feed-max-bytes",
-        type=size,
-        default=0,
-        metavar="SIZE",
-        help="remove the oldest segments of a feed that gets larger, as 10GB, whoever hasn't read them",
-    )
-    add(
-        "--feed-max-age",
-        type=duration,
-        metavar="TIME",
-        help="remove segments that are older, as 7d, and that all readers have read (default: as soon as all readers have, where there are any)",
-    )
-
-
-def add_tables(add: Callable[..., object]) -> None:
-    """Options on the tables that follow the feed."""
-    add(
-        "--tables",
-        metavar="FILE",
-        default="",
-        help="keep ordinary tables in this file of SQLite, by `pgsub-connect tables` beside the follower (default: those that the store has had); the feed is STORE.feed by default",
-    )
-    add(
-        "--without-tables",
-        action="store_true",
-        help="leave the tables that the store has had: they follow no more",
-    )
-    add(
-        "--init",
-        metavar="FILE",
-        help="with --tables: run this SQL once a table was made or altered, for indexes and views",
-    )
-    add(
-        "--digests",
-        action="store_true",
-        help="with --tables: keep a digest of each table, for `verify`",
-    )
-    add("--indexes", action="store_true", help=f"with --tables: {INDEXES}")
-    add_numeric(add)
-
-
-def add_sinks(add: Callable[..., object]) -> None:
-    """Options on the sinks that follow the feed."""
-    add(
-        "--sink",
-        action="append",
-        type=url,
-        default=[],
-        metavar="URL",
-        help=f"write the rows to Redis or NATS, by `pgsub-connect sink` beside the follower, may be repeated: {FORMS}; the feed is STORE.feed by default",
-    )
 
 
 Settled = TypeVar("Settled", bound=FeedOptions)

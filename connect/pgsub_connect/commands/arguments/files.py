@@ -3,7 +3,9 @@
 from __future__ import annotations
 
 import os
-from collections.abc import Callable
+from typing import Any
+
+from pgsub_feed.options import option
 
 from ...store.placing import check_apart
 from .types import mode as mode_of
@@ -18,8 +20,8 @@ def check_files(
     check_apart(store, *named)
 
 
-def add_mode(add: Callable[..., object], about: str) -> None:
-    add("--mode", type=mode_of, default=0o600, metavar="OCTAL", help=f"{about} (default: 600)")
+def mode_option(about: str) -> Any:
+    return option("--mode OCTAL", f"{about} (default: 600)", 0o600, type=mode_of)
 
 
 def use_mode(mode: int) -> None:

@@ -4,13 +4,14 @@ from __future__ import annotations
 
 import argparse
 import dataclasses
-from collections.abc import Callable, Iterable, Sequence
+from collections.abc import Iterable, Sequence
 
 from pgsub_feed.arguments import plain_name
+from pgsub_feed.options import option, repeated
 from pgsub_feed.reader.reading import Reading
 
 from ..beside import StoreBeside
-from .texts import add_repeated
+from .files import mode_option
 
 INDEXES = "the server's indexes of btree over plain columns, none of them unique; what is left out is told"
 
@@ -19,13 +20,14 @@ INDEXES = "the server's indexes of btree over plain columns, none of them unique
 class FollowingOptions:
     """Which feed is followed, with which rows it begins, and of which tables."""
 
-    feed: str = ""
+    feed: str = option("--feed FOLDER", "the feed", "", required=True)
     base: str | None = None
     store: str = ""
-    table: Sequence[str] = ()
+    table: Sequence[str] = repeated("--table", "keep this table", "all")
     reader: str | None = None
     once: bool = False
-    mode: int = 0o600
+    while_input: bool = option("--while-input", "end once standard input ends, too", False)
+    mode: int = mode_option("mode of a file that is made")
 
     def reading(self, tables: Iterable[str], until: int | None) -> Reading:
         return Reading(
@@ -52,10 +54,8 @@ def add_beginning(parser: argparse.ArgumentParser, base: str) -> None:
     )
 
 
-def add_kept(add: Callable[..., object], disk: str) -> None:
-    """Options on which tables are kept, and on where it is noted how far they are."""
-    add_repeated(add, "--table", "keep this table", "all")
-    add(
+def add_reader(parser: argparse.ArgumentParser, disk: str) -> None:
+    parser.add_argument(
         "--reader",
         metavar="NAME",
         type=plain_name,

@@ -3,17 +3,18 @@
 from __future__ import annotations
 
 import argparse
-from collections.abc import Callable
+from typing import Any
 
+from pgsub_feed.options import option
 from pgsub_feed.tables.values import AS_REAL, AS_TEXT, BOTH
 
 
-def add_numeric(add: Callable[..., object]) -> None:
-    add(
+def numeric_option() -> Any:
+    return option(
         "--numeric",
+        "numerics as REAL, those of more than 15 digits with their text in NAME_text (both, the default), as TEXT, or as REAL alone, which can't be verified (real)",
+        BOTH,
         choices=(BOTH, AS_TEXT, AS_REAL),
-        default=BOTH,
-        help="numerics as REAL, those of more than 15 digits with their text in NAME_text (both, the default), as TEXT, or as REAL alone, which can't be verified (real)",
     )
 
 

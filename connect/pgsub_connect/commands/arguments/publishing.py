@@ -4,10 +4,11 @@ from __future__ import annotations
 
 import argparse
 import dataclasses
-from collections.abc import Callable, Sequence
+from collections.abc import Sequence
+
+from pgsub_feed.options import add_fields, option, repeated
 
 from ...server.publication_setup import Wanted
-from .texts import add_repeated
 from .types import within
 
 
@@ -16,10 +17,25 @@ class PublishingOptions:
     """What is published where nothing is yet."""
 
     create: str | None = None
-    table: Sequence[str] = ()
-    all_tables: bool = False
-    keyless: str = "refuse"
-    failover: bool = False
+    table: Sequence[str] = repeated(
+        "--table", "with --create: a table to publish", "those that are there"
+    )
+    all_tables: bool = option(
+        "--all-tables",
+        "with --create: publish all tables, also those that are made later",
+        False,
+    )
+    keyless: str = option(
+        "--keyless",
+        "what becomes of tables without a usable replica identity (default: refuse; inserts: only their Inserts are published, by a publication NAME_inserts)",
+        "refuse",
+        choices=("refuse", "leave-out", "inserts"),
+    )
+    failover: bool = option(
+        "--failover",
+        "with --create: a slot that is synchronized to standbys (PostgreSQL 17)",
+        False,
+    )
 
     def wanted(self, publications: Sequence[str]) -> Wanted:
         return Wanted(list(publications), list(self.table), self.all_tables, self.keyless)
@@ -29,29 +45,10 @@ class PublishingOptions:
 class CopyOptions(PublishingOptions):
     """How the first rows are copied."""
 
-    no_copy: bool = False
-    jobs: int = 2
-
-
-def add_publishing(add: Callable[..., object]) -> None:
-    """Options on the publication and the slot that --create makes."""
-    add_repeated(add, "--table", "with --create: a table to publish", "those that are there")
-    add(
-        "--all-tables",
-        action="store_true",
-        help="with --create: publish all tables, also those that are made later",
+    no_copy: bool = option(
+        "--no-copy", "begin a new store where the slot is, without the rows from before", False
     )
-    add(
-        "--keyless",
-        choices=("refuse", "leave-out", "inserts"),
-        default="refuse",
-        help="what becomes of tables without a usable replica identity (default: refuse; inserts: only their Inserts are published, by a publication NAME_inserts)",
-    )
-    add(
-        "--failover",
-        action="store_true",
-        help="with --create: a slot that is synchronized to standbys (PostgreSQL 17)",
-    )
+    jobs: int = option("--jobs N", "read N tables at a time (default: 2)", 2, type=within(1, 64))
 
 
 def add_copying(parser: argparse.ArgumentParser) -> None:
@@ -63,19 +60,7 @@ def add_copying(parser: argparse.ArgumentParser) -> None:
         const="permanent",
         help="where the store isn't there yet, publication and slot are made, and the rows that are there copied",
     )
-    add_publishing(add)
-    add(
-        "--no-copy",
-        action="store_true",
-        help="begin a new store where the slot is, without the rows from before",
-    )
-    add(
-        "--jobs",
-        type=within(1, 64),
-        default=2,
-        metavar="N",
-        help="read N tables at a time (default: 2)",
-    )
+    add_fields(add, CopyOptions)
 
 
 def check_publishing(parser: argparse.ArgumentParser, options: PublishingOptions) -> None:

@@ -2,17 +2,18 @@
 
 from __future__ import annotations
 
-from collections.abc import Callable
+from typing import Any
+
+from pgsub_feed.options import option
 
 from ...record.recording import LONGEST
 from .types import within
 
 
-def add_longest(add: Callable[..., object]) -> None:
-    add(
-        "--bytes",
+def longest() -> Any:
+    return option(
+        "--bytes N",
+        f"stop before the recording is longer than N bytes (default: {LONGEST}, which is pgsub's limit)",
+        LONGEST,
         type=within(1, 1 << 62),
-        default=LONGEST,
-        metavar="N",
-        help=f"stop before the recording is longer than N bytes (default: {LONGEST}, which is pgsub's limit)",
     )

@@ -2,7 +2,6 @@
 
 from __future__ import annotations
 
-import argparse
 import dataclasses
 import os
 from collections.abc import Iterable, Sequence
@@ -10,6 +9,7 @@ from typing import TypeVar
 
 from pgsub_feed import log
 from pgsub_feed.errors import Unfit
+from pgsub_feed.options import option, repeated
 from pgsub_feed.ownership import readable_by, readable_text
 
 from ...drift.remembered import Remembered
@@ -19,8 +19,8 @@ from ...server.publication_setup import inserts_of
 from ...server.subscription import Subscription
 from ...store.checkpoint_at_rest import read_known
 from ...store.checkpoint_lines import COPYING, Known
-from .files import add_mode, use_mode
-from .texts import add_repeated, check_texts, each
+from .files import mode_option, use_mode
+from .texts import check_texts, each
 from .types import seconds
 
 
@@ -28,50 +28,37 @@ from .types import seconds
 class ServerOptions:
     """Where the server is, and what of it is followed."""
 
-    dsn: str = ""
-    dsn_file: str | None = None
-    slot: str = "pgsub"
-    publication: Sequence[str] = ()
-    proto: int = 2
-    heartbeat: float = 10.0
-    mode: int = 0o600
+    dsn: str = option("--dsn", "connection string or URI of libpq (default: its environment)", "")
+    dsn_file: str | None = option(
+        "--dsn-file FILE",
+        "a file whose first line is the connection string, for one with a password",
+    )
+    slot: str = option(
+        "--slot",
+        "replication slot (default: the one that the store follows, else pgsub)",
+        "pgsub",
+        default="",
+    )
+    publication: Sequence[str] = repeated(
+        "--publication", "publication", "those that the store has followed, else pgsub"
+    )
+    proto: int = option(
+        "--proto",
+        "protocol version (default: 2, and 1 where the server has no other)",
+        2,
+        type=int,
+        choices=(1, 2),
+    )
+    heartbeat: float = option(
+        "--heartbeat N",
+        "seconds between statuses (default: 10, and at most a third of wal_sender_timeout)",
+        10.0,
+        type=seconds,
+    )
+    mode: int = mode_option("mode of the files that are made")
 
     def subscription(self) -> Subscription:
         return Subscription(self.dsn, self.slot, list(self.publication))
-
-
-def add_server(parser: argparse.ArgumentParser) -> None:
-    """Options on the server and the slot."""
-    add = parser.add_argument
-    add("--dsn", default="", help="connection string or URI of libpq (default: its environment)")
-    add(
-        "--dsn-file",
-        metavar="FILE",
-        help="a file whose first line is the connection string, for one with a password",
-    )
-    add(
-        "--slot",
-        default="",
-        help="replication slot (default: the one that the store follows, else pgsub)",
-    )
-    add_repeated(
-        add, "--publication", "publication", "those that the store has followed, else pgsub"
-    )
-    add(
-        "--proto",
-        type=int,
-        choices=(1, 2),
-        default=2,
-        help="protocol version (default: 2, and 1 where the server has no other)",
-    )
-    add(
-        "--heartbeat",
-        type=seconds,
-        default=10.0,
-        metavar="N",
-        help="seconds between statuses (default: 10, and at most a third of wal_sender_timeout)",
-    )
-    add_mode(add, "mode of the files that are made")
 
 
 Settled = TypeVar("Settled", bound=ServerOptions)

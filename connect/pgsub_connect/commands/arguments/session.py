@@ -2,9 +2,12 @@
 
 from __future__ import annotations
 
-from collections.abc import Callable
+import argparse
+import dataclasses
+from collections.abc import Sequence
 
 from pgsub_feed.arguments import lsn
+from pgsub_feed.options import add_fields, option
 
 from .store import PLAINTEXT
 from .types import lsn_or_now, seconds
@@ -12,49 +15,43 @@ from .types import lsn_or_now, seconds
 ACCEPTED = ("history", "slot", "names", "publication", "values", "missing", "gap", "all", PLAINTEXT)
 
 
-def add_session(add: Callable[..., object]) -> None:
-    """Options on how long it is followed, and on what is taken as it is."""
-    add(
-        "--until",
+@dataclasses.dataclass(frozen=True)
+class SessionOptions:
+    """Where it ends, and what is taken as it is, or passed over."""
+
+    until: int | str | None = option(
+        "--until LSN|now",
+        "stop once all that was committed up to this LSN, or up to now, is stored",
         type=lsn_or_now,
-        metavar="LSN|now",
-        help="stop once all that was committed up to this LSN, or up to now, is stored",
     )
-    add(
-        "--silence",
+    silence: float = option(
+        "--silence N",
+        "give a server up that says nothing for N seconds (default: 60)",
+        60.0,
         type=seconds,
-        default=60.0,
-        metavar="N",
-        help="give a server up that says nothing for N seconds (default: 60)",
     )
-    add(
+    strict: bool = option(
         "--strict",
-        action="store_true",
-        help="end with status 5 where something was found that may have made the copy wrong",
+        "end with status 5 where something was found that may have made the copy wrong",
+        False,
     )
-    add_accepting(add)
-
-
-def add_accepting(add: Callable[..., object]) -> None:
-    """Options on what is taken as it is, or passed over."""
-    add(
+    accept: Sequence[str] = option(
         "--accept",
-        action="append",
-        default=[],
+        "take what was found of this kind as it is, may be repeated; plaintext, which isn't in all: go on without TLS",
+        (),
         choices=ACCEPTED,
-        help="take what was found of this kind as it is, may be repeated; plaintext, which isn't in all: go on without TLS",
     )
-    add(
+    skip: int = option(
+        "--skip LSN", "pass over the changes of the commit with this final LSN", 0, type=lsn
+    )
+
+
+def add_session(group: argparse._ArgumentGroup) -> None:
+    add_fields(group.add_argument, SessionOptions)
+    group.add_argument(
         "--accept-gap",
         dest="accept",
         action="append_const",
         const="gap",
         help="go on although changes between the store and the slot may be missing",
-    )
-    add(
-        "--skip",
-        type=lsn,
-        default=0,
-        metavar="LSN",
-        help="pass over the changes of the commit with this final LSN",
     )

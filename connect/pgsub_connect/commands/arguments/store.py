@@ -2,14 +2,15 @@
 
 from __future__ import annotations
 
-import argparse
 import dataclasses
 from collections.abc import Iterable, Sequence
 from typing import TypeVar
 
+from pgsub_feed.options import option
+
 from ...server import transport
 from ...store.checkpoint_at_rest import read_known
-from .server import ServerOptions, add_server, settled_server
+from .server import ServerOptions, settled_server
 
 PLAINTEXT = "plaintext"
 
@@ -19,25 +20,9 @@ class StoreOptions(ServerOptions):
     """The store, its server, and what may be accepted of that."""
 
     store: str = ""
-    accept: Sequence[str] = ()
-
-
-def add_store_server(parser: argparse.ArgumentParser) -> None:
-    """Options on the server of a store."""
-    add_server(parser)
-    parser.add_argument(
-        "--accept",
-        action="append",
-        default=[],
-        choices=(PLAINTEXT,),
-        help="connect without TLS although it was in use before",
+    accept: Sequence[str] = option(
+        "--accept", "connect without TLS although it was in use before", (), choices=(PLAINTEXT,)
     )
-
-
-def add_store(parser: argparse.ArgumentParser, about: str, required: bool = True) -> None:
-    """Options on a store and its server."""
-    add_store_server(parser)
-    parser.add_argument("--store", metavar="FILE", required=required, default="", help=about)
 
 
 Settled = TypeVar("Settled", bound=StoreOptions)

@@ -2,15 +2,10 @@
 
 from __future__ import annotations
 
-from collections.abc import Callable, Iterable
+from collections.abc import Iterable
 
 from pgsub_feed.errors import UsageError
 from pgsub_feed.texts import is_utf_8
-
-
-def add_repeated(add: Callable[..., object], option: str, about: str, default: str) -> None:
-    """An option that may be repeated, by default as is said."""
-    add(option, action="append", default=[], help=f"{about}, may be repeated (default: {default})")
 
 
 def check_texts(told: Iterable[tuple[str, str]], dsn: str = "") -> None:
