@@ -51,12 +51,12 @@ class KnownTable(NamedTuple):
 
 
 class KnownTables:
-    """Those that a store knows. `count`: how often something else was read."""
+    """Those that a store knows."""
 
     def __init__(self, store: str) -> None:
         self.path, self.file = store, store + ".tables"
         self.stamp: Stamp | None = None
-        self.first, self.count = b"", 0
+        self.first = b""
         # the LSN of the last look: nothing that was committed above it was seen
         self.lsn = 0
         self.tables = dict[int, KnownTable]()
@@ -90,7 +90,7 @@ class KnownTables:
             found = map(object_of, list_of(said.get("tables", [])))
             tables, lsn = {oid_of(it["oid"]): table_of(it) for it in found}, said.get("lsn", "0/0")
             self.lsn, self.tables = lsn_of(lsn), tables
-            self.first, self.count = first, self.count + 1
+            self.first = first
         except FileNotFoundError:
             return
         except OSError as error:

@@ -702,8 +702,8 @@ BUGS = (
     Bug(
         "rows that are made anew lose their indexes",
         "pgsub_feed/tables/file.py",
-        "        if self.is_init_due and self.indexes:",
-        "        if self.is_init_due and self.indexes and self.indexes.has_news():",
+        "        if self.is_init_due:\n            self.make_indexes()",
+        "        if self.is_init_due and self.indexes and self.indexes.has_news():\n            self.make_indexes()",
         ("test_feed_indexes",),
     ),
     Bug(
@@ -772,8 +772,8 @@ BUGS = (
     Bug(
         "each change of a commit is a line of its own version",
         "pgsub_feed/formats/bulk.py",
-        "                left.pop((index, row_id), None)\n",
-        "",
+        "                other = left.pop((index, row_id), None)\n",
+        "                other = left.get((index, row_id))\n",
         ("test_feed_printing",),
     ),
     Bug(

@@ -17,6 +17,7 @@ from pgsub_feed.reader.reading import Reading
 from pgsub_feed.tables.file import Rows
 from pgsub_feed.tables.following import Tables
 from pgsub_feed.tables.indexes import Indexes
+from pgsub_feed.tables.user_sql import Init
 
 from .fake_server import FakeConnection, FakeServer, Row
 from .feeds import insert, table, truncate
@@ -115,6 +116,30 @@ class Made(IndexesCase):
             tables.look()
             self.assertEqual(self.names(), ["index 11 by_name"])
             self.assertEqual(self.rows("SELECT lsn FROM pgsub_position"), [("0/700",)])
+
+    def test_what_isnt_news(self) -> None:
+        """The follower has looked again, and seen the same."""
+        self.made(store=self.store)
+        known = KnownTables(self.store)
+        indexes = Indexes(known)
+        self.assertTrue(indexes.has_news())
+        indexes.make(sqlite3.connect(":memory:"), [])
+        self.at += 1
+        self.known(BY_NAME, BOTH, KEY)
+        self.assertFalse(indexes.has_news())
+        self.assertEqual(known.lsn, self.at)
+
+    def test_a_users_own_sql_isnt_run_for_them(self) -> None:
+        self.made(store=self.store)
+        init, known = self.folder / "init.sql", KnownTables(self.store)
+        init.write_text("CREATE TABLE IF NOT EXISTS mine (a); INSERT INTO mine VALUES (1)")
+        rows = Rows(self.into, Init(str(init)), known, indexes=Indexes(known))
+        with contextlib.closing(rows.db):
+            rows.run_init()
+            self.known(BY_NAME)
+            Tables(rows, never).look()
+            self.assertEqual(self.names(), ["index 11 by_name"])
+            self.assertEqual(self.rows("SELECT * FROM mine"), [(1,)])
 
     def test_a_users_own_index_stays(self) -> None:
         self.made(store=self.store)

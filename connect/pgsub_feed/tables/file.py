@@ -375,10 +375,14 @@ class Rows:
         self.initialize()
         self.settle(self.at)
 
+    def make_indexes(self) -> None:
+        if self.indexes:
+            self.indexes.make(self.db, [it.target for it in self.kept.values()])
+
     def initialize(self) -> None:
         """Makes indexes, and runs what the user wants, after a table was made or altered."""
-        if self.is_init_due and self.indexes:
-            self.indexes.make(self.db, [it.target for it in self.kept.values()])
+        if self.is_init_due:
+            self.make_indexes()
         if self.is_init_due and self.init:
             self.init.run(self.db)
         self.is_init_due = False

@@ -76,7 +76,9 @@ class Tables:
     def look(self) -> None:
         """Has the indexes that the server has by now. (Nobody else writes the file.)"""
         if self.rows.indexes and self.rows.indexes.has_news():
-            self.rows.run_init()
+            self.rows.begin()
+            self.rows.make_indexes()
+            self.rows.settle(self.rows.at)
 
     def safe(self) -> int:
         """(`Noted` has the disk have the file's log.)"""

@@ -10,7 +10,7 @@ import sqlite3
 from collections.abc import Iterable
 
 from .. import log
-from ..known_tables import Index, KnownTables
+from ..known_tables import Index, KnownTable, KnownTables
 from ..texts import identifier
 from .target import Target
 
@@ -46,21 +46,21 @@ def name_of(index: Index) -> str:
 
 
 class Indexes:
-    """Those of a file's tables. `count`: which state of what is known they are of."""
+    """Those of a file's tables. `tables`: what was known when they were made."""
 
     def __init__(self, known: KnownTables) -> None:
-        self.known, self.count = known, -1
+        self.known, self.tables = known, dict[int, KnownTable]()
         self.told = set[tuple[int, str]]()
 
     def has_news(self) -> bool:
         """Whether something else is known by now."""
         self.known.look()
-        return self.known.count != self.count
+        return self.known.tables != self.tables
 
     def make(self, db: sqlite3.Connection, targets: Iterable[Target]) -> None:
         """Has a file have the indexes of these tables, and no others of the server's."""
         self.known.look()
-        self.count = self.known.count
+        self.tables = self.known.tables
         wanted = dict[str, str]()
         for target in targets:
             for index in self.known.indexes(target.relation.oid):
