@@ -243,8 +243,10 @@ class Told(Case):
         self.is_wanted(1)
 
     def test_commits_wait_for_the_follower(self) -> None:
-        self.progress.server.note_name("pgsub", "FIRST 1 (pgsub)")
+        self.progress.server.note_name("pgsub", "")
+        self.server.answer("SHOW synchronous_standby_names", [["FIRST 1 (pgsub)"]])
         self.stays("commits at the server wait for the follower", self.NOW)
+        self.server.answer("SHOW synchronous_standby_names", [[""]])
         self.progress.server.note_name("pgsub", "")
         self.look(self.NOW)
         self.is_wanted(1)

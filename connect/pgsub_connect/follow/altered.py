@@ -97,6 +97,8 @@ class Altered:
                 self.due = time.monotonic() + LATER
         found = {oid: it for oid, it in found.items() if self.is_left(oid, it)}
         tables = [it for oid in found if (it := self.table(oid))]
+        if tables:
+            self.server.note_standbys(connection.text("SHOW synchronous_standby_names"))
         sizes = sizes_of(connection, tables)
         gone: list[str] = []
         wanted: list[Table] = []

@@ -125,20 +125,19 @@ def not_done(place: Place) -> None:
     place.equal()
 
 
-def not_beside(place: Place, why: str, *more: str) -> Child:
-    """A table that isn't copied anew unasked, which is told."""
-    child = begin(place, *more)
+def not_beside(place: Place, child: Child, why: str) -> None:
+    """A table isn't copied anew unasked, which is told."""
     place.run(ALTERED[0])
     touch(place)
     place.catch_up(child)
     child.wait_for(why)
     place.finds("values", "refresh --store", child.said())
-    return child
 
 
 def above_the_limit(place: Place) -> None:
     """One that is larger than it may be is told, with what mends it."""
-    child = not_beside(place, "above --on-alter-max-bytes 65536", "--on-alter-max-bytes", "64kB")
+    child = begin(place, "--on-alter-max-bytes", "64kB")
+    not_beside(place, child, "above --on-alter-max-bytes 65536")
     words = ("--dsn", place.dsn(), "--store", str(place.store))
     place.subcommand("refresh", *words, "--yes")
     healed(place, child)
@@ -166,8 +165,9 @@ def told_alone(place: Place) -> None:
 def synchronous(place: Place) -> None:
     """Where commits wait for the follower it is told, and nothing is held up. Once they don't, the
     next session does it."""
+    child = begin(place)
     place.set(synchronous_standby_names="pgsub")
-    child = not_beside(place, "commits at the server wait for the follower")
+    not_beside(place, child, "commits at the server wait for the follower")
     began = time.monotonic()
     for _ in range(10):
         touch(place)
