@@ -59,15 +59,14 @@ def ask(command: Path, words: list[str]) -> Help:
 
 
 def subcommands(text: str) -> list[str]:
-    """The commands that a help lists below `Commands:`, or below `COMMAND`, in the order in which
-    they stand."""
+    """The commands that a help lists below `Commands:`, in groups maybe, in their order."""
     found, inside = [], False
     for line in text.splitlines():
-        if re.match(r"^(Commands:|\s*COMMAND)$", line):
+        if line == "Commands:":
             inside = True
         elif inside and (item := COMMAND.match(line)):
             found.append(item[1])
-        elif inside and line.strip() and not line.startswith("    "):
+        elif inside and line.strip() and not line.startswith("  "):
             inside = False
     return [it for it in found if it != "help"]
 

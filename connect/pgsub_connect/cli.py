@@ -11,6 +11,7 @@ from typing import Any, Protocol, cast
 
 from pgsub_feed import log
 from pgsub_feed.arguments import TellVersion
+from pgsub_feed.help_form import Parser, meant
 from pgsub_feed.options import add_fields
 from pgsub_feed.program import guarded
 
@@ -34,23 +35,15 @@ for --create the right to create a publication (of all tables: to be a superuser
 confirmed or dropped: SELECT pg_drop_replication_slot('NAME').
 
 """
-# The subcommands, each a module of `commands` with this name.
-COMMANDS = (
-    "follow",
-    "record",
-    "check",
-    "drop",
-    "export",
-    "snapshot",
-    "verify",
-    "add",
-    "refresh",
-    "names",
-    "status",
-    "tables",
-    "sink",
-    "wait",
-)
+# The subcommands, each a module of `commands` with this name, by what they are for.
+GROUPS = {
+    "every day": ("follow", "status", "check", "drop"),
+    "to repair": ("verify", "refresh", "add", "names"),
+    "for readers": ("tables", "sink", "wait", "export", "snapshot"),
+    "for developers": ("record",),
+}
+COMMANDS = tuple(name for names in GROUPS.values() for name in names)
+HELP = "help"
 
 
 class Command(Protocol):
@@ -70,42 +63,48 @@ def command_of(name: str) -> Command:
     return cast(Command, importlib.import_module(f".commands.{name}", __package__))
 
 
-def parser_of(name: str) -> argparse.ArgumentParser:
+def parser_of(name: str) -> Parser:
     """What reads the options of a subcommand."""
     command = command_of(name)
-    parser = argparse.ArgumentParser(
-        prog=f"{log.PROGRAM} {name}",
-        description=command.ABOUT,
-        formatter_class=argparse.RawDescriptionHelpFormatter,
-        epilog=command.ENDS,
-        allow_abbrev=False,
-    )
+    parser = Parser(f"{log.PROGRAM} {name}", command.ABOUT, command.ENDS)
     if add := getattr(command, "add_options", None):
         add(parser)
     else:
         add_fields(parser.add_argument, command.Options)
+    parser.put_common_first()
     return parser
 
 
-def overview() -> argparse.ArgumentParser:
+def overview() -> Parser:
     """What tells which subcommands there are."""
-    parser = argparse.ArgumentParser(
-        prog=log.PROGRAM,
-        description=ABOUT,
-        epilog=MORE + ENDS,
-        formatter_class=argparse.RawDescriptionHelpFormatter,
-        allow_abbrev=False,
-    )
+    parser = Parser(log.PROGRAM, f"{ABOUT}\n{list_of_commands()}", MORE + ENDS)
+    parser.usage = "%(prog)s [-h] [--version] COMMAND ..."
     parser.add_argument(
         "--version",
         action=TellVersion,
         nargs=0,
         help="show the version, and the commit of a checkout",
     )
-    commands = parser.add_subparsers(dest="command", metavar="COMMAND", required=True)
-    for name in COMMANDS:
-        commands.add_parser(name, help=command_of(name).ABOUT.partition("\n")[0])
     return parser
+
+
+def list_of_commands() -> str:
+    """The subcommands, and what each is for."""
+    lines = ["Commands:"]
+    for what, names in GROUPS.items():
+        abouts = ((name, command_of(name).ABOUT.partition("\n")[0]) for name in names)
+        lines += [f"  {what}", *(f"    {name:10}{about}" for name, about in abouts)]
+    return "\n".join([*lines, "", f"`{log.PROGRAM} help COMMAND` has the options of each."])
+
+
+def known(word: str) -> str:
+    """A subcommand's name, where a word is one."""
+    if word not in COMMANDS:
+        like = meant(word, (*COMMANDS, HELP))
+        overview().error(
+            f"there is no command {word}{like}\nThe commands are {', '.join(COMMANDS)}"
+        )
+    return word
 
 
 def named(words: Sequence[str]) -> tuple[str, Sequence[str]]:
@@ -113,19 +112,26 @@ def named(words: Sequence[str]) -> tuple[str, Sequence[str]]:
     `record`."""
     if words and words[0] in COMMANDS:
         return words[0], words[1:]
-    if not words or words[0] in ("-h", "--help", "--version"):
+    if words and words[0] == HELP:
+        parser = parser_of(known(words[1])) if len(words) > 1 else overview()
+        parser.parse_args(["--help"])
+    if not words:
+        overview().error(f"a command is needed: {', '.join(COMMANDS)}")
+    if words[0] in ("-h", "--help", "--version"):
         overview().parse_args(words)
+    if not words[0].startswith("-"):
+        return known(words[0]), words[1:]
     has_store = any(word == "--store" or word.startswith("--store=") for word in words)
     return "follow" if has_store else "record", words
 
 
 def arguments(words: Sequence[str]) -> tuple[str, Any]:
     """The subcommand that a command line names, and its options."""
+    is_named = bool(words) and words[0] in COMMANDS
     name, words = named(words)
     command, parser = command_of(name), parser_of(name)
-    found, unknown = parser.parse_known_args(words)
-    if unknown:
-        overview().error(f"unrecognized arguments: {' '.join(unknown)}")
+    parser.check(words, () if is_named else parser_of("follow").names())
+    found = parser.parse_args(words)
     fields = {it.name for it in dataclasses.fields(cast(Any, command.Options))}
     options = command.Options(
         **{

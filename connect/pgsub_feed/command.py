@@ -2,7 +2,6 @@
 
 from __future__ import annotations
 
-import argparse
 import contextlib
 import dataclasses
 import re
@@ -15,6 +14,7 @@ from .arguments import add_version, lsn
 from .errors import Stopped
 from .formats.bulk import Bulk
 from .formats.lines import FORMATS, Format
+from .help_form import Parser
 from .interruption import Check
 from .known_tables import known_beside
 from .options import add_fields, option
@@ -88,15 +88,10 @@ class Options:
 
 
 def arguments(words: Sequence[str]) -> Options:
-    parser = argparse.ArgumentParser(
-        prog="pgsub-feed",
-        description=ABOUT,
-        epilog=FORMATS_ABOUT,
-        formatter_class=argparse.RawDescriptionHelpFormatter,
-        allow_abbrev=False,
-    )
+    parser = Parser("pgsub-feed", ABOUT, FORMATS_ABOUT)
     add_fields(parser.add_argument, Options)
     add_version(parser)
+    parser.check(words)
     options = Options(**vars(parser.parse_args(words)))
     if options.undo and (options.follow or options.begin is not None or options.end is not None):
         parser.error("--undo has its own LSNs, and doesn't follow")

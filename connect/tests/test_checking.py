@@ -428,6 +428,15 @@ class Printing(unittest.TestCase):
         self.assertEqual(status, 4)
         self.assertIn("error wal_level: minimal: ", text)
 
+    def test_a_text_of_several_lines(self) -> None:
+        """As what a server says of a role that may not replicate; no terminal takes commands."""
+        said = [Result("error", "role", "permission denied\nDETAIL:  Only roles\x1b[2J")]
+        with mock.patch.object(check, "results", lambda *_: said):
+            self.assertEqual(
+                self.printed(well()),
+                (4, "error role: permission denied\n  DETAIL:  Only roles\\x1b[2J\n"),
+            )
+
     def test_json(self) -> None:
         status, text = self.printed(well(), json=True)
         self.assertEqual(

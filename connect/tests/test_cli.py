@@ -76,11 +76,11 @@ class Abbreviated(unittest.TestCase):
         ):
             self.assertRegex(
                 self.rejected(options_of, *words),
-                f"unrecognized arguments: {words[-2]} {words[-1]}\n",
+                rf"unrecognized arguments: {words[-2]}: did you mean --[a-z]+\?\n",
             )
         self.assertRegex(
             self.rejected(feed_arguments, "--feed", "feed", "--fro", "0/0"),
-            "unrecognized arguments: --fro 0/0\n",
+            r"unrecognized arguments: --fro: did you mean --from\?\n",
         )
 
 

@@ -5,6 +5,7 @@ from __future__ import annotations
 import json
 import os
 import re
+import subprocess
 import unittest
 from unittest import mock
 
@@ -146,6 +147,7 @@ class Metrics(unittest.TestCase):
         progress.stream.lag.note_answer(1e9, 1e9, None, 0x20)
         progress.slot.wal_status, progress.slot.safe_wal_size = "extended", 77
         progress.findings.found = {"values": "x"}
+        progress.feed.note({"redis": 5}, 100)
         progress.stream.changes = 5
         progress.findings.counted = Counted(1, 20, 3, 7, 16385, (5, 12))
         return metrics_text(progress, 1e9 + 2, {"slot": "pgsub", "store": store})
@@ -190,6 +192,14 @@ class Metrics(unittest.TestCase):
         self.assertIn('program="pgsub \\"0.1\\""', text)
         self.assertNotIn("pgsub_last_commit", text)
         self.assertTrue(text.endswith("\n"))
+
+    def test_by_promtool(self) -> None:
+        """Debian's own tool has nothing to say against them."""
+        for text, status in ((self.text('a\\b"c\nd'), 0), (self.text() + "x{} 1 2 3\n", 1)):
+            ran = subprocess.run(
+                ["promtool", "check", "metrics"], input=text, capture_output=True, text=True
+            )
+            self.assertEqual((ran.returncode, bool(ran.stderr)), (status, bool(status)), ran.stderr)
 
     def test_labels_are_escaped(self) -> None:
         self.assertIn('store="a\\\\b\\"c\\nd"', self.text('a\\b"c\nd'))

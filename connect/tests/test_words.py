@@ -7,11 +7,13 @@ import errno
 import io
 import os
 import pty
+import re
 import signal
 import subprocess
 import sys
 import unittest
 from collections.abc import Callable
+from types import SimpleNamespace
 from typing import Any
 from unittest import mock
 
@@ -23,6 +25,7 @@ from pgsub_connect.drift.tolerance import Tolerance
 from pgsub_connect.errors import FilterFault, ServerError
 from pgsub_connect.server import followed_publications
 from pgsub_connect.server.followed_publications import require_published
+from pgsub_connect.server.login import connection_error
 from pgsub_connect.server.publication_setup import Wanted
 from pgsub_connect.server.subscription import Subscription
 from pgsub_connect.stream.filter_end import FilterEnded
@@ -150,6 +153,45 @@ class Words(Quiet):
             ("temporary", ("t",), 3, False),
         )
 
+    def test_what_was_meant(self) -> None:
+        """An unknown command or option names the one that is like it; a part of a name is none."""
+        for words, told in (
+            (
+                "folow --store s",
+                "no command folow: did you mean follow?\nThe commands are follow, ",
+            ),
+            ("nothing", "no command nothing\nThe commands are follow, status, "),
+            ("follow --stor s", "unrecognized arguments: --stor: did you mean --store?"),
+            ("names --stoer=s", "unrecognized arguments: --stoer: did you mean --store?"),
+            ("--stor s", "unrecognized arguments: --stor: did you mean --store?"),
+            ("status --zzz", "unrecognized arguments: --zzz\n"),
+            ("help folow", "no command folow: did you mean follow?"),
+            ("", "a command is needed: follow, status, "),
+        ):
+            self.assertIn(told, self.rejected(words), words)
+
+    def helped(self, *words: str) -> str:
+        with contextlib.redirect_stdout(io.StringIO()) as out, self.assertRaises(SystemExit):
+            cli.arguments(words)
+        return out.getvalue()
+
+    def test_help(self) -> None:
+        """It has the commands in groups, and of a command the common options first."""
+        text = self.helped("help")
+        self.assertEqual(text, self.helped("--help"))
+        heads = ["Commands:", *(f"  {it}" for it in cli.GROUPS)]
+        self.assertEqual([it for it in text.splitlines() if it in heads], heads)
+        for name in cli.COMMANDS:
+            self.assertEqual(len(re.findall(rf"^    {name} +\S", text, re.M)), 1, name)
+        text = self.helped("help", "follow")
+        self.assertEqual(text, self.helped("follow", "--help"))
+        self.assertTrue(text.startswith("usage: pgsub-connect follow [OPTIONS]\n"))
+        options = re.findall(r"^  (?:-h, )?(--[a-z-]+)", text, re.M)
+        self.assertEqual(options[:4], ["--store", "--dsn", "--create", "--table"])
+        self.assertEqual(len(options), len(set(options)))
+        self.assertGreater(options.index("--heartbeat"), options.index("--help"))
+        self.assertIn("sink [OPTIONS] [URL] --feed FOLDER\n", self.helped("sink", "--help"))
+
     def test_each_help_tells_the_exit_status(self) -> None:
         for name in cli.COMMANDS:
             self.assertRegex(cli.parser_of(name).format_help(), r"(?i)\bexit status\b", name)
@@ -170,6 +212,29 @@ class Words(Quiet):
         for dsn in ("dbname=password", "user=u", ""):
             self.settled("--dsn", dsn)
         self.assertEqual(self.said, [])
+
+    def test_a_mistyped_connection_string(self) -> None:
+        """Its word is named where it is like a parameter, and may be no part of a password."""
+        for dsn, told in (
+            ("hots=h", ": hots is no parameter: did you mean host?"),
+            ("postgresql://h/d?hots=x", ": hots is no parameter: did you mean host?"),
+            ("password=ge heim=x", ""),
+            ("password=ge heim", ""),
+        ):
+            with self.assertRaises(ServerError) as raised:
+                self.settled("--dsn", dsn)
+            self.assertEqual(
+                str(raised.exception), f"the connection string is not one of libpq's{told}"
+            )
+
+    def test_a_login_that_failed_with_tls_and_without(self) -> None:
+        said = b'connection to server at "h", port 5432 failed: FATAL:  28P01: wrong\nauth.c:7\n'
+        raw: Any = SimpleNamespace(error_message=2 * said, needs_password=False)
+        error = connection_error(raw, "h")
+        self.assertEqual(
+            (str(error), error.sqlstate),
+            ('connection to server at "h", port 5432 failed: FATAL:  wrong', "28P01"),
+        )
 
     def test_a_file_with_the_connection_string(self) -> None:
         path = self.make_folder() + "/dsn"

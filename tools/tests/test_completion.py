@@ -12,9 +12,10 @@ TOP = """usage: pgsub-connect [-h] COMMAND ...
 
 Carries [all] of it.
 
-positional arguments:
-  COMMAND
+Commands:
+  every day
     follow    follow into a store: "it's"
+  to repair
     names     tell names
 
 options:

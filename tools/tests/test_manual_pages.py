@@ -38,9 +38,10 @@ ARGPARSE = """usage: pgsub-connect [-h] COMMAND ...
 
 Carries. It says \\ and 'so'.
 
-positional arguments:
-  COMMAND
+Commands:
+  every day
     follow    follow into a store
+  to repair
     names     tell names
 
 options:

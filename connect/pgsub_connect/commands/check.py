@@ -82,6 +82,8 @@ def print_results(options: Options, check: Check = never) -> int:
         json.dump([dataclasses.asdict(it) for it in found], sys.stdout, indent=1)
         sys.stdout.write("\n")
     else:
-        sys.stdout.writelines(f"{it.level} {it.name}: {escaped(it.text)}\n" for it in found)
+        for it in found:
+            text = "\n  ".join(map(escaped, it.text.split("\n")))
+            sys.stdout.write(f"{it.level} {it.name}: {text}\n")
     sys.stdout.flush()
     return 4 if any(it.level == ERROR for it in found) else 0

@@ -78,7 +78,7 @@ class FilterLife:
                 self.progress.note_restart(str(ended))
             delay = OPENED_AFTER[min(tried, len(OPENED_AFTER) - 1)]
             log.warning(
-                f"the store can't be opened now: it is tried again in {counted(delay, 'second')}"
+                f"the store can't be opened now, as where another program has it open: it is tried again in {counted(delay, 'second')}"
             )
             self.sleep(delay)
         raise AssertionError

@@ -4,8 +4,10 @@ them."""
 from __future__ import annotations
 
 import contextlib
+import difflib
 import ipaddress
 import os
+import re
 import socket
 import threading
 import time
@@ -42,9 +44,19 @@ def parameters(dsn: str) -> dict[str, str]:
         return {"dbname": dsn}
     try:
         return {name: str(value) for name, value in conninfo_to_dict(dsn).items()}
-    except psycopg.ProgrammingError:
-        # (libpq's own text may have a part of a password in it)
-        raise ServerError("the connection string is not one of libpq's", "22023") from None
+    except psycopg.ProgrammingError as error:
+        text = f"the connection string is not one of libpq's{mistyped(str(error))}"
+        raise ServerError(text, "22023") from None
+
+
+def mistyped(said: str) -> str:
+    """Which parameter isn't one, as libpq has said, where it is like another one: what else libpq
+    says may have a part of a password in it."""
+    names = [it.keyword.decode() for it in pq.Conninfo.get_defaults()]
+    for word in re.findall('"([^"]*)"', said):
+        if close := difflib.get_close_matches(word, names, 1):
+            return f": {word} is no parameter: did you mean {close[0]}?"
+    return ""
 
 
 def hosts_of(settings: dict[str, str]) -> list[dict[str, str]]:

@@ -95,4 +95,6 @@ def connection_error(raw: pq.abc.PGconn, host: str) -> Unconnected:
     said = said_text(raw.error_message)
     found = CODE.search(said)
     text = CODE.sub(":  ", PLACE_IN_SOURCE.sub("", said)) or f"{host}: can't connect"
+    # (it is the same with TLS and without)
+    text = "\n".join(dict.fromkeys(text.split("\n")))
     return Unconnected(text, found[1] if found else "28P01" if raw.needs_password else "")

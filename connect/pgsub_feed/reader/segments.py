@@ -36,7 +36,9 @@ def segments(folder: str) -> list[tuple[int, str]]:
     try:
         return sorted((int(it, 16), it) for it in os.listdir(folder) if NAME.fullmatch(it))
     except FileNotFoundError:
-        raise FileError(f"there is no feed {folder}") from None
+        raise FileError(
+            f"there is no feed {folder}: start `pgsub-connect follow` with --feed {folder}"
+        ) from None
     except OSError as error:
         raise FileError(f"{folder}: {error.strerror}") from None
 

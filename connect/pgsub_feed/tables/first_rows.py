@@ -153,7 +153,9 @@ def head_of(reading: Reading, check: Check) -> Head:
         while poll.next() is None and reader.head is None and reading.follows:
             poll.rest()
         if reader.head is None:
-            raise Passing(f"{reading.feed}: the feed has no segment yet")
+            raise Passing(
+                f"{reading.feed}: the feed has no segment yet: is it the --feed of a follower?"
+            )
         return reader.head
 
 
