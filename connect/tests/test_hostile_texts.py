@@ -211,6 +211,12 @@ class Files(StoreCase):
             "wal_status": "reserved",
             "found": {"values": "0/1"},
             "tables_error": "x",
+            "tables_missing": "x",
+            "tables_aside": {"t": "since 0/1"},
+            "readers": {"redis": {"lsn": "0/1", "lag_bytes": 5, "still_seconds": 90}},
+            "filter_losses": 3,
+            "store": "s",
+            "connector_version": "0",
             "last_error": "y",
         }
         for text in (*TEXTS, *(it.encode() for it in altered(right))):

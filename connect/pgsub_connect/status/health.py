@@ -92,8 +92,8 @@ def of_parts(status: dict[str, Any]) -> Iterator[Fault]:
     """Of the slot and of the filter."""
     if status.get("wal_status") == "lost":
         yield Fault("the slot is lost", f"`pgsub-connect drop {named(status)}`, and copy anew")
-    if (losses := status.get("filter_losses", 0)) > LOSSES:
-        why = status.get("last_error", "its log tells why")
+    if (losses := status.get("filter_losses") or 0) > LOSSES:
+        why = status.get("last_error") or "its log tells why"
         yield Fault(f"the program `pgsub` has ended {losses} times in ten minutes", why)
 
 
@@ -102,7 +102,7 @@ def of_findings(status: dict[str, Any]) -> Iterator[Fault]:
     if found:
         texts = [
             f"{kind}: {text}: "
-            + CURES.get(kind, COMPARED).format(store=status.get("store", "STORE"), kind=kind)
+            + CURES.get(kind, COMPARED).format(store=status.get("store") or "STORE", kind=kind)
             for kind, text in sorted(found.items())
         ]
         yield Fault(f"found: {', '.join(sorted(found))}", "\n".join(texts))
@@ -140,4 +140,4 @@ def of_readers(status: dict[str, Any]) -> Iterator[Fault]:
 
 def named(status: dict[str, Any]) -> str:
     """The option that names the store."""
-    return f"--store {status.get('store', 'STORE')}"
+    return f"--store {status.get('store') or 'STORE'}"
