@@ -18,6 +18,7 @@ from pgsub_connect.server.catalog import Table
 from pgsub_connect.store.export import ExportSettings, export_store
 from pgsub_feed import relation
 from pgsub_feed.errors import FileError, Unfit
+from pgsub_feed.formats.lines import ByName, compact
 from pgsub_feed.interruption import never
 from pgsub_feed.tables.file import Rows
 from pgsub_feed.tables.floats import stored_numeric
@@ -478,6 +479,21 @@ class Verified(VerifyCase):
         self.run_it(numeric=AS_REAL)
         self.fails(Unfit, "by --numeric real .* hasn't the exact values of b")
         self.equal(chosen=["stock"])
+
+
+class Printed(unittest.TestCase):
+    def test_json_has_what_it_has_numbers_for(self) -> None:
+        """Numerics stay exact texts, whatever tables have; infinities are texts, too."""
+        columns = [
+            relation.Column("a", NUMERIC, modifier(10, 2), False),
+            relation.Column("b", NUMERIC, -1, False),
+            *(relation.Column(name, 701, -1, False) for name in "cde"),
+        ]
+        told = relation.Relation(1, "public", "t", relation.Shape("f", tuple(columns)))
+        row = ByName(lambda _: True).row(told, ["1.50", "NaN", "Infinity", "-Infinity", "0.5"])
+        self.assertEqual(
+            compact(row), b'{"a":"1.50","b":"NaN","c":"Infinity","d":"-Infinity","e":0.5}\n'
+        )
 
 
 class Loaded(TablesCase):

@@ -16,7 +16,7 @@ from .wire import NULL, UNSENT, Column, Definition, text
 
 # types of which each number is a value, and a type that isn't known
 NUMBERS, TEXTS = (20, 21, 23, 25, 700, 701, 1043, 1700, 99999), (25, 1043, 99999)
-INTEGERS, FLOATS = (20, 21, 23), (700, 701)
+INTEGERS, FLOATS, NUMERIC = (20, 21, 23), (700, 701), 1700
 NAMES = [it for it in history.NAMES if it not in (b"", b"A")]
 
 
@@ -217,11 +217,18 @@ class Feeding(Reader):
         self.trial_missed += [line.definition.oid for line in lines if line.op == "x"]
 
 
-def value_of(type_oid, cell):
-    """A cell as SQLite has it."""
-    if cell is None:
-        return None
-    return int(cell) if type_oid in INTEGERS else float(cell) if type_oid in FLOATS else cell
+def values_of(type_oid, modifier, cell):
+    """A cell as SQLite has it: a numeric without limits is a number and a text."""
+    is_number = type_oid in FLOATS or type_oid == NUMERIC
+    read = int if type_oid in INTEGERS else float if is_number else str
+    value = None if cell is None else read(cell)
+    return (value, cell) if type_oid == NUMERIC and modifier < 4 else (value,)
+
+
+def told_row(types, cells):
+    """A row of columns with these types and modifiers."""
+    values = [values_of(*kind, cell) for kind, cell in zip(types, cells)]
+    return tuple(it for several in values for it in several) or (None,)
 
 
 def rows_in(tables):
@@ -230,11 +237,8 @@ def rows_in(tables):
     for oid, (definition, rows) in tables.items():
         counted = Counter()
         for cells, copies in rows.values():
-            values = [
-                value_of(column.type_oid, cell_of(cell))
-                for column, cell in zip(definition.columns, cells)
-            ]
-            counted[tuple(values) or (None,)] += copies
+            types = [(it.type_oid, it.modifier) for it in definition.columns]
+            counted[told_row(types, map(cell_of, cells))] += copies
         found[oid] = counted
     return found
 
@@ -244,10 +248,10 @@ def replayed(folder):
     state = feed_replay.replay(folder)
     found = {}
     for oid, rows in state.rows.items():
-        types = [it[1] for it in state.definitions[oid]["columns"]]
+        types = [it[1:] for it in state.definitions[oid]["columns"]]
         found[oid] = Counter()
         for row, copies in (+rows).items():
-            found[oid][tuple(map(value_of, types, row)) or (None,)] += copies
+            found[oid][told_row(types, row)] += copies
     return state.at, found
 
 
