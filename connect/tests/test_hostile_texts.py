@@ -214,6 +214,7 @@ class Files(StoreCase):
             "tables_missing": "x",
             "tables_aside": {"t": "since 0/1"},
             "readers": {"redis": {"lsn": "0/1", "lag_bytes": 5, "still_seconds": 90}},
+            "sinks": {"redis://h": "ended"},
             "filter_losses": 3,
             "store": "s",
             "connector_version": "0",

@@ -153,6 +153,12 @@ class Probes(unittest.TestCase):
                 else:
                     self.assertEqual(self.probe()[0], 0, lsns)
 
+    def test_sinks_beside_the_follower(self) -> None:
+        for wrong, code in (("begins", 0), ("", 0), ("ended: no such user", 1)):
+            self.progress.feed.note_sink("redis://h/1", wrong)
+            self.assertEqual(self.probe()[0], code, wrong)
+        self.fails("the sink redis://h/1 doesn't write", ": ended: no such user; its log")
+
     def test_a_filter_that_is_lost_again_and_again(self) -> None:
         now = time.time()
         for at, code in ((now, 0), (now + 5, 0), (now + 10, 1), (now + 606, 0)):

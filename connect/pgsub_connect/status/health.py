@@ -10,7 +10,7 @@ from pgsub_feed.texts import counted
 
 # Of which kind the fields are that are looked at.
 KINDS: dict[str, Callable[[Any], object]] = {
-    **dict.fromkeys(("found", "tables_aside", "readers", "adding"), json_texts.object_of),
+    **dict.fromkeys(("found", "tables_aside", "readers", "sinks", "adding"), json_texts.object_of),
     **dict.fromkeys(("lag_bytes", "filter_losses", "copied_rows"), json_texts.whole_of),
     **dict.fromkeys(("lag_seconds", "changes_per_second"), json_texts.number_of),
     **dict.fromkeys(
@@ -126,7 +126,11 @@ def of_tables(status: dict[str, Any]) -> Iterator[Fault]:
 
 
 def of_readers(status: dict[str, Any]) -> Iterator[Fault]:
-    """Of those that read the feed."""
+    """Of those that read the feed, and of the sinks that the follower runs."""
+    for name, wrong in sorted((status.get("sinks") or {}).items()):
+        # (each begins with that)
+        if wrong and wrong != "begins":
+            yield Fault(f"the sink {name} doesn't write", f"{wrong}; its log tells more")
     for name, said in sorted((status.get("readers") or {}).items()):
         reader = json_texts.object_of(said)
         lag = json_texts.whole_of(reader.get("lag_bytes"))
