@@ -81,6 +81,25 @@ class Hashes(KeysCase):
         self.assertEqual(self.rows(update(["1", "a"], ["1", "b"], of=CODED)), stock(("1", "b")))
         self.assertEqual(self.rows(delete("1", "b", of=CODED)), {})
 
+    def test_of_an_index_alone(self) -> None:
+        """The server has no primary key, or none any more: the identity tells the key, as it does
+        of rows of an export."""
+        self.look("id", letter="i")
+        self.rows(insert("1", "a", of=CODED), insert("2", "b", of=CODED))
+        self.look(letter="i")
+        found = {"stock:a": {"id": "1", "name": "a"}, "stock:c": {"id": "1", "name": "c"}}
+        changes = insert("1", "c", of=CODED), delete("2", "b", of=CODED)
+        self.assertEqual(self.rows(*changes), found)
+        self.server.data.clear()
+        store = Store(self.store, 0x500)
+        self.addCleanup(store.close)
+        store.table(1, "stock", [(0, "id", 23, -1), (1, "name", 25, -1)], letter="i")
+        store.row(1, "1", "a", key=1)
+        self.feed.path.unlink()
+        self.feed, self.at = Writer(self.path, 0x500), 0x500
+        self.run_it(store=self.store)
+        self.assertEqual(self.rows(insert("1", "c", of=CODED)), found)
+
     def test_without_a_store(self) -> None:
         """The table is left out, and what is there keeps the key that it has."""
         self.rows(put("1", "a"))

@@ -175,6 +175,9 @@ class Relations:
         lacks = lacking(found or (), relation)
         if found and not lacks:
             return other_key(relation, found)
+        if found == () and relation.shape.identity == "i":
+            # (the index of the identity is a key, too, and the stream tells it)
+            return ()
         if found is not None and found != has:
             text = lacks or "there is no primary key on the server any more"
             self.tell(relation, text, text + (f": {', '.join(has)} stays the key" if has else ""))
