@@ -362,6 +362,16 @@ class FromStore(KeysCase):
         self.run_it()
         self.assertEqual((self.rows("SELECT * FROM stock"), self.key()), ([(3, "c")], ["id"]))
 
+    def test_gets_one_that_an_export_had_not(self) -> None:
+        """Since then the follower has looked at the server."""
+        base = self.exported()
+        self.look("id")
+        self.run_it(base=base)
+        self.assertEqual(self.key(), [])
+        self.take(change(["2", None], ["3", "c"]), gone("1", "a"))
+        self.run_it()
+        self.assertEqual((self.rows("SELECT * FROM stock"), self.key()), ([(3, "c")], ["id"]))
+
     def test_keeps_that_of_an_export_where_there_is_no_store(self) -> None:
         self.look("id")
         base = self.exported()

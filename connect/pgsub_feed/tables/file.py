@@ -112,6 +112,7 @@ class Rows:
             ).fetchone()
         )
         self.kept[relation.oid] = kept
+        self.keys.loaded(relation, primary)
         if not name.startswith(OLDER):
             self.hold(kept)
 

@@ -47,6 +47,11 @@ class Keys:
             self.unsure[relation.oid] = known
         return None if known is None else key
 
+    def loaded(self, relation: Relation, primary: tuple[str, ...]) -> None:
+        """A table is there, with this key: without one it may get one."""
+        if relation.shape.identity in OTHER and not primary:
+            self.unsure[relation.oid] = ()
+
     def has_news(self, relation: Relation) -> bool:
         """Whether the store knows another key by now of a table that was made without one."""
         if self.store is None or relation.oid not in self.unsure:
