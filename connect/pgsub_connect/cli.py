@@ -1,8 +1,5 @@
 """Which subcommand a command line asks for."""
 
-from __future__ import annotations
-
-import argparse
 import dataclasses
 import importlib
 import sys

@@ -1,7 +1,5 @@
 """Why the connector ends, or tries again."""
 
-from __future__ import annotations
-
 import contextlib
 import struct
 from collections.abc import Iterator

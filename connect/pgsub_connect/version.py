@@ -1,7 +1,5 @@
 """Whether a program is of the same build as this connector: a checkout's takes any."""
 
-from __future__ import annotations
-
 import os
 import shutil
 

@@ -5,8 +5,6 @@
 are texts of commits, which `command` prints. `errors` says why something ends.
 """
 
-from __future__ import annotations
-
 import importlib
 from typing import TYPE_CHECKING, Any
 

@@ -1,7 +1,5 @@
 """Words of command lines."""
 
-from __future__ import annotations
-
 import argparse
 import os
 import re

@@ -1,7 +1,5 @@
 """Commits of a feed and their changes, for programs that read one."""
 
-from __future__ import annotations
-
 import dataclasses
 import datetime
 from collections.abc import Iterator, Mapping

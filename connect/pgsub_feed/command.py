@@ -1,7 +1,5 @@
 """`pgsub-feed`: prints what a feed has, for people and for other programs."""
 
-from __future__ import annotations
-
 import contextlib
 import dataclasses
 import re

@@ -1,7 +1,5 @@
 """What a program of one's own reads a feed with."""
 
-from __future__ import annotations
-
 import contextlib
 import datetime
 import os

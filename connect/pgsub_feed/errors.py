@@ -1,7 +1,5 @@
 """Why a program that reads a feed ends, or tries again."""
 
-from __future__ import annotations
-
 # Exit statuses.
 REJECTED, USAGE, FILE, SERVER, UNFIT, BUG, PASSING = 1, 2, 3, 4, 5, 6, 7
 

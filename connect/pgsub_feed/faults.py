@@ -1,7 +1,5 @@
 """What is wrong with a feed that can't be read."""
 
-from __future__ import annotations
-
 from .errors import FileError
 
 NAMES = {

@@ -1,7 +1,5 @@
 """Files that appear as a whole, whatever ends the process or the machine meanwhile."""
 
-from __future__ import annotations
-
 import contextlib
 import os
 import re

@@ -1,8 +1,6 @@
 """The form of a command's help: a short usage, the options first that most people want, and which
 name somebody may have meant by another one."""
 
-from __future__ import annotations
-
 import argparse
 import difflib
 import sys

@@ -5,8 +5,6 @@ library waits nobody looks at the note: there the signal itself ends the call, w
 call was at. So it is for connections alone that aren't used afterwards.
 """
 
-from __future__ import annotations
-
 import contextlib
 import signal
 import threading

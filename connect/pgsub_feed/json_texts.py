@@ -3,8 +3,6 @@
 Whatever it is, what comes of it is a value of the kind that was asked for, or an `Unreadable`.
 """
 
-from __future__ import annotations
-
 import json
 import math
 import os

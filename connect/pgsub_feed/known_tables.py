@@ -4,8 +4,6 @@ primary keys and indexes, as its follower has seen them in the catalog at its la
 They are in the first line of the file `STORE.tables`, which the follower replaces.
 """
 
-from __future__ import annotations
-
 import os
 import time
 from typing import Any, NamedTuple

@@ -1,8 +1,6 @@
 """The lines on standard error: `2026-11-25T09:00:00Z pgsub-connect: warning: text`, with one of the
 levels info, warning and error. A terminal gets colours, unless NO_COLOR is set."""
 
-from __future__ import annotations
-
 import contextlib
 import os
 import sys

@@ -1,8 +1,6 @@
 """How far long work is: a line that is drawn again and again on a terminal, and elsewhere a line of
 the log each half minute. Both go to standard error."""
 
-from __future__ import annotations
-
 import time
 
 from . import log

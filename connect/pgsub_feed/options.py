@@ -6,8 +6,6 @@
 A word with no value beside it is a flag; one without dashes is known by its place.
 """
 
-from __future__ import annotations
-
 import dataclasses
 from collections.abc import Callable, Sequence
 from typing import Any

@@ -5,8 +5,6 @@ open file. A link may lead anywhere: links are resolved here as the kernel does 
 (`fs.protected_symlinks`), since what is resolved in a program isn't looked at by the kernel.
 """
 
-from __future__ import annotations
-
 import contextlib
 import os
 import stat

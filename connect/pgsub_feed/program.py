@@ -1,7 +1,5 @@
 """How a program ends: by signals that ask for it, and by errors that are told."""
 
-from __future__ import annotations
-
 import errno
 import os
 import signal

@@ -1,7 +1,5 @@
 """Values of a feed as Python's: numbers, dates and the like in place of texts, by the type's OID."""
 
-from __future__ import annotations
-
 import datetime
 import decimal
 import uuid

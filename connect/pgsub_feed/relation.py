@@ -1,7 +1,5 @@
 """What a Relation message says of a table, as a feed has it in each commit."""
 
-from __future__ import annotations
-
 import dataclasses
 from typing import NamedTuple
 

@@ -1,7 +1,5 @@
 """LSNs, SQL names, the text of values, and texts of the command line."""
 
-from __future__ import annotations
-
 # How many characters of a text of somebody else are kept, wherever it is shown.
 LONGEST = 2000
 # The settings of a session on which the text of a value depends: those of PostgreSQL's own

@@ -5,8 +5,6 @@ its value on each line, `version`, `commit`, `kit`, and `program`, the SHA-256 s
 checkout has none, nor has a wheel.
 """
 
-from __future__ import annotations
-
 import os
 
 from . import log

@@ -1,7 +1,5 @@
 """What `add.adder` asks of the stream, and which tables it can't add."""
 
-from __future__ import annotations
-
 from typing import Protocol
 
 from pgsub_feed.interruption import Check

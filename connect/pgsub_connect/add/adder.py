@@ -19,8 +19,6 @@ out, and that is a finding. One that isn't published any more is no longer added
 to go, the transaction has none.
 """
 
-from __future__ import annotations
-
 import collections
 import time
 from typing import Any

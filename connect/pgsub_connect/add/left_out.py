@@ -1,8 +1,6 @@
 """Which tables' changes are left out of the stream: the checkpoint has those that are added next,
 each with the LSN at which its rows are stored, and the initial copy has left others for later."""
 
-from __future__ import annotations
-
 from ..drift.remembered import Remembered
 from ..store.checkpoint import Checkpoint
 from .replacement import Leaving

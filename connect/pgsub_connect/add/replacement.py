@@ -82,8 +82,6 @@ rows' transaction loses it as a whole. One that is to end behind it may be lost 
 is noted of that, since each next session describes the tables anew.
 """
 
-from __future__ import annotations
-
 import struct
 from collections.abc import Sequence
 

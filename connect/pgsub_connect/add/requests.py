@@ -1,7 +1,5 @@
 """What is asked of a follower: which tables to add, and of which ones the rows are to go."""
 
-from __future__ import annotations
-
 import contextlib
 from typing import Any
 

@@ -1,8 +1,6 @@
 """The table whose turn it is to be added: its definition, its rows at the LSN of a slot, and what
 passes these on within the stream."""
 
-from __future__ import annotations
-
 import time
 from collections.abc import Callable, Iterable
 

@@ -5,8 +5,6 @@ What is wanted is noted in `STORE.tables`: by the follower, which is asked for i
 here, where none runs. The follower goes on with it whatever becomes of who asked.
 """
 
-from __future__ import annotations
-
 import contextlib
 import dataclasses
 import os

@@ -1,7 +1,5 @@
 """The store beside a feed, for who follows that."""
 
-from __future__ import annotations
-
 import dataclasses
 from collections.abc import Collection
 

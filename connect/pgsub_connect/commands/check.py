@@ -1,7 +1,5 @@
 """`pgsub-connect check`: each precondition on the server, told without changing anything."""
 
-from __future__ import annotations
-
 import argparse
 import dataclasses
 import json

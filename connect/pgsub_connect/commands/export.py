@@ -1,7 +1,5 @@
 """`pgsub-connect export`: ordinary tables of SQLite from the rows of a store."""
 
-from __future__ import annotations
-
 import dataclasses
 from collections.abc import Sequence
 

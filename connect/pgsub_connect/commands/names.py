@@ -1,7 +1,5 @@
 """`pgsub-connect names`: which OID each name of a table has now, and which ones had it before."""
 
-from __future__ import annotations
-
 import dataclasses
 
 from pgsub_feed.options import option

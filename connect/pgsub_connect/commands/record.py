@@ -1,7 +1,5 @@
 """`pgsub-connect record`: only records a session."""
 
-from __future__ import annotations
-
 import argparse
 import dataclasses
 

@@ -12,8 +12,6 @@ changed since, and what was found and not accepted. Of the server only the catal
 | `other` | what is of no one published table | nothing |
 """
 
-from __future__ import annotations
-
 import dataclasses
 import json
 from typing import NamedTuple

@@ -1,7 +1,5 @@
 """`pgsub-connect sink`: a feed's commits, written to Redis or to NATS JetStream, each once."""
 
-from __future__ import annotations
-
 import argparse
 import dataclasses
 import os

@@ -1,7 +1,5 @@
 """`pgsub-connect snapshot`: a copy of a store in one file, which `pgsub dump` and `export` read."""
 
-from __future__ import annotations
-
 import dataclasses
 import os
 import sqlite3

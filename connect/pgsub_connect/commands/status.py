@@ -1,7 +1,5 @@
 """`pgsub-connect status`: a probe that reads the status file of a follower."""
 
-from __future__ import annotations
-
 import argparse
 import calendar
 import contextlib

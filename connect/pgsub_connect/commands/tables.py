@@ -1,8 +1,6 @@
 """`pgsub-connect tables`: ordinary tables of SQLite that follow a feed, with the LSN in the same
 transaction."""
 
-from __future__ import annotations
-
 import argparse
 import dataclasses
 import os

@@ -1,8 +1,6 @@
 """`pgsub-connect verify`: compares the copy of a running follower with its server, or tables that
 follow a feed with the server or another such file."""
 
-from __future__ import annotations
-
 import argparse
 import dataclasses
 import sqlite3

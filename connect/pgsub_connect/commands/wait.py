@@ -4,8 +4,6 @@ The follower that keeps the tables tells it. Where they follow the feed by thems
 follower runs, file and feed are looked at again and again.
 """
 
-from __future__ import annotations
-
 import contextlib
 import dataclasses
 import os

@@ -5,8 +5,6 @@ made as a copy at once. Nobody follows that one as long as rows are copied, so i
 and then.
 """
 
-from __future__ import annotations
-
 import contextlib
 import select
 import time

@@ -1,7 +1,5 @@
 """The files of an initial copy: under names of their own, until all rows are in them."""
 
-from __future__ import annotations
-
 import contextlib
 import os
 from collections.abc import Iterator

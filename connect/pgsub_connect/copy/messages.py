@@ -6,8 +6,6 @@ than all else. Within a line only the server's own tabs and newlines are tabs an
 values come as `\\t` and `\\n`.
 """
 
-from __future__ import annotations
-
 import re
 import struct
 from collections.abc import Sequence

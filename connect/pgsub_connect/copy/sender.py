@@ -1,8 +1,6 @@
 """Passes the rows of a copy on to the filter, each part of them as a transaction: their LSNs are 1,
 2, 3 .., and the last one, which is empty, ends at the slot's consistent point."""
 
-from __future__ import annotations
-
 from collections.abc import Callable
 
 from ..stream.filter import Filter

@@ -1,7 +1,5 @@
 """Makes slots, and drops those that were just made."""
 
-from __future__ import annotations
-
 import secrets
 
 from pgsub_feed import log

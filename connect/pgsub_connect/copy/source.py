@@ -4,8 +4,6 @@ Who compares a copy with it reads them so, and who adds a table. The slot is a t
 goes as soon as its snapshot is taken.
 """
 
-from __future__ import annotations
-
 import contextlib
 import time
 from collections.abc import Iterable, Mapping

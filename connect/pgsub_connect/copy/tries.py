@@ -1,7 +1,5 @@
 """What ends attempts to copy, and when another one begins."""
 
-from __future__ import annotations
-
 import collections
 
 from pgsub_feed.errors import Passing

@@ -7,8 +7,6 @@ snapshot has, and pg_relation_filenode which one is there now. What was done bef
 was taken changes nothing of it, such as a load that truncates a table while a slot is made.
 """
 
-from __future__ import annotations
-
 from collections.abc import Callable
 
 from pgsub_feed.texts import literal

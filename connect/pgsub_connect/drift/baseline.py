@@ -1,8 +1,6 @@
 """What a server is compared with: what is remembered of the publications that are followed, and what
 was found by it."""
 
-from __future__ import annotations
-
 import dataclasses
 from typing import Any
 

@@ -1,7 +1,5 @@
 """A reading of a server's catalog, and Relation messages, as the file of tables has them in JSON."""
 
-from __future__ import annotations
-
 import dataclasses
 import json
 from typing import Any

@@ -10,8 +10,6 @@ Each difference has the kind of fault that it may be in the copy:
 | `values` | values in rows that were there before were changed by a command that isn't in the stream |
 """
 
-from __future__ import annotations
-
 import itertools
 import re
 from collections.abc import Iterable, Iterator

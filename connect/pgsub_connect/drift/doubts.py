@@ -15,8 +15,6 @@ What can't be asked, or takes too long, stays in doubt, and so it is told: a rig
 missing, or the table be large. Nothing is passed on meanwhile.
 """
 
-from __future__ import annotations
-
 import contextlib
 import dataclasses
 import time

@@ -1,8 +1,6 @@
 """A file that is replaced as a whole, and to which lines are added in between: whoever reads it finds
 what the disk has."""
 
-from __future__ import annotations
-
 import contextlib
 import os
 

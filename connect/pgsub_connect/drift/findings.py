@@ -4,8 +4,6 @@ Tables whose rows are missing or wrong are copied anew by what is kept of them, 
 of each table is.
 """
 
-from __future__ import annotations
-
 import dataclasses
 from collections.abc import Callable, Iterable
 from typing import Any, NamedTuple

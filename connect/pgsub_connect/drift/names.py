@@ -1,7 +1,5 @@
 """Which table has each name, and which ones had it before."""
 
-from __future__ import annotations
-
 import dataclasses
 from collections.abc import Callable
 from typing import Any

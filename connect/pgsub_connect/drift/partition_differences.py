@@ -1,7 +1,5 @@
 """What has changed between two readings of the partitions whose rows are sent under another name."""
 
-from __future__ import annotations
-
 from collections.abc import Iterator
 
 from ..server.catalog import Catalog

@@ -1,7 +1,5 @@
 """What is still to be done: which tables' rows are to come or go, and what isn't on the disk yet."""
 
-from __future__ import annotations
-
 import contextlib
 from collections.abc import Iterable, Iterator
 from typing import Any

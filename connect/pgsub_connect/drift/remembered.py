@@ -7,8 +7,6 @@ so that costs by what is new, and not by all tables. A last line that isn't comp
 synced. So a reader (`pgsub-connect names`) may look at it at any time.
 """
 
-from __future__ import annotations
-
 import contextlib
 import json
 from collections.abc import Iterable

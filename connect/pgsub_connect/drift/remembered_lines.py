@@ -27,8 +27,6 @@ What another program has written there is rejected before anything is taken from
 only later versions have are left to these; those that earlier ones hadn't may be missing.
 """
 
-from __future__ import annotations
-
 from collections.abc import Callable
 from typing import Any
 

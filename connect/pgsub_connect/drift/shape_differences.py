@@ -1,7 +1,5 @@
 """What has changed between two Relation messages of a table, and between two readings of a type."""
 
-from __future__ import annotations
-
 from collections.abc import Iterator
 
 from pgsub_feed.relation import Column, Shape

@@ -4,8 +4,6 @@ and no look finds it.
 The copy lacks it, or has it as it was, from the beginning: so these are no findings.
 """
 
-from __future__ import annotations
-
 from collections.abc import Iterator
 
 from ..errors import understood

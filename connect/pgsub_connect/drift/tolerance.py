@@ -1,7 +1,5 @@
 """Which findings are taken as they are, and whether another one ends the run."""
 
-from __future__ import annotations
-
 from collections.abc import Iterable
 
 

@@ -9,8 +9,6 @@ it, as where somebody asks for that, without being asked.
 | its rows can't be added | told, until something else is found of it |
 """
 
-from __future__ import annotations
-
 import time
 
 from pgsub_feed import log

@@ -1,8 +1,6 @@
 """Watches for what may make the copy wrong without a word: keeps what was found until somebody
 accepts it, and tells it."""
 
-from __future__ import annotations
-
 import time
 
 from pgsub_feed import log

@@ -1,7 +1,5 @@
 """Whether a run is to end."""
 
-from __future__ import annotations
-
 from pgsub_feed.program import Worker
 
 from ..status.progress import Progress

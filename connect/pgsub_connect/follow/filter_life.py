@@ -1,8 +1,6 @@
 """The filter's life: it is started, serves one session after the other, and ends; what its end
 means."""
 
-from __future__ import annotations
-
 import contextlib
 import functools
 import itertools

@@ -6,8 +6,6 @@ Unfit. A history or a slot that doesn't fit is a finding, too. The position is e
 the store: the end of its last commit.
 """
 
-from __future__ import annotations
-
 from pgsub_feed import log
 from pgsub_feed.errors import Unfit
 from pgsub_feed.interruption import Check

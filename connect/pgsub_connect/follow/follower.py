@@ -1,7 +1,5 @@
 """Follows a server: sessions one after the other, with the filter kept alive between them."""
 
-from __future__ import annotations
-
 import time
 
 from pgsub_feed import log

@@ -9,8 +9,6 @@ lets it read, may wait. It gets at most so many connections at once, and lines o
 that the others' requests come through.
 """
 
-from __future__ import annotations
-
 import collections
 import os
 import select

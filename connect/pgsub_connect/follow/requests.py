@@ -1,8 +1,6 @@
 """What others ask of a running follower: copies of its store for readers, tables to be added, rows
 to be repaired."""
 
-from __future__ import annotations
-
 import contextlib
 
 from pgsub_feed.errors import Stopped

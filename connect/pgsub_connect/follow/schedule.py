@@ -1,8 +1,6 @@
 """What is due at which time: how long a session waits for what comes, when it repeats a status,
 and when the next one begins."""
 
-from __future__ import annotations
-
 import time
 
 from ..errors import ServerError

@@ -1,8 +1,6 @@
 """Asks the server beside the session: where its log ends, how long the slot is safe, whether
 commits wait for the follower, and whether a standby was promoted."""
 
-from __future__ import annotations
-
 import threading
 import time
 

@@ -1,8 +1,6 @@
 """One session after the other: passes on what comes, and the filter's statuses, from its start to
 its end on either side."""
 
-from __future__ import annotations
-
 import time
 
 from pgsub_feed import log

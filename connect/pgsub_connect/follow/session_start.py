@@ -1,7 +1,5 @@
 """Begins a session: logs in, has store and slot fit together, and asks for the changes."""
 
-from __future__ import annotations
-
 from typing import Protocol
 
 from pgsub_feed import log

@@ -1,7 +1,5 @@
 """What a follower is told of how it follows."""
 
-from __future__ import annotations
-
 import dataclasses
 
 from ..stream.memory_limit import BufferLimits

@@ -1,8 +1,6 @@
 """The sinks that `follow --sink` runs: `pgsub-connect sink` as a process for each beside the
 follower, from whose feed it reads."""
 
-from __future__ import annotations
-
 import dataclasses
 import urllib.parse
 

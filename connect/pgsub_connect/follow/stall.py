@@ -8,8 +8,6 @@ neither its processor time nor its input and output moves, is waited for without
 that is at a long commit moves one of them.
 """
 
-from __future__ import annotations
-
 import contextlib
 import time
 

@@ -1,7 +1,5 @@
 """In which form the server is asked for the stream."""
 
-from __future__ import annotations
-
 from collections.abc import Sequence
 
 from pgsub_feed import log

@@ -1,7 +1,5 @@
 """Keeps the server and the filter content while something else is waited for, or takes long."""
 
-from __future__ import annotations
-
 import contextlib
 import time
 

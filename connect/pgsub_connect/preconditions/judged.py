@@ -1,7 +1,5 @@
 """All preconditions of a server, and those that end a start before anything is made there."""
 
-from __future__ import annotations
-
 from collections.abc import Callable
 
 from pgsub_feed.errors import UsageError

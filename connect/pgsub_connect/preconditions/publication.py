@@ -1,7 +1,5 @@
 """The publications that are there, and those that are to be made."""
 
-from __future__ import annotations
-
 from pgsub_feed.texts import counted
 
 from ..server.preflight import Facts

@@ -1,7 +1,5 @@
 """One precondition, and what the server is to be used for."""
 
-from __future__ import annotations
-
 import dataclasses
 from collections.abc import Iterator
 

@@ -1,7 +1,5 @@
 """What the role may do."""
 
-from __future__ import annotations
-
 from pgsub_feed.texts import counted
 
 from ..server.preflight import Facts

@@ -1,7 +1,5 @@
 """The server: its version, its settings, and how it is reached."""
 
-from __future__ import annotations
-
 from ..server.preflight import Facts
 from ..server.publication_setup import names_of
 from ..server.transport import CURE

@@ -1,7 +1,5 @@
 """The slot, and how long it keeps the server's log."""
 
-from __future__ import annotations
-
 from ..server.preflight import Facts
 from .result import ERROR, OK, WARNING, Judged, Purpose, Result, number
 

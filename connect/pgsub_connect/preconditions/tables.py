@@ -1,7 +1,5 @@
 """The tables: their replica identities, and the locks that a copy of them takes."""
 
-from __future__ import annotations
-
 from pgsub_feed.texts import counted
 
 from ..server.preflight import Facts

@@ -1,7 +1,5 @@
 """Records one session, without a filter."""
 
-from __future__ import annotations
-
 import dataclasses
 import select
 import struct

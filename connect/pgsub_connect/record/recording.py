@@ -1,7 +1,5 @@
 """A recording (`.pgx`): the bytes of sessions in hexadecimal, a frame per line."""
 
-from __future__ import annotations
-
 import dataclasses
 import os
 import stat

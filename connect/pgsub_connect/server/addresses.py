@@ -1,8 +1,6 @@
 """Where a connection goes: the settings of a DSN, its hosts and their addresses, as libpq takes
 them."""
 
-from __future__ import annotations
-
 import contextlib
 import difflib
 import ipaddress

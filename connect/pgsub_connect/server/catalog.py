@@ -1,8 +1,6 @@
 """What a server has of the publications that are followed: their options, tables and partitions, at
 one moment."""
 
-from __future__ import annotations
-
 import dataclasses
 from typing import NamedTuple
 

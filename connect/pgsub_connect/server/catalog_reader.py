@@ -1,8 +1,6 @@
 """Reads a server's catalog of the publications that are followed, with a number of queries that
 doesn't depend on that of the tables."""
 
-from __future__ import annotations
-
 import dataclasses
 from collections.abc import Iterator
 

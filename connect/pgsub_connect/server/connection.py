@@ -1,8 +1,6 @@
 """Connections to a server by libpq (psycopg.pq): its passwords, TLS, ~/.pgpass, services and
 environment."""
 
-from __future__ import annotations
-
 import contextlib
 import select
 import threading

@@ -1,7 +1,5 @@
 """Compares what the command line says is published with what a store follows."""
 
-from __future__ import annotations
-
 from pgsub_feed import log
 from pgsub_feed.interruption import Check
 from pgsub_feed.texts import literal

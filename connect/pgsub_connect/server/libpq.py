@@ -1,7 +1,5 @@
 """libpq itself, where psycopg makes its calls by ctypes too: Debian's library."""
 
-from __future__ import annotations
-
 import contextlib
 import ctypes
 from typing import Any

@@ -1,8 +1,6 @@
 """Connecting: to the first host and address that can be reached, without blocking, and judged by how
 it is protected."""
 
-from __future__ import annotations
-
 import re
 import time
 

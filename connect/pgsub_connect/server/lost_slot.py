@@ -1,7 +1,5 @@
 """What is said of a slot that is lost, and of changes that the server can't send."""
 
-from __future__ import annotations
-
 from pgsub_feed.texts import literal, lsn_text
 
 from ..errors import ServerError, understood

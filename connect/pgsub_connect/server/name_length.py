@@ -1,8 +1,6 @@
 """How long a name may be at a server. A longer one of a publication is cut there, so the one that
 was asked for is never there."""
 
-from __future__ import annotations
-
 from collections.abc import Sequence
 
 from pgsub_feed.errors import UsageError

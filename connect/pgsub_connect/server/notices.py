@@ -1,8 +1,6 @@
 """Notices and warnings of a server: they are logged, as far as a minute has room for them, and the
 others counted."""
 
-from __future__ import annotations
-
 import time
 
 from psycopg import pq

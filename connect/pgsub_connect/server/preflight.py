@@ -1,7 +1,5 @@
 """What a server says of all that following it needs. Nothing is changed there."""
 
-from __future__ import annotations
-
 import dataclasses
 import re
 

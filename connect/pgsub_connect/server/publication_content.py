@@ -1,7 +1,5 @@
 """What publications list and leave out, and who else may follow them."""
 
-from __future__ import annotations
-
 from typing import NamedTuple
 
 from pgsub_feed import log

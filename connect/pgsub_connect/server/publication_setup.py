@@ -6,8 +6,6 @@ the table has no replica identity. So each table is looked at in the transaction
 publication, which ends without effect where one is found.
 """
 
-from __future__ import annotations
-
 import dataclasses
 import secrets
 import time

@@ -1,7 +1,5 @@
 """The tables of publications, as they are read."""
 
-from __future__ import annotations
-
 import dataclasses
 from collections.abc import Iterable, Sequence
 

@@ -1,8 +1,6 @@
 """Which tables have no replica identity that serves: from the moment that one is published for
 Updates and Deletes, the server rejects these."""
 
-from __future__ import annotations
-
 from pgsub_feed.texts import identifier, literal
 
 from ..errors import ServerError, understood

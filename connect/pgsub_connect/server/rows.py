@@ -1,8 +1,6 @@
 """The rows of a query as they come, one by one and within a limit, so that no server fills the
 memory."""
 
-from __future__ import annotations
-
 import ctypes
 
 from psycopg import pq

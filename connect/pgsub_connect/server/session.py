@@ -1,7 +1,5 @@
 """What is asked of a server, and the settings of each session."""
 
-from __future__ import annotations
-
 import dataclasses
 import re
 

@@ -1,7 +1,5 @@
 """A replication slot."""
 
-from __future__ import annotations
-
 import dataclasses
 import time
 

@@ -1,7 +1,5 @@
 """What is followed at a server, as a subscription of PostgreSQL names it."""
 
-from __future__ import annotations
-
 import dataclasses
 from collections.abc import Iterable
 

@@ -1,7 +1,5 @@
 """Waits in ticks: between two of them it is looked whether the end was asked for."""
 
-from __future__ import annotations
-
 import select
 
 # How long a wait may go on before that is looked at, in seconds.

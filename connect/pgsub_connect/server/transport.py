@@ -6,8 +6,6 @@ password is sent where that is possible. Once a connection was encrypted, none t
 without a word: not in this process, and by the checkpoint not in a later one.
 """
 
-from __future__ import annotations
-
 import contextlib
 import dataclasses
 import functools

@@ -1,8 +1,6 @@
 """Tells what a new slot or a lock waits for: the server makes a slot once all transactions have
 ended that ran when it was asked for."""
 
-from __future__ import annotations
-
 import time
 from collections.abc import Callable
 

@@ -1,8 +1,6 @@
 """The messages of a session that is copied from and to, as they pass libpq: many, and none of them
 is waited for."""
 
-from __future__ import annotations
-
 import ctypes
 import mmap
 from typing import Protocol

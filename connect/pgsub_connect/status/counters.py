@@ -1,7 +1,5 @@
 """What is counted of the stream, and of an initial copy. All times are in seconds since 1970."""
 
-from __future__ import annotations
-
 import time
 
 from .lag import Lag

@@ -1,7 +1,5 @@
 """What is known of the feed beside a store, its readers, and the tables and sinks that follow it."""
 
-from __future__ import annotations
-
 import time
 
 

@@ -3,8 +3,6 @@
 `STORE.status` is a link to the first one, or that file itself where none is named, and replaced
 less often then: so whoever knows the store finds it."""
 
-from __future__ import annotations
-
 import contextlib
 import dataclasses
 import json

@@ -1,7 +1,5 @@
 """What was found that may have made the copy wrong, and what is done about tables and commits."""
 
-from __future__ import annotations
-
 import dataclasses
 
 

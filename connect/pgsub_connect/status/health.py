@@ -1,7 +1,5 @@
 """What isn't well of a follower by what its status file says, each with what mends it."""
 
-from __future__ import annotations
-
 from collections.abc import Callable, Iterable, Iterator
 from typing import Any, NamedTuple
 

@@ -1,7 +1,5 @@
 """How far the copy is behind the server."""
 
-from __future__ import annotations
-
 import collections
 import threading
 

@@ -1,8 +1,6 @@
 """What a follower shows, in the text format that Prometheus reads (the one of its node_exporter's
 textfile collector)."""
 
-from __future__ import annotations
-
 from collections.abc import Iterator, Mapping
 from typing import NamedTuple
 

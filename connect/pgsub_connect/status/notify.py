@@ -5,8 +5,6 @@ Only the main loop tells that it is alive. Where it stands still, nothing else s
 well, and the manager ends the process after its WatchdogSec.
 """
 
-from __future__ import annotations
-
 import contextlib
 import os
 import socket

@@ -3,8 +3,6 @@
 Whoever sees that something happened tells it to the part that it is about.
 """
 
-from __future__ import annotations
-
 import collections
 import time
 

@@ -1,7 +1,5 @@
 """How a follower is, as people read it: one line, what mends it, and a screen that is drawn again."""
 
-from __future__ import annotations
-
 import sys
 from collections.abc import Iterator, Mapping
 from typing import Any

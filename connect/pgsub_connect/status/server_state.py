@@ -1,7 +1,5 @@
 """What is known of the server: as a session found it, and as it was asked beside that."""
 
-from __future__ import annotations
-
 from ..server.session import waits_for
 
 

@@ -1,7 +1,5 @@
 """The object of `--status-file`."""
 
-from __future__ import annotations
-
 import os
 import time
 

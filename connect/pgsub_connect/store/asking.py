@@ -11,8 +11,6 @@ A file is one in the store's folder that isn't there yet. Each answer may be `er
 place of that. Where one of the two ends, so does the connection, and with it what was asked.
 """
 
-from __future__ import annotations
-
 import collections
 import select
 import socket

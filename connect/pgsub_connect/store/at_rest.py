@@ -1,8 +1,6 @@
 """A store's file at rest, for whoever reads it: where the store is followed, a copy that its
 follower is asked for."""
 
-from __future__ import annotations
-
 import contextlib
 import errno
 import fcntl

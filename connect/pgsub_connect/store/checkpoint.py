@@ -34,8 +34,6 @@ none, they are from the store's position on then.
 | `gap` | two positions, of which the store was found at the second one when they were counted up to the first; until somebody accepts it |
 """
 
-from __future__ import annotations
-
 import contextlib
 import dataclasses
 import fcntl

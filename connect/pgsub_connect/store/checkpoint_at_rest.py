@@ -1,7 +1,5 @@
 """The checkpoint of a store that nobody may follow just now: read without a lock, or kept locked."""
 
-from __future__ import annotations
-
 import contextlib
 import fcntl
 import os

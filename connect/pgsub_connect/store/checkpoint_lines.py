@@ -19,8 +19,6 @@ without a checksum. Both are read, and their lines stay until a line of this ver
 written behind them, is on the disk.
 """
 
-from __future__ import annotations
-
 import dataclasses
 import json
 import os

@@ -1,8 +1,6 @@
 """What a store's file holds: position, definitions and rows. docs/ARCHITECTURE.md describes the
 file."""
 
-from __future__ import annotations
-
 import contextlib
 import dataclasses
 import os

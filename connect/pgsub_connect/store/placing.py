@@ -1,8 +1,6 @@
 """Files that appear as a whole: each is written beside its place, and renamed once the disk has it.
 """
 
-from __future__ import annotations
-
 import contextlib
 import os
 from collections.abc import Callable, Sequence

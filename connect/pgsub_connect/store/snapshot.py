@@ -1,7 +1,5 @@
 """The files of a copy of a store: copied at rest, and made one file of."""
 
-from __future__ import annotations
-
 import contextlib
 import os
 import sqlite3

@@ -11,8 +11,6 @@ which the kernel says (SO_PEERCRED). A program looks at the follower's in the sa
 Requests and answers are objects of JSON, one on each line.
 """
 
-from __future__ import annotations
-
 import contextlib
 import json
 import os

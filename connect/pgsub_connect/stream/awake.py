@@ -5,8 +5,6 @@ caches meanwhile. With a fast disk that is more than a commit takes. So where co
 wait for the follower, it stays awake for a moment, where that was of use before.
 """
 
-from __future__ import annotations
-
 import contextlib
 import os
 import select

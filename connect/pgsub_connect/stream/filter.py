@@ -1,8 +1,6 @@
 """The filter `pgsub follow` as a child: frames go to its standard input, statuses come from its
 standard output."""
 
-from __future__ import annotations
-
 import errno
 import os
 import select

@@ -1,7 +1,5 @@
 """How a filter ends, and what it says of changes that found no row."""
 
-from __future__ import annotations
-
 import re
 from typing import NamedTuple
 

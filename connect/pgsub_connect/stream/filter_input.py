@@ -1,7 +1,5 @@
 """What waits for the pipe to a filter."""
 
-from __future__ import annotations
-
 import collections
 import contextlib
 import fcntl

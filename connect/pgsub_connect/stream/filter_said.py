@@ -1,7 +1,5 @@
 """What a filter says on its standard error."""
 
-from __future__ import annotations
-
 import os
 import select
 from typing import IO

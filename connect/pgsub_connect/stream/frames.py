@@ -1,7 +1,5 @@
 """The frames between the server and the filter: statuses, and the heads of CopyData."""
 
-from __future__ import annotations
-
 import struct
 
 # A status: CopyData, 34 bytes of payload that begin with `r`, and written, flushed, applied, clock

@@ -21,8 +21,6 @@ Commits wait longer here than `MOST` seconds for nothing: whatever the stream is
 up then.
 """
 
-from __future__ import annotations
-
 import contextlib
 import fcntl
 import os

@@ -49,8 +49,6 @@ stream stays held behind `copied`:
 | `repaired` | the follower | these are stored |
 """
 
-from __future__ import annotations
-
 import time
 from collections.abc import Sequence
 

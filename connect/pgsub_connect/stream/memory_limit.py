@@ -1,7 +1,5 @@
 """How much a filter may buffer on this machine."""
 
-from __future__ import annotations
-
 import contextlib
 import dataclasses
 import os

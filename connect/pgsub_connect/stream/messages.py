@@ -4,8 +4,6 @@ PROTOCOL.md has the layouts; the letter is byte 25 of an XLogData, and in a bloc
 made a change or sent a Relation follows it.
 """
 
-from __future__ import annotations
-
 import struct
 
 from pgsub_feed.relation import Column, Relation, Shape

@@ -1,7 +1,5 @@
 """What the Relation messages of the stream say of tables, compared with what is remembered."""
 
-from __future__ import annotations
-
 from collections.abc import Sequence
 
 from pgsub_feed.tables.primary_keys import OTHER

@@ -6,8 +6,6 @@ changes are left out, and its Begin, Commit, Relation, Type and Origin stay: it 
 without changes, with which the store's position moves on.
 """
 
-from __future__ import annotations
-
 from pgsub_feed import log
 from pgsub_feed.texts import lsn_text
 

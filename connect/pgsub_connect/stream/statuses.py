@@ -8,8 +8,6 @@ before that.
 | the same as the one before | at each heartbeat | it is noted by then |
 """
 
-from __future__ import annotations
-
 import dataclasses
 import time
 from collections.abc import Sequence

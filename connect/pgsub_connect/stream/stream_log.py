@@ -1,8 +1,6 @@
 """What is noted of the payloads that are passed on: counts, the ends of commits, and of the
 transactions that are under way which tables their changes touch and how these are described."""
 
-from __future__ import annotations
-
 import collections
 from collections.abc import Sequence
 

@@ -1,8 +1,6 @@
 """What is said of a transaction or a row that was too large for the filter, with the size that it
 had reached and the option to give."""
 
-from __future__ import annotations
-
 from .filter_end import FRAME_TOO_LARGE, SPOOL_FULL, FilterEnded
 from .memory_limit import LONGEST_FRAME, BufferLimits
 

@@ -6,8 +6,6 @@ memory goes by the tables that a transaction changes and by what describes them,
 bytes: tests/test_noting_memory.py says how much that is for each kind of message.
 """
 
-from __future__ import annotations
-
 import collections
 import itertools
 import struct

@@ -6,8 +6,6 @@ and those that differ are printed, a JSON object on each line. A value of more t
 characters is cut, and its length and hash are told.
 """
 
-from __future__ import annotations
-
 import hashlib
 import itertools
 import json

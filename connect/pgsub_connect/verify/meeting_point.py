@@ -1,8 +1,6 @@
 """Brings a server and the copy of a running follower to one LSN, for `pgsub-connect verify`; the
 module `stream.hold` says how."""
 
-from __future__ import annotations
-
 import os
 
 from pgsub_feed.errors import Passing

@@ -17,8 +17,6 @@ the copy; where the copy has it under another definition; where a column list le
 its key, so that several rows have what is left; and where more than a share of its rows differs.
 """
 
-from __future__ import annotations
-
 import collections
 import os
 import struct

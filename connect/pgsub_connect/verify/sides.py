@@ -5,8 +5,6 @@ Their rows are summed up by chunks, as the module `verify.digests` says, and rea
 their keys' bytes.
 """
 
-from __future__ import annotations
-
 import collections
 import itertools
 from collections.abc import Iterable, Iterator

@@ -1,8 +1,6 @@
 """Compares the copy of a running follower with its server, both as they were at one LSN, and repairs
 its rows as the module `verify.repair_rows` says."""
 
-from __future__ import annotations
-
 import contextlib
 import dataclasses
 import time

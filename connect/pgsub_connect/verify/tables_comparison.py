@@ -1,7 +1,5 @@
 """What is compared of tables that follow a feed: the sides, and what is told of them."""
 
-from __future__ import annotations
-
 import dataclasses
 import os
 from collections.abc import Iterator, Sequence

@@ -15,8 +15,6 @@ says, and rows are read where they differ, or where there are none. Without, all
 the sums that a file keeps are checked by that.
 """
 
-from __future__ import annotations
-
 import contextlib
 import dataclasses
 import os

@@ -6,8 +6,6 @@ each table its rows are summed up by chunks, or the digest is taken that the fil
 of the commits above the LSN are taken off.
 """
 
-from __future__ import annotations
-
 import contextlib
 import json
 import os

@@ -6,15 +6,13 @@ Whatever is sent again, or late, has a version that isn't above the one that is 
 rejected with the status 409, which loses nothing.
 """
 
-from __future__ import annotations
-
 from collections.abc import Callable, Iterator
 
 from .. import log
 from ..errors import Unfit
 from ..interruption import Check, never
 from ..known_tables import KnownTables
-from ..reader.commits import Cells, Change, Commit
+from ..reader.commits import Change, Commit
 from ..reader.segments import Reader
 from ..relation import Relation
 from ..tables.primary_keys import OTHER, UNKNOWN, lacking, other_key

@@ -12,8 +12,6 @@ In a name `%`, `:` and `.` are written as `%25`, `%3A` and `%2E`, in a value `%`
 `%null`, and a binary value `%x` with its digits. So no two have one text.
 """
 
-from __future__ import annotations
-
 import string
 from collections.abc import Collection, Sequence
 

@@ -11,8 +11,6 @@ who read JSON would take the nearest number alone; `bool` as true and false; and
 server prints it. In `debezium` the bytes of `bytea` are in base64.
 """
 
-from __future__ import annotations
-
 import base64
 import json
 import math

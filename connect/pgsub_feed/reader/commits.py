@@ -1,7 +1,5 @@
 """What a feed consists of."""
 
-from __future__ import annotations
-
 import dataclasses
 from typing import NamedTuple
 

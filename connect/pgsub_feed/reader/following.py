@@ -1,8 +1,6 @@
 """Follows a feed: puts commit after commit into what keeps them, up to the end that was asked for.
 """
 
-from __future__ import annotations
-
 import time
 from collections.abc import Callable, Iterable
 from typing import Protocol

@@ -1,7 +1,5 @@
 """The lines of a feed, read."""
 
-from __future__ import annotations
-
 import binascii
 import json
 import re

@@ -1,7 +1,5 @@
 """Waits for what a feed has next: looks again and again, or is told by the follower."""
 
-from __future__ import annotations
-
 import contextlib
 import os
 import select

@@ -1,8 +1,6 @@
 """Where the readers of a feed are: `FOLDER/readers/NAME` has a reader's LSN, whose commits aren't
 needed any more up to there."""
 
-from __future__ import annotations
-
 import contextlib
 import os
 import time

@@ -1,7 +1,5 @@
 """What somebody who follows a feed is to take, and what it begins with."""
 
-from __future__ import annotations
-
 import dataclasses
 from collections.abc import Collection
 from typing import Protocol

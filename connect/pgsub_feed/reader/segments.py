@@ -10,8 +10,6 @@ end; but the connector's own, of rows that are added or repaired, end at an LSN 
 again. So these are taken once they are confirmed.
 """
 
-from __future__ import annotations
-
 import contextlib
 import os
 import re

@@ -1,7 +1,5 @@
 """The tables that `--table` names."""
 
-from __future__ import annotations
-
 from collections.abc import Iterable
 
 from ..relation import Relation

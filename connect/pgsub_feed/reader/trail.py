@@ -4,8 +4,6 @@ What a truncation took the feed doesn't have. And the rows from before a repair 
 which who follows may never have had.
 """
 
-from __future__ import annotations
-
 from collections.abc import Collection, Iterator
 from typing import NamedTuple
 

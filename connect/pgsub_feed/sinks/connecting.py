@@ -1,7 +1,5 @@
 """A connection to a server, for whose parts nothing is waited longer than a moment at once."""
 
-from __future__ import annotations
-
 import errno
 import ipaddress
 import os

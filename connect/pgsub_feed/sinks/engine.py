@@ -1,7 +1,5 @@
 """What an engine does for a sink."""
 
-from __future__ import annotations
-
 import dataclasses
 from collections.abc import Callable
 from typing import Protocol

@@ -1,8 +1,6 @@
 """Changes as objects, with the rows by the names of the columns. Values are texts, as in the feed.
 """
 
-from __future__ import annotations
-
 import json
 from collections.abc import Sequence
 from typing import Optional

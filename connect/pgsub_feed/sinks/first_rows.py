@@ -1,7 +1,5 @@
 """The rows with which a sink begins: those of an export whose values are texts, or none."""
 
-from __future__ import annotations
-
 import contextlib
 import dataclasses
 import os

@@ -1,7 +1,5 @@
 """An engine that follows a feed: begun, or gone on with, and waited for where it is away."""
 
-from __future__ import annotations
-
 import contextlib
 import os
 import time

@@ -1,8 +1,6 @@
 """What JetStream is asked: a stream, its messages, and that it takes one in the place where it
 belongs."""
 
-from __future__ import annotations
-
 import base64
 import collections
 import contextlib

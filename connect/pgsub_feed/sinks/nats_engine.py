@@ -6,8 +6,6 @@ that follow are published. Nothing has two messages, since one is only taken as 
 message that was the last when it was made.
 """
 
-from __future__ import annotations
-
 import contextlib
 import secrets
 import time

@@ -11,8 +11,6 @@ has become of the first. So a base that is begun anew has another number, `5c0f1
 `end` is where a commit ends, and `lsn` its final LSN.
 """
 
-from __future__ import annotations
-
 import json
 import re
 from collections.abc import Iterator

@@ -12,8 +12,6 @@
 A line ends with CR and LF, and so do the bytes of a message.
 """
 
-from __future__ import annotations
-
 import dataclasses
 import json
 import select

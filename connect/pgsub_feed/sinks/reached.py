@@ -1,7 +1,5 @@
 """Which LSN was reached when."""
 
-from __future__ import annotations
-
 import collections
 
 # For how long one mark stands, in seconds.

@@ -1,7 +1,5 @@
 """Commands of Redis and what it says to them, by Debian's python3-redis."""
 
-from __future__ import annotations
-
 import contextlib
 import importlib
 import urllib.parse

@@ -1,8 +1,6 @@
 """What Redis has on its disk, which it writes on its own: by a log of commands, or by whole copies.
 """
 
-from __future__ import annotations
-
 import time
 from collections.abc import Iterable
 from typing import Any

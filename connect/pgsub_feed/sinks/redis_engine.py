@@ -12,8 +12,6 @@ The first two are watched from one MULTI to the next. So where another sink has 
 written, a MULTI has no effect at all.
 """
 
-from __future__ import annotations
-
 import contextlib
 import json
 import os

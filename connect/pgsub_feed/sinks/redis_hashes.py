@@ -5,8 +5,6 @@ What waits is kept by keys: of several changes of one row only the last is writt
 that is truncated, gets another name or another shape are looked for among all keys.
 """
 
-from __future__ import annotations
-
 import dataclasses
 import re
 from collections.abc import Collection, Iterable, Iterator, Sequence

@@ -1,8 +1,6 @@
 """A stream of Redis for each table: an entry for each change, its id the LSN at which its commit
 ends and its number in there."""
 
-from __future__ import annotations
-
 from collections.abc import Collection, Iterable, Iterator
 
 from ..errors import Unfit

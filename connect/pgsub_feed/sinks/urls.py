@@ -1,7 +1,5 @@
 """Where a sink writes."""
 
-from __future__ import annotations
-
 import argparse
 
 # The variable of the environment that may have the URL.

@@ -1,7 +1,5 @@
 """The changes of a feed's commits, made to the tables of a file."""
 
-from __future__ import annotations
-
 import itertools
 import sqlite3
 from collections.abc import Iterable, Sequence

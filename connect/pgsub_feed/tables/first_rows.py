@@ -1,7 +1,5 @@
 """A new file of tables: empty, with the rows of an export, or a copy of another such file."""
 
-from __future__ import annotations
-
 import contextlib
 import json
 import os

@@ -3,8 +3,6 @@ rounded to the number, and not at its bound. (src/common/d2s.c and f2s.c of Post
 repr takes those at a bound too, as 1e+23 for what is printed as 9.999999999999999e+22.)
 """
 
-from __future__ import annotations
-
 import contextlib
 import math
 import struct

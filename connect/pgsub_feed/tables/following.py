@@ -1,7 +1,5 @@
 """A file of tables that follows a feed: made, or gone on with."""
 
-from __future__ import annotations
-
 import dataclasses
 import os
 

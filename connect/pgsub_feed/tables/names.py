@@ -6,8 +6,6 @@ behind it where another table has the name, as SQLite compares it. In an export 
 smaller OID has it, and in a file that follows the one that was told first.
 """
 
-from __future__ import annotations
-
 from collections.abc import Collection, Iterable
 
 from ..texts import identifier

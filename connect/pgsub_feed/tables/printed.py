@@ -7,8 +7,6 @@ point is the shortest digits that give it again, and a numeric has its scale, as
 doesn't tell is its second column's text.
 """
 
-from __future__ import annotations
-
 from collections.abc import Sequence
 
 from ..reader.commits import Cell

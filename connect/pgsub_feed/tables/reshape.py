@@ -6,8 +6,6 @@ SQLite is another one, each value is printed as the server prints those of the o
 one of the new.
 """
 
-from __future__ import annotations
-
 import contextlib
 import sqlite3
 from collections.abc import Iterable, Iterator

@@ -4,8 +4,6 @@ What the feed doesn't have can't be had again: rows that a truncation took, and 
 columns that were dropped or whose type is another one since.
 """
 
-from __future__ import annotations
-
 import dataclasses
 from collections.abc import Iterator
 

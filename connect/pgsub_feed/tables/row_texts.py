@@ -1,8 +1,6 @@
 """The text of a row that a digest is of: for each field its value as the server prints it, after the
 value's length in bytes and a colon, or `n` for null. So no two rows have one text."""
 
-from __future__ import annotations
-
 import hashlib
 import struct
 from collections.abc import Iterable, Sequence

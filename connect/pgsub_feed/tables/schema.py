@@ -14,8 +14,6 @@ Where another table got the name of one, the older one's rows are in `pgsub_old 
 back under another name.
 """
 
-from __future__ import annotations
-
 import json
 import sqlite3
 

@@ -7,8 +7,6 @@ transaction that drops it: its OID, its name at the publisher, the LSN since whe
 Its changes are passed over from there on, until its rows come anew: a Truncate begins them.
 """
 
-from __future__ import annotations
-
 import contextlib
 import os
 import shlex

@@ -1,7 +1,5 @@
 """Files of SQLite that these programs make: exports, and tables that follow a feed."""
 
-from __future__ import annotations
-
 import os
 import sqlite3
 import urllib.parse

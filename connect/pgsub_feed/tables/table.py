@@ -1,8 +1,6 @@
 """One table of a file of tables: what a row's cells are there, and the statements that change it.
 """
 
-from __future__ import annotations
-
 import math
 import sqlite3
 from collections.abc import Sequence

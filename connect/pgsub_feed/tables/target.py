@@ -1,7 +1,5 @@
 """The table of SQLite that a relation becomes, in an export and in a file that follows a feed."""
 
-from __future__ import annotations
-
 import dataclasses
 import itertools
 from collections.abc import Collection, Sequence

@@ -1,8 +1,6 @@
 """A user's own SQL for a file of tables: indexes and views, made again after a table was made or
 altered."""
 
-from __future__ import annotations
-
 import sqlite3
 from collections.abc import Iterator
 

@@ -5,8 +5,6 @@ number doesn't tell all values of its column apart, a second column has the serv
 so by the type's modifier, never by values.
 """
 
-from __future__ import annotations
-
 import binascii
 import math
 import re

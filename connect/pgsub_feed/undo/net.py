@@ -1,7 +1,5 @@
 """What several commits have made of the rows of a table: what each row was before, and is now."""
 
-from __future__ import annotations
-
 from collections.abc import Iterator, Sequence
 from typing import NamedTuple
 

@@ -5,8 +5,6 @@ the commits left it: where somebody has changed one since it raises an error, an
 taken back. So it does where a row can't be as it was.
 """
 
-from __future__ import annotations
-
 from collections.abc import Callable, Iterable, Iterator
 
 from .. import log

@@ -1,7 +1,5 @@
 """Options on tables that are altered at the server."""
 
-from __future__ import annotations
-
 import dataclasses
 
 from pgsub_feed.arguments import size

@@ -1,7 +1,5 @@
 """Files that options name."""
 
-from __future__ import annotations
-
 import os
 from typing import Any
 

@@ -1,7 +1,5 @@
 """Options on what follows a feed."""
 
-from __future__ import annotations
-
 import argparse
 import dataclasses
 from collections.abc import Iterable, Sequence

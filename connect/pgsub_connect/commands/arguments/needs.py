@@ -1,7 +1,5 @@
 """Options that need another one."""
 
-from __future__ import annotations
-
 import argparse
 
 

@@ -1,7 +1,5 @@
 """Options on the publication, the slot and the copy that --create makes."""
 
-from __future__ import annotations
-
 import argparse
 import dataclasses
 from collections.abc import Sequence

@@ -1,7 +1,5 @@
 """The option on how long a recording may get."""
 
-from __future__ import annotations
-
 from typing import Any
 
 from pgsub_feed.options import option

@@ -1,7 +1,5 @@
 """Options on the server and the slot, and what they leave out."""
 
-from __future__ import annotations
-
 import dataclasses
 import os
 from collections.abc import Iterable, Sequence

@@ -1,7 +1,5 @@
 """Options on how long is followed, and on what is taken as it is."""
 
-from __future__ import annotations
-
 import argparse
 import dataclasses
 from collections.abc import Sequence

@@ -1,7 +1,5 @@
 """Options on the program `pgsub`, and on how much memory it may take."""
 
-from __future__ import annotations
-
 import dataclasses
 from typing import TypeVar
 

@@ -1,7 +1,5 @@
 """Options on a store, and on the server that it follows, for commands without its checkpoint."""
 
-from __future__ import annotations
-
 import dataclasses
 from collections.abc import Iterable, Sequence
 from typing import TypeVar

@@ -1,7 +1,5 @@
 """Options on a copy of a store."""
 
-from __future__ import annotations
-
 import dataclasses
 from typing import TypeVar
 

@@ -1,7 +1,5 @@
 """Words that the server or the program `pgsub` is told."""
 
-from __future__ import annotations
-
 from collections.abc import Iterable
 
 from pgsub_feed.errors import UsageError

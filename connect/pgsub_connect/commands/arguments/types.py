@@ -1,7 +1,5 @@
 """What reads one word of a command line."""
 
-from __future__ import annotations
-
 import argparse
 from collections.abc import Callable
 

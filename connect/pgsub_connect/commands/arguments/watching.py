@@ -1,7 +1,5 @@
 """Options on the files that say how a follower goes, and on copies of its store for readers."""
 
-from __future__ import annotations
-
 import dataclasses
 
 from pgsub_feed.options import option
