@@ -2,7 +2,9 @@
 
 from __future__ import annotations
 
+import contextlib
 import os
+import sqlite3
 from collections.abc import Callable
 from pathlib import Path
 from typing import Any
@@ -16,6 +18,10 @@ from pgsub_connect.store.checkpoint import LONGEST_PATH, Checkpoint
 from pgsub_connect.store.checkpoint_at_rest import read_known
 from pgsub_connect.store.checkpoint_lines import COPYING, FOLLOWING, SLOT
 from pgsub_feed.errors import Failure, FileError, Passing, Stopped, Unfit
+from pgsub_feed.relation import Relation, Shape
+from pgsub_feed.tables.schema import RELATIONS, definition
+from pgsub_feed.tables.target import Target
+from pgsub_feed.tables.values import AS_REAL, AS_TEXT, BOTH
 
 from .fake_server import Quiet
 from .test_copying import Copying
@@ -54,6 +60,19 @@ class Remembers(Begun):
         self.assertEqual(self.follow("--slot", "app", "--tables", self.rows), options)
         # what needs tables, or a feed, has them
         self.assertEqual(self.follow("--digests", "--feed-max-bytes", "5GB").tables, self.rows)
+
+    def test_how_the_tables_have_numerics(self) -> None:
+        self.followed(tables=self.rows, feed=self.feed)
+        self.assertEqual(self.follow().numeric, BOTH)
+        for form in (AS_TEXT, AS_REAL):
+            with contextlib.closing(sqlite3.connect(self.rows)) as db:
+                db.executescript(f"DROP TABLE IF EXISTS {RELATIONS}")
+                db.execute(f"CREATE TABLE {RELATIONS} (oid, name, definition)")
+                target = Target("t", Relation(7, "public", "t", Shape("d", ())), form)
+                db.execute(f"INSERT INTO {RELATIONS} VALUES (7, 't', ?)", (definition(target),))
+                db.commit()
+            self.assertEqual(self.follow().numeric, form)
+            self.assertEqual(self.follow("--numeric", BOTH).numeric, BOTH)
 
     def test_nothing(self) -> None:
         options = self.follow()

@@ -11,6 +11,7 @@ from pgsub_feed.arguments import duration, size
 from pgsub_feed.errors import Unfit, UsageError
 from pgsub_feed.options import option
 from pgsub_feed.sinks.urls import FORMS, url
+from pgsub_feed.tables.position import read_numeric
 from pgsub_feed.tables.values import BOTH
 
 from ...drift.remembered import Remembered
@@ -84,7 +85,7 @@ class FeedOptions:
     digests: bool = option(
         "--digests", "with --tables: keep a digest of each table, for `verify`", False
     )
-    numeric: str = numeric_option()
+    numeric: str = numeric_option("")
     indexes: bool = option("--indexes", f"with --tables: {INDEXES}", False)
     sink: Sequence[str] = option(
         "--sink URL",
@@ -138,7 +139,8 @@ def settled_feed(options: Settled, store: str) -> Settled:
     if not feed and not options.without_feed and os.path.exists(store):
         feed = Remembered(store).feed
     feed = feed or (store + ".feed" if tables or options.sink else "")
-    options = dataclasses.replace(options, tables=tables, feed=feed)
+    numeric = options.numeric or tables and read_numeric(tables) or BOTH
+    options = dataclasses.replace(options, tables=tables, feed=feed, numeric=numeric)
     for given, needed in NEEDS.items():
         if getattr(options, given) and not getattr(options, needed):
             raise UsageError(f"--{given.replace('_', '-')} needs --{needed}")

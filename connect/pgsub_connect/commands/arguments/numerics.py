@@ -9,11 +9,11 @@ from pgsub_feed.options import option
 from pgsub_feed.tables.values import AS_REAL, AS_TEXT, BOTH
 
 
-def numeric_option() -> Any:
+def numeric_option(default: str = BOTH) -> Any:
     return option(
         "--numeric",
         "numerics as REAL, those of more than 15 digits with their text in NAME_text (both, the default), as TEXT, or as REAL alone, which can't be verified (real)",
-        BOTH,
+        default,
         choices=(BOTH, AS_TEXT, AS_REAL),
     )
 
