@@ -10,10 +10,12 @@ from functools import partial
 from pathlib import Path
 
 from ..errors import Failed
+from ..feeds import compare_tables
 from ..follower import wait_until
 from ..place import FILE, LOG, PASSING, REJECTED, SERVER, UNFIT, USAGE, Place, killed_at
 from ..rows import compare, quoted, rows_of_server, rows_of_store
 from .case import Case
+from .common import now_in_tables
 from .copying import added
 
 
@@ -325,7 +327,60 @@ def cut(name: str, after: bool) -> partial[None]:
     return call
 
 
+def leave_nothing(place: Place) -> None:
+    """Starts that the server refuses leave no file, slot or publication."""
+    place.stock(published=False)
+    place.run("CREATE TABLE bare (id int)", "CREATE ROLE reader LOGIN REPLICATION")
+    reader, rows = place.cluster.dsn(place.database, user="reader"), place.folder / "rows.db"
+    for words, dsn in (
+        (("--create", "--table", "nowhere"), ""),
+        (("--create", "--table", "bare", "--tables", str(rows)), ""),
+        (("--create", "--table", "stock", "--feed", str(place.beside(".feed"))), reader),
+        (("--create", "--no-copy", "--table", "nowhere"), ""),
+        (("--create", "--no-copy", "--table", "stock"), reader),
+        (("--no-copy", "--tables", str(rows)), ""),
+        (("--create", "--table", "stock", "--pgsub", "/nowhere/pgsub"), ""),
+        ((), ""),
+    ):
+        child = place.start(*words, dsn=dsn)
+        if child.end() == 0:
+            raise Failed(f"{words} wasn't refused: {child.said()}")
+        left = [it.name for it in place.folder.iterdir() if it.name != "said"]
+        made = place.value(
+            "SELECT (SELECT count(*) FROM pg_publication) + (SELECT count(*) FROM pg_replication_slots)"
+        )
+        if left or made != "0":
+            raise Failed(f"{words} left {left} and {made} at the server: {child.said()}")
+
+
+def goes_on_by_the_store(place: Place) -> None:
+    """A start with the store alone goes on with slot, feed and tables; with another slot it is
+    refused."""
+    place.stock()
+    rows, place.slot = place.folder / "rows.db", "app"
+    place.follow("--create", "--tables", str(rows))
+    place.change()
+    words = [
+        str(place.options.connect),
+        "follow",
+        "--dsn",
+        place.dsn(),
+        "--store",
+        str(place.store),
+    ]
+    child = place.started([*words, "--slot", "pgsub"])
+    place.has_ended(child, UNFIT, "follows the slot app, and not pgsub: leave --slot out")
+    child = place.started([*words, "--pgsub", str(place.options.program)])
+    place.catch_up(child)
+    now_in_tables(place)
+    compare_tables(place.cluster, rows, "pgsub", database=place.database)
+    child.stop()
+    place.equal()
+
+
 CASES = (
+    Case("refused-starts-leave-nothing", leave_nothing),
+    Case("goes-on-by-the-store-alone", goes_on_by_the_store),
     Case("goes-on-where-it-ended", going_on),
     Case("store-from-a-backup", backup),
     Case("store-and-checkpoint-from-a-backup", backup_with_checkpoint),
