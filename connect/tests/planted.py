@@ -1203,6 +1203,34 @@ BUGS = (
         "if valued and (lost := []):",
         ("test_numerics",),
     ),
+    Bug(
+        "a start that is refused while rows are copied leaves its files",
+        "pgsub_connect/follow/refused.py",
+        "if checkpoint.known.phase in (NEW, COPYING) else set()",
+        "if checkpoint.known.phase == NEW else set()",
+        ("test_beginning",),
+    ),
+    Bug(
+        "tables of a copy that was cut are kept",
+        "pgsub_connect/store/copied_rows.py",
+        "    if head != DONE:\n",
+        "    if head[:1] == DONE:\n",
+        ("test_first_rows",),
+    ),
+    Bug(
+        "tables are made before the store that they are of",
+        "pgsub_connect/copy/copier.py",
+        "        self.files.keep()\n        self.beside.end()\n",
+        "        self.beside.end()\n        self.files.keep()\n",
+        ("test_first_rows",),
+    ),
+    Bug(
+        "who waits for a process that stands still isn't let go",
+        "pgsub_connect/follow/first_rows.py",
+        "        child.kill()\n        is_whole(",
+        "        is_whole(",
+        ("test_first_rows",),
+    ),
 )
 
 

@@ -16,6 +16,7 @@ from unittest import mock
 from pgsub_connect.copy import copy_slot, slots, table_reader
 from pgsub_connect.copy import tables as tables_module
 from pgsub_connect.copy.copier import Copier, CopySettings
+from pgsub_connect.copy.rows_beside import RowsBeside
 from pgsub_connect.copy.messages import InsertHeads, begin, commit, frame, inserts, relation
 from pgsub_connect.copy.slots import create_slot
 from pgsub_connect.copy.tables import altered_tables
@@ -146,6 +147,7 @@ class Copying(Quiet):
         self.patch(publication_setup, "publishable_tables", lambda _: ['"public"."stock"'])
         self.patch(Copier, "sleep", lambda copier, seconds: self.slept.append(seconds))
         self.slept: list[float] = []
+        self.beside = RowsBeside()
         for module in (tables_module, slots):
             self.patch(
                 module,
@@ -192,6 +194,7 @@ class Copying(Quiet):
             cast(Filter, self.filter),
             self.progress,
             self.remembered,
+            self.beside,
         )
 
 

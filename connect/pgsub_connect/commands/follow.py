@@ -260,7 +260,8 @@ def made(options: Options, checkpoint: Checkpoint) -> Parts:
     feeding = Feeding(settings, Common(subscription, tolerance, checkpoint, progress, remembered))
     feeding.check()
     part, child = (make_filter(options, checkpoint, it) for it in (part_of(store), store))
-    copier = Copier(options.copy_settings(), subscription, checkpoint, part, progress, remembered)
+    told = subscription, checkpoint, part, progress, remembered
+    copier = Copier(options.copy_settings(), *told, feeding.first_rows)
     recording, requests = recording_of(options), RequestSocket(store, mode)
     snapshots = Snapshots(store, requests, options.snapshot, options.snapshot_every, mode)
     follower = Follower(

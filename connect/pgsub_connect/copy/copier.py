@@ -49,6 +49,7 @@ from ..stream.filter_end import FilterEnded
 from ..stream.memory_limit import BufferLimits
 from .copy_slot import CopySlot, is_left_open
 from .files import CopyFiles
+from .rows_beside import RowsBeside
 from .sender import Sender
 from .slots import drop_slot, maker_of, set_failover
 from .table_reader import LOCK_TIMEOUT, Item, Items, Left, Part, Readers
@@ -83,7 +84,9 @@ class Copier(Worker):
         child: Filter,
         progress: Progress,
         remembered: Remembered,
+        beside: RowsBeside,
     ) -> None:
+        self.beside = beside
         self.settings, self.subscription = settings, subscription
         self.checkpoint, self.filter = checkpoint, child
         self.progress, self.remembered = progress, remembered
@@ -108,6 +111,7 @@ class Copier(Worker):
             while not self.attempted(tries):
                 self.sleep(tries.next_delay())
         except BaseException as error:
+            self.beside.abandon()
             self.give_up(error)
             raise
 
@@ -263,11 +267,13 @@ class Copier(Worker):
         log.info(f"copying {counted(len(tables), 'table')} as of {lsn_text(point)}")
         read = [it for it in tables if it.oid not in self.tables.later]
         # (from here on another thread asks the connection)
+        jobs, beside = self.settings.jobs, self.beside
         with plain.checked_by(self.check_stop), contextlib.closing(
-            Readers(subscription, self.settings.jobs, snapshot, read, files, plain)
+            Readers(subscription, jobs, snapshot, read, files, plain, beside)
         ) as readers:
-            self.send(readers)
-        self.tables.forget_gone(plain)
+            self.send(readers, point)
+        if self.tables.forget_gone(plain):
+            beside.abandon()
         self.end_copy(point)
         log.info(f"copied {counted(self.progress.copy.rows, 'row')}")
 
@@ -283,18 +289,24 @@ class Copier(Worker):
             raise
         self.slot.begin_lasting(temporary, point)
 
-    def send(self, readers: Readers) -> None:
+    def send(self, readers: Readers, point: int) -> None:
         """Sends all rows to a filter on a new file."""
         if self.filter.start(self.slot.check) != 0:
             raise FileError(f"{self.files.part}: not a new store")
         self.files.set_mode()
         self.sender.begin()
+        self.beside.begin(point)
         readers.begin()
-        while item := self.next_item(readers.items):
-            if isinstance(item, Left):
-                self.tables.leave(item.table.oid, item.why)
-            else:
-                self.send_part(item)
+        try:
+            while item := self.next_item(readers.items):
+                if isinstance(item, Left):
+                    self.tables.leave(item.table.oid, item.why)
+                else:
+                    self.send_part(item)
+        except BaseException:
+            # (for which the readers may wait)
+            self.beside.abandon()
+            raise
 
     def next_item(self, items: Items) -> Item | None:
         """What the connections have read next, None after the last."""
@@ -385,3 +397,4 @@ class Copier(Worker):
         """The copy is there, under its own name."""
         self.remembered.end_copy()
         self.files.keep()
+        self.beside.end()

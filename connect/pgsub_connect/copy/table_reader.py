@@ -30,6 +30,7 @@ from ..server.publications import are_so_named, stored_in
 from ..server.session import settle
 from ..server.subscription import Subscription
 from .messages import InsertHeads, frame, inserts, relation
+from .rows_beside import RowsBeside
 
 # How many bytes a part has about, how many are encoded at a time, and how many parts of a
 # connection wait at most.
@@ -157,7 +158,7 @@ class Items:
 
 class Readers:
     """The connections, from `begin` to `close`. `stored`: the files of all tables before the
-    snapshot; `looker`: sees what is there now."""
+    snapshot; `looker`: sees what is there now; `beside`: gets all rows, too."""
 
     def __init__(
         self,
@@ -167,8 +168,9 @@ class Readers:
         tables: list[Table],
         stored: dict[int, str | None],
         looker: Connection,
+        beside: RowsBeside,
     ) -> None:
-        self.subscription, self.snapshot = subscription, snapshot
+        self.subscription, self.snapshot, self.beside = subscription, snapshot, beside
         self.stored, self.looker, self.looking = stored, looker, threading.Lock()
         self.left = collections.deque(tables)
         # by the OID of a table: when it was tried last, and since when it is known to be locked by
@@ -219,7 +221,7 @@ class Readers:
         take_snapshot(connection, self.snapshot)
         why = self.lock_table(connection, table)
         if why is None:
-            yield from parts_of(connection, table)
+            yield from parts_of(connection, table, self.beside)
             connection.run("COMMIT")
             return
         connection.run("ROLLBACK")
@@ -265,7 +267,7 @@ class Readers:
         return named and all(self.stored.get(oid, missing) == node for oid, node in files.items())
 
 
-def parts_of(connection: Connection, table: Table) -> Iterator[Part]:
+def parts_of(connection: Connection, table: Table, beside: RowsBeside) -> Iterator[Part]:
     """All rows of a table, in parts. An LSN that is 0 in XLogData says nothing."""
     heads = InsertHeads(table, 0)
     part = Part(table, [frame(0, relation(table))])
@@ -273,7 +275,9 @@ def parts_of(connection: Connection, table: Table) -> Iterator[Part]:
         if part.size >= PART:
             yield part
             part = Part(table, longest=part.longest)
-        part.add(inserts(lines, heads), lines)
+        frames = inserts(lines, heads)
+        beside.take(frames)
+        part.add(frames, lines)
     part.end()
     yield part
 

@@ -85,16 +85,16 @@ class CopiedTables:
         self.later = {it.oid: self.later.get(it.oid, "its copy was interrupted") for it in missing}
         self.name_new(missing, point)
 
-    def forget_gone(self, plain: Connection) -> None:
+    def forget_gone(self, plain: Connection) -> list[int]:
         """Forgets tables that were left for later and aren't published any more: nothing of them
-        was stored."""
-        if not self.later:
-            return
-        there = {it.oid for it in self.published(plain)}
-        for oid in [it for it in self.later if it not in there]:
+        was stored. Returns their OIDs."""
+        there = {it.oid for it in self.published(plain)} if self.later else set()
+        gone = [it for it in self.later if it not in there]
+        for oid in gone:
             log.info(f"{self.remembered.text_of(oid)} {DROPPED} while others were copied")
             self.remembered.never_copied(oid)
             del self.later[oid]
+        return gone
 
     def want_later(self, point: int) -> None:
         """Notes what was left for later, to be added."""

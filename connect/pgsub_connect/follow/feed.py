@@ -33,6 +33,7 @@ from pgsub_feed.reader.positions import make_folder
 from pgsub_feed.reader.segments import Reader, read_confirmed, segments
 from pgsub_feed.texts import counted, lsn_text
 
+from ..copy.rows_beside import RowsBeside
 from ..server.connection import Connection
 from ..server.session import identify, settle
 from ..store.at_rest import has_log
@@ -42,6 +43,7 @@ from ..stream.filter_end import FilterEnded
 from ..stream.statuses import Reached
 from .common import Common
 from .feed_keeper import Keeper
+from .first_rows import FirstRows
 from .retention import Limits
 from .sink_process import Sink, SinkSettings
 from .tables_process import Beside, TablesSettings
@@ -90,6 +92,9 @@ class Feeding:
         self.settings = settings
         self.subscription, self.tolerance, self.checkpoint, self.progress, self.remembered = common
         self.folder = os.path.abspath(settings.folder) if settings.folder else ""
+        self.first_rows = (
+            FirstRows(settings.tables, self.checkpoint.file) if settings.tables else RowsBeside()
+        )
         self.keeper: Keeper | None = None
         self.beside: Beside | None = None
         self.sinks: list[Sink] = []
@@ -173,7 +178,7 @@ class Feeding:
             self.folder, self.settings.limits(), self.settings.mode, self.progress, reached
         )
         if tables:
-            self.beside = Beside(tables, self.progress, wake)
+            self.beside = Beside(tables, self.progress, wake, self.first_rows.wait)
         self.sinks = [Sink(it, self.progress) for it in self.settings.sinks]
 
     def check_position(self, child: Filter, check: Check) -> None:
@@ -273,6 +278,7 @@ class Feeding:
         )
 
     def finish(self) -> None:
+        self.first_rows.abandon()
         for it in (self.beside, *self.sinks, self.keeper):
             if it and it.ident is not None:
                 it.finish()

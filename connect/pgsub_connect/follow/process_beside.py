@@ -32,7 +32,17 @@ FIRST_DELAY, LONGEST_DELAY, FORGET = 1.0, 60.0, 60.0
 PATIENCE = 60.0
 TOP = os.path.dirname(os.path.dirname(os.path.dirname(os.path.realpath(__file__))))
 # (the working directory, which is the first of its path, may have modules of others)
-CODE = f"import sys; sys.path[:] = [{TOP!r}, *filter(None, sys.path)]; from pgsub_connect.cli import run; run()"
+START = f"import sys; sys.path[:] = [{TOP!r}, *filter(None, sys.path)]; "
+CODE = f"{START}from pgsub_connect.cli import run; run()"
+
+
+def environment() -> dict[str, str]:
+    """What each such process needs of the environment: not the passwords of a server."""
+    return {
+        name: value
+        for name, value in os.environ.items()
+        if name in KEPT or name.startswith("PYTHON")
+    }
 
 
 class ProcessBeside(threading.Thread):
@@ -103,19 +113,14 @@ class ProcessBeside(threading.Thread):
     def launched(self) -> subprocess.Popen[bytes]:
         """A process of it, whose input doesn't block. (A session of its own: an interrupt at the
         terminal is for the follower, which ends it.)"""
-        kept = {
-            name: value
-            for name, value in os.environ.items()
-            if name in KEPT or name.startswith("PYTHON")
-        }
-        pipe, environment = subprocess.PIPE, {**kept, **self.environment}
+        pipe = subprocess.PIPE
         child = subprocess.Popen(
             self.words,
             stdin=pipe,
             stdout=pipe,
             stderr=pipe,
             start_new_session=True,
-            env=environment,
+            env={**environment(), **self.environment},
         )
         assert child.stdin
         os.set_blocking(child.stdin.fileno(), False)

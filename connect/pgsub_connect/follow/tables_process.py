@@ -1,8 +1,9 @@
 """The tables that `follow --tables` keeps: `pgsub-connect tables` as a process beside the follower,
 from whose feed it reads.
 
-A line of its input with an LSN asks for a line of its output with the tables' LSN, once they are
-at that one.
+It begins with the file that `follow.first_rows` has made with an initial copy, where there is one. A
+line of its input with an LSN asks for a line of its output with the tables' LSN, once they are at
+that one.
 """
 
 from __future__ import annotations
@@ -76,14 +77,20 @@ class Beside(ProcessBeside):
         settings: TablesSettings,
         progress: Progress,
         wake: Callable[[], None] = lambda: None,
+        wait: Callable[[], None] = lambda: None,
     ) -> None:
         super().__init__(settings.path, "tables", words_of(settings))
-        self.wake = wake
+        self.wake, self.wait = wake, wait
         # the LSN that the tables have told, and the LSNs at which they are to tell theirs
         self.at, self.asked = 0, set[int]()
         self.path, self.progress = settings.path, progress
         self.progress.feed.note_tables(settings.path)
         self.reader = os.path.join(settings.feed, READERS, READER)
+
+    def run(self) -> None:
+        # (for what makes the file now)
+        self.wait()
+        super().run()
 
     def note_started(self) -> None:
         """What is waited for is asked of this one too."""

@@ -47,33 +47,40 @@ ROW = 200
 LOT, STEPS = 10000, 1_000_000
 
 
+# A row: the OID of its table, its cells, and how many of it there are.
+Held = tuple[int, bytes, int]
+
+
 class Export:
     """Fills a new file, in one transaction and constant memory: nothing was there that would be
     kept for going back."""
 
     def __init__(
         self,
-        store: sqlite3.Connection,
         into: sqlite3.Connection,
         form: str,
         check: Check,
-        names: Sequence[str],
+        names: Sequence[str] = (),
         indexes: Indexes | None = None,
+        note: Callable[[int], None] = lambda rows: None,
     ) -> None:
-        self.store, self.into, self.form, self.check, self.names = store, into, form, check, names
-        self.indexes = indexes
-        self.waiting, self.meter = 0, Meter("exporting")
+        self.into, self.form, self.check, self.names = into, form, check, names
+        self.indexes, self.waiting, self.note = indexes, 0, note
 
-    def run(self, remembered: Remembered) -> tuple[int, int, int]:
+    def run(
+        self,
+        remembered: Remembered,
+        position: int,
+        stored: dict[int, Relation],
+        held: Iterable[Held],
+    ) -> tuple[int, int, int]:
         """Writes it all. Returns the position, how many tables there are, and how many rows."""
-        position = read_position(self.store)
-        stored = read_relations(self.store)
         relations = named(choose(stored, remembered, position), self.names)
         tables = remembered.catalog.tables if remembered.catalog else {}
         known = {oid: it.primary for oid, it in tables.items()}
         keys = {it.oid: primary_key(known.get(it.oid, ()), it) for it in relations}
         self.begin(position, relations, keys)
-        self.copy_rows(stored)
+        self.copy_rows(stored, held)
         if self.indexes:
             self.indexes.make(self.into, self.targets.values())
         self.into.execute("COMMIT")
@@ -110,12 +117,9 @@ class Export:
             )
             into.execute(target.definition())
 
-    def copy_rows(self, stored: dict[int, Relation]) -> None:
-        """Copies all rows, in the order in which the store's file has them."""
-        self.stored = self.store.execute("SELECT count(*) FROM held").fetchone()[0]
-        for oid, body, copies in self.store.execute(
-            "SELECT oid, body, copies FROM held NOT INDEXED"
-        ):
+    def copy_rows(self, stored: dict[int, Relation], held: Iterable[Held]) -> None:
+        """Copies all rows, in the order in which they come."""
+        for oid, body, copies in held:
             target = self.targets.get(oid)
             if target is None:
                 if oid not in stored:
@@ -151,7 +155,7 @@ class Export:
         for target in self.targets.values():
             if target.waiting:
                 self.write_table(target)
-        self.meter.note(sum(it.rows for it in self.targets.values()), self.stored)
+        self.note(sum(it.rows for it in self.targets.values()))
 
     def write_table(self, target: Target) -> None:
         waiting, target.waiting = target.waiting, []
@@ -271,8 +275,19 @@ def export(path: str, new: str, settings: ExportSettings, check: Check) -> tuple
         ) as into:
             for db in (store, into):
                 db.set_progress_handler(stop(check), STEPS)
-            made = Export(store, into, settings.form, check, settings.chosen, indexes)
-            return made.run(remembered)
+            meter = Meter("exporting")
+            total = store.execute("SELECT count(*) FROM held").fetchone()[0]
+            made = Export(
+                into,
+                settings.form,
+                check,
+                settings.chosen,
+                indexes,
+                lambda rows: meter.note(rows, total),
+            )
+            # (in the order in which the file has them)
+            held = store.execute("SELECT oid, body, copies FROM held NOT INDEXED")
+            return made.run(remembered, read_position(store), read_relations(store), held)
     except Malformed:
         raise FileError(
             f"{settings.store}: a malformed row or definition: the disk, or another program, has spoiled the file"

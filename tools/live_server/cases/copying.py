@@ -2,15 +2,20 @@
 
 from __future__ import annotations
 
+import functools
 import itertools
+import os
+import signal
 import threading
 import time
 
 from ..child import Child
 from ..errors import Failed
-from ..follower import is_adding, wait_until
+from ..feeds import compare_tables, reading
+from ..follower import children_of, is_adding, kill_all, wait_until
 from ..place import SERVER, Place
 from .case import Case
+from .common import now_in_tables, rows_file
 
 
 def added(place: Place, child: Child) -> None:
@@ -221,7 +226,107 @@ def waits_for_a_lock(place: Place, *words: str) -> None:
     place.equal()
 
 
+# Where a copy with tables of SQLite is killed; the last two are of the process that makes them.
+MOMENTS = ("reading", "copied", "made", "process", "process stopped")
+PARTS = [f"part{it}" for it in range(4)]
+
+
+def with_tables(place: Place, *more: str, dsn: str = "") -> Child:
+    words = ("--create", "--all-tables", "--jobs", "2", "--tables", str(rows_file(place)), *more)
+    return place.start(*words, dsn=dsn)
+
+
+def killed_with_tables(place: Place, moment: str) -> None:
+    """A copy with tables is killed: these are whole or absent, and in the end are the server's. Then
+    `drop --all` leaves nothing."""
+    for it in PARTS:
+        place.run(
+            f"CREATE TABLE {it} (id int PRIMARY KEY, note text)",
+            f"INSERT INTO {it} SELECT it, '{it} ' || it FROM generate_series(1, 20000) it",
+        )
+    proxy, count = place.proxy(), itertools.count()
+
+    def hold() -> None:
+        if next(count) < 2:
+            return
+        makers = children_of(child.process.pid, str(rows_file(place)))
+        if moment == "reading":
+            child.kill()
+        elif moment == "process":
+            kill_all(makers)
+        elif moment == "process stopped":
+            os.kill(makers[0], signal.SIGSTOP)
+            child.signal(signal.SIGTERM)
+
+    proxy.before("COPY (", hold, len(PARTS))
+    child = with_tables(place, dsn=place.dsn(proxy.folder))
+    if moment == "copied":
+        child.wait_for("info: copied ")
+        child.kill()
+    elif moment == "made":
+        wait_until(rows_file(place).exists, "making the tables", 60, child.check)
+        child.kill()
+    if moment != "process":
+        wait_until(lambda: not child.is_running(), "the end", 60)
+        if rows_file(place).exists():
+            with reading(rows_file(place)) as base:
+                for it in PARTS:
+                    if base.execute(f"SELECT count(*) FROM {it}").fetchone() != (20000,):
+                        raise Failed(f"{rows_file(place)} isn't whole: {it}")
+        for it in PARTS:
+            place.run(f"UPDATE {it} SET note = 'new' WHERE id % 10 = 0")
+        child = with_tables(place)
+    child.wait_for(f"tables: {rows_file(place)} follows", 120)
+    place.run(*(f"DELETE FROM {it} WHERE id < 10" for it in PARTS))
+    now_in_tables(place)
+    compare_tables(place.cluster, rows_file(place), "pgsub", database=place.database)
+    place.catch_up(child)
+    child.stop()
+    place.equal()
+    words = ("--dsn", place.dsn(), "--store", str(place.store), "--slot", place.slot)
+    place.subcommand("drop", *words, "--yes", "--all")
+    if left := [it.name for it in place.folder.iterdir() if it.name.startswith(("copy", "rows"))]:
+        raise Failed(f"left: {left}")
+
+
+def tables_with_the_copy(place: Place) -> None:
+    """Tables are made with the copy, and a table that is locked meanwhile gets its rows later."""
+    place.stock()
+    place.run(
+        "CREATE TABLE other (id int PRIMARY KEY, note text)",
+        "INSERT INTO other VALUES (1, E'a\\tb\\\\'), (2, NULL)",
+        "ALTER PUBLICATION pgsub ADD TABLE other",
+    )
+    proxy = place.proxy()
+    proxy.before(
+        "LOCK TABLE",
+        lambda: place.run("ALTER TABLE stock ADD price int", "UPDATE stock SET price = 1"),
+    )
+    words = ("--create", "--jobs", "1", "--tables", str(rows_file(place)))
+    child = place.start(*words, dsn=place.dsn(proxy.folder))
+    child.wait_for(f"tables: {rows_file(place)} was made with the copy", 120)
+    added_with_tables(place, child)
+
+
+def added_with_tables(place: Place, child: Child) -> None:
+    child.wait_for("following slot")
+    wait_until(lambda: not is_adding(place.store), "adding tables", 60, child.check)
+    place.catch_up(child)
+    now_in_tables(place)
+    compare_tables(place.cluster, rows_file(place), "pgsub", database=place.database)
+    child.stop()
+    place.equal()
+
+
 CASES = (
+    Case("tables-with-the-copy", tables_with_the_copy),
+    *(
+        Case(
+            f"copy-with-tables-killed-{it.replace(' ', '-')}",
+            functools.partial(killed_with_tables, moment=it),
+        )
+        for it in MOMENTS
+    ),
     Case("table-swapped-while-copied", swapped),
     Case("table-dropped-while-copied", dropped),
     Case("locks-are-short", locks_are_short),

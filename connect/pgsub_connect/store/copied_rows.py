@@ -1,0 +1,94 @@
+"""A new file of tables from the rows of an initial copy, by a process that gets them while they are
+read: without it the tables would be made from the store once that is complete.
+
+It gets the frames of Inserts that the program gets, too, and a CopyDone at the end. Without that
+nothing is left of the file.
+"""
+
+from __future__ import annotations
+
+import contextlib
+import os
+import sqlite3
+import sys
+from collections.abc import Iterator
+from typing import BinaryIO, NamedTuple
+
+from pgsub_feed import log
+from pgsub_feed.errors import Failure, Passing, Stopped
+from pgsub_feed.files import placed
+from pgsub_feed.interruption import Check
+from pgsub_feed.program import check_signals, guarded
+from pgsub_feed.tables.first_rows import prepare
+from pgsub_feed.tables.sqlite_files import check_sqlite
+from pgsub_feed.tables.values import Malformed
+from pgsub_feed.texts import lsn_text, parse_lsn
+
+from ..drift.remembered import Remembered
+from .export import Export
+
+# The head of a frame: a letter and a length, which counts itself. Behind that the letter of XLogData
+# and three numbers of eight bytes, that of an Insert, an OID, a letter and the row.
+HEAD, OID, ROW = 5, 26, 31
+DONE = b"c\x00\x00\x00\x04"
+# How much is read at once, in bytes.
+READ = 1 << 20
+
+
+class Wanted(NamedTuple):
+    """The file, the store that it is of, whose tables are remembered, and the feed that it is to
+    follow; how it has numerics; its mode; and the LSN as of which the rows are."""
+
+    into: str
+    store: str
+    feed: str
+    form: str
+    mode: int
+    point: int
+
+    def words(self) -> list[str]:
+        return [*self[:4], f"{self.mode:o}", lsn_text(self.point)]
+
+
+def wanted_of(words: list[str]) -> Wanted:
+    into, store, feed, form, mode, point = words
+    return Wanted(into, store, feed, form, int(mode, 8), parse_lsn(point))
+
+
+def rows_of(source: BinaryIO) -> Iterator[tuple[int, bytes, int]]:
+    """The rows, each once, with the OIDs of their tables."""
+    while (head := source.read(HEAD))[:1] == b"d":
+        message = source.read(int.from_bytes(head[1:], "big") - 4)
+        yield int.from_bytes(message[OID : OID + 4], "big"), message[ROW:], 1
+    if head != DONE:
+        raise Stopped
+
+
+def fill(wanted: Wanted, source: BinaryIO, check: Check) -> None:
+    """Makes the file."""
+    check_sqlite()
+    with placed(wanted.into, wanted.mode) as new, contextlib.closing(
+        sqlite3.connect(new, isolation_level=None)
+    ) as db:
+        remembered, export = Remembered(wanted.store), Export(db, wanted.form, check)
+        export.run(remembered, wanted.point, {}, rows_of(source))
+        prepare(db, os.path.abspath(wanted.feed), (), True)
+
+
+def filled(wanted: Wanted, source: BinaryIO, check: Check) -> int:
+    """Makes the file, or tells why there is none; the exit status."""
+    try:
+        fill(wanted, source, check)
+        return 0
+    except Stopped:
+        return Passing.STATUS
+    except (Failure, Malformed, OSError, sqlite3.Error) as error:
+        why = "a row isn't one of its table" if isinstance(error, Malformed) else error
+        log.warning(f"{wanted.into} can't be made while rows are copied: {why}")
+        return Passing.STATUS
+
+
+def run() -> None:
+    wanted, check = wanted_of(sys.argv[1:]), check_signals()
+    with open(0, "rb", buffering=READ) as source:
+        sys.exit(guarded(lambda: filled(wanted, source, check)))
