@@ -1206,8 +1206,8 @@ BUGS = (
     Bug(
         "a start that is refused while rows are copied leaves its files",
         "pgsub_connect/follow/refused.py",
-        "if checkpoint.known.phase in (NEW, COPYING) else set()",
-        "if checkpoint.known.phase == NEW else set()",
+        "if checkpoint.known.phase in (NEW, COPYING):",
+        "if checkpoint.known.phase == NEW:",
         ("test_beginning",),
     ),
     Bug(

@@ -13,7 +13,7 @@ from unittest import mock
 from pgsub_connect.commands import drop, follow, refresh
 from pgsub_connect.drift.remembered import Remembered
 from pgsub_connect.errors import ServerError
-from pgsub_connect.follow.refused import leaving_nothing
+from pgsub_connect.follow.refused import leaving_nothing, own_files
 from pgsub_connect.store.checkpoint import LONGEST_PATH, Checkpoint
 from pgsub_connect.store.checkpoint_at_rest import read_known
 from pgsub_connect.store.checkpoint_lines import COPYING, FOLLOWING, SLOT
@@ -214,6 +214,27 @@ class Copies(Copying):
                     copier.run()
                 self.assertEqual((os.listdir(self.folder), self.slots), ([], []))
                 self.server.answers.pop(0)
+
+    def test_what_the_program_has_made(self) -> None:
+        """A store, a feed and tables where there was no slot to follow; what somebody else has put
+        into the feed stays."""
+        feed, rows, mine = self.store + ".feed", self.folder + "/rows.db", self.folder + "/mine"
+        for is_mine in (False, True):
+            Path(mine).touch()
+            before, checkpoint = own_files(self.store), Checkpoint(self.store)
+            with leaving_nothing(checkpoint, before, (feed, rows, mine, "", None)):
+                os.makedirs(feed + "/readers")
+                for path in (
+                    *(self.store + it for it in ("", "-wal", ".status", ".sock")),
+                    *(feed + it for it in ("/0000000000000000", "/confirmed", "/readers/tables")),
+                    *(rows + it for it in ("", "-wal", "-shm")),
+                    *([feed + "/mine"] if is_mine else []),
+                ):
+                    Path(path).touch()
+            os.close(checkpoint.file)
+            left = ["copy.db.feed", "mine"] if is_mine else ["mine"]
+            self.assertEqual(sorted(os.listdir(self.folder)), left)
+        self.assertEqual(os.listdir(feed), ["mine"])
 
     def test_a_slot_that_the_next_start_goes_on_with(self) -> None:
         copier = self.copier()

@@ -16,19 +16,18 @@ from typing import Any
 
 from pgsub_feed import log
 from pgsub_feed.errors import FileError, Passing, Unfit
-from pgsub_feed.files import NEW, OF_FILE, meant, own_files, remove
+from pgsub_feed.files import OF_FILE, meant, own_files, remove
 from pgsub_feed.interruption import Check, never
 from pgsub_feed.json_texts import Unreadable, object_of, whole_of
 from pgsub_feed.options import option
 from pgsub_feed.program import check_signals
-from pgsub_feed.reader.positions import READERS
-from pgsub_feed.reader.segments import CONFIRMED, segments
 from pgsub_feed.tables.position import read_position
 from pgsub_feed.tables.sqlite_files import is_tables
 from pgsub_feed.texts import identifier, literal
 
 from ..drift.remembered_lines import read_lines
 from ..errors import understood
+from ..follow.retention import remove_feed
 from ..server.connection import Connection
 from ..server.publication_content import oid_of, other_slots
 from ..server.publication_setup import inserts_of
@@ -107,22 +106,6 @@ def files_of(store: str) -> list[str]:
         )
         if os.path.lexists(path)
     ]
-
-
-def remove_feed(folder: str) -> None:
-    """Removes a feed and what its readers have noted. What else is there stays, with the folder."""
-    readers = os.path.join(folder, READERS)
-    names = [name for _, name in segments(folder)] + [CONFIRMED, CONFIRMED + NEW]
-    for path in [os.path.join(folder, it) for it in names]:
-        remove(path)
-    with contextlib.suppress(FileNotFoundError):
-        for it in list(os.scandir(readers)):
-            if it.is_file(follow_symlinks=False):
-                remove(it.path)
-    for path in (readers, folder):
-        with contextlib.suppress(FileNotFoundError):
-            if not os.listdir(path):
-                os.rmdir(path)
 
 
 Ask = Callable[[str], bool]

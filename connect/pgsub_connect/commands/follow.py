@@ -177,7 +177,8 @@ def follow(options: Options) -> int:
     check_start(options)
     before = own_files(options.store)
     checkpoint = checkpoint_of(options, start.check_stop)
-    with leaving_nothing(checkpoint, before, (options.feed, options.record)):
+    others = options.feed, options.tables, options.record
+    with leaving_nothing(checkpoint, before, others):
         return follow_locked(options, checkpoint, start)
 
 

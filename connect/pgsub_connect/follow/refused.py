@@ -6,13 +6,14 @@ import contextlib
 import os
 from collections.abc import Iterable, Iterator
 
-from pgsub_feed.files import meant, remove
+from pgsub_feed.files import meant, remove_files
 
 from ..drift.remembered import Remembered
 from ..status.files import STATUS
 from ..store.checkpoint import Checkpoint
 from ..store.checkpoint_lines import COPYING, NEW
 from ..store.placing import OF_STORE
+from .retention import remove_feed
 
 
 def own_files(store: str) -> set[str]:
@@ -25,24 +26,22 @@ def own_files(store: str) -> set[str]:
 def leaving_nothing(
     checkpoint: Checkpoint, before: set[str], others: Iterable[str | None]
 ) -> Iterator[None]:
-    """Removes what wasn't among a store's files before, unless there is a slot by now that the next
-    start goes on with; and other files and folders that weren't there and are empty. The checkpoint
-    is locked, and so goes last."""
-    empty = [it for it in others if it and not os.path.lexists(it)]
+    """Removes what wasn't among a store's files before, and others that weren't there, as a feed;
+    unless there is a slot by now that the next start goes on with. The checkpoint is locked, and so
+    goes last."""
+    new = [it for it in others if it and not os.path.lexists(it)]
     try:
         yield
     finally:
-        store = checkpoint.path.removesuffix(".connector")
-        made = own_files(store) - before if checkpoint.known.phase in (NEW, COPYING) else set()
-        # (publications that can't be dropped now are remembered)
-        if store + ".tables" in made and Remembered(store).made:
-            made.remove(store + ".tables")
-        for path in sorted(made, key=lambda it: it == checkpoint.path):
-            with contextlib.suppress(OSError):
-                remove(path)
-        for path in empty:
-            with contextlib.suppress(OSError):
-                if os.path.isdir(path):
-                    os.rmdir(path)
-                elif not os.path.getsize(path):
-                    remove(path)
+        if checkpoint.known.phase in (NEW, COPYING):
+            store = checkpoint.path.removesuffix(".connector")
+            made = own_files(store) - before
+            # (publications that can't be dropped now are remembered)
+            if store + ".tables" in made and Remembered(store).made:
+                made.remove(store + ".tables")
+            for path in (*new, *sorted(made, key=lambda it: it == checkpoint.path)):
+                with contextlib.suppress(OSError):
+                    if os.path.isdir(path):
+                        remove_feed(path)
+                    else:
+                        remove_files(path)

@@ -13,8 +13,9 @@ import dataclasses
 import os
 
 from pgsub_feed.errors import FileError
+from pgsub_feed.files import NEW, remove
 from pgsub_feed.reader.positions import READERS
-from pgsub_feed.reader.segments import segments
+from pgsub_feed.reader.segments import CONFIRMED, segments
 from pgsub_feed.texts import parse_lsn
 
 
@@ -97,3 +98,19 @@ def retire(folder: str, limits: Limits, position: int, now: float) -> Retired:
         retired.segments += 1
         retired.readers |= behind
     return retired
+
+
+def remove_feed(folder: str) -> None:
+    """Removes a feed and what its readers have noted. What else is there stays, with the folder."""
+    readers = os.path.join(folder, READERS)
+    names = [name for _, name in segments(folder)] + [CONFIRMED, CONFIRMED + NEW]
+    for path in [os.path.join(folder, it) for it in names]:
+        remove(path)
+    with contextlib.suppress(FileNotFoundError):
+        for it in list(os.scandir(readers)):
+            if it.is_file(follow_symlinks=False):
+                remove(it.path)
+    for path in (readers, folder):
+        with contextlib.suppress(FileNotFoundError):
+            if not os.listdir(path):
+                os.rmdir(path)
