@@ -1,8 +1,9 @@
 """Calls of a library that wait for a server, which a signal ends.
 
 A signal that asks for the end only notes that, so that nothing is cut in the midst of it. Where a
-library waits nobody looks at the note: there the signal itself ends the call, which loses what the
-call was at. So it is for connections alone that aren't used afterwards.
+library waits nobody looks at the note: there the signal itself ends the call, at once or some
+seconds later, which loses what the call was at. So it is for connections alone that aren't used
+afterwards.
 """
 
 import contextlib
@@ -21,27 +22,53 @@ def never() -> None:
     """Asks for no end."""
 
 
+def is_ended(check: Check) -> bool:
+    """Whether the end was asked for."""
+    try:
+        check()
+    except Stopped:
+        return True
+    return False
+
+
+def stop(*_: object) -> None:
+    raise Stopped
+
+
 class Calls:
-    """Whether such a call runs."""
+    """Whether such a call runs, for how many seconds it goes on once a signal came, and whether
+    they run."""
 
     def __init__(self) -> None:
-        self.are_waiting = False
+        self.are_waiting, self.grace, self.is_timed = False, 0.0, False
 
     @contextlib.contextmanager
-    def interruptible(self, check: Check) -> Iterator[None]:
-        """Has a signal end what runs in it by a Stopped."""
-        before, self.are_waiting = self.are_waiting, True
+    def interruptible(self, check: Check, grace: float = 0.0) -> Iterator[None]:
+        """Has a signal end what runs in it by a Stopped, where it isn't through so many seconds
+        later."""
+        before = self.are_waiting, self.grace
+        self.are_waiting, self.grace = True, grace
         try:
             # (of a signal that came just before)
-            check()
+            if is_ended(check):
+                self.interrupt()
             yield
         finally:
-            self.are_waiting = before
+            self.are_waiting, self.grace = before
+            if self.is_timed:
+                signal.setitimer(signal.ITIMER_REAL, 0)
+                self.is_timed = False
 
     def interrupt(self) -> None:
         """What a signal that asks for the end does, once that is noted."""
-        if self.are_waiting:
+        if not self.are_waiting:
+            return
+        if not self.grace or threading.current_thread() is not threading.main_thread():
             raise Stopped
+        if not signal.getitimer(signal.ITIMER_REAL)[0]:
+            self.is_timed = True
+            signal.signal(signal.SIGALRM, stop)
+            signal.setitimer(signal.ITIMER_REAL, self.grace)
 
 
 # Those of this process.
@@ -56,10 +83,7 @@ def at_most(seconds: float) -> Iterator[None]:
         yield
         return
 
-    def end(*_: object) -> None:
-        raise Stopped
-
-    before = signal.signal(signal.SIGALRM, end)
+    before = signal.signal(signal.SIGALRM, stop)
     signal.setitimer(signal.ITIMER_REAL, seconds)
     try:
         yield

@@ -159,12 +159,11 @@ class FakeCalls:
 
     where = "Redis"
 
-    def __init__(self, server: FakeRedis) -> None:
-        self.server = server
+    def __init__(self, server: FakeRedis, check: Check = never) -> None:
+        self.server, self.check = server, check
         self.watched = dict[bytes, int]()
         self.queue: list[list[bytes]] | None = None
         self.is_closed = self.is_lost = False
-        self.check: Check = never
 
     def run(self, commands: Sequence[Command]) -> list[Any]:
         return [

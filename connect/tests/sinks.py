@@ -53,7 +53,8 @@ class RedisCase(SinkCase):
         super().setUp()
         self.server = FakeRedis()
         patched = mock.patch(
-            "pgsub_feed.sinks.redis_calls.Connection", lambda *_: FakeCalls(self.server)
+            "pgsub_feed.sinks.redis_calls.Connection",
+            lambda _, check: FakeCalls(self.server, check),
         )
         patched.start()
         self.addCleanup(patched.stop)

@@ -13,7 +13,7 @@ from unittest import mock
 from feed_text import Line
 
 from pgsub_connect.store.export import ExportSettings, export_store
-from pgsub_feed.errors import EngineError, FileError, Passing, TooLarge, Unfit, UsageError
+from pgsub_feed.errors import EngineError, FileError, Passing, Stopped, TooLarge, Unfit, UsageError
 from pgsub_feed.formats.keys import subject
 from pgsub_feed.interruption import never
 from pgsub_feed.sinks.connecting import is_loopback
@@ -490,6 +490,23 @@ class OfAConnection(unittest.TestCase):
             message = self.wire.receive(1)
             assert message
             self.assertEqual((message.data, message.status), (b"abc", ""))
+
+    def test_asked_to_end_in_the_midst_of_one(self) -> None:
+        """It is read once more, whole."""
+        asked = [False, True]
+
+        def check() -> None:
+            if asked and asked.pop(0):
+                raise Stopped
+
+        self.theirs.sendall(b"MSG a 1 reply 3\r\nab")
+        self.wire.check = check
+        with self.assertRaises(Stopped):
+            self.wire.receive(1)
+        self.theirs.sendall(b"c\r\n")
+        message = self.wire.receive(1)
+        assert message
+        self.assertEqual((message.subject, message.data), ("a", b"abc"))
 
     def test_an_error_that_ends_it(self) -> None:
         self.theirs.sendall(b"-ERR 'Maximum Payload Violation'\r\n")

@@ -7,7 +7,9 @@ import contextlib
 import json
 import os
 import random
+import signal
 import sqlite3
+import time
 import unittest
 from collections import Counter
 from collections.abc import Iterator
@@ -894,6 +896,37 @@ class PlainText(unittest.TestCase):
             ("unix://:secret@/s", False),
         ):
             self.assertEqual(self.told(url, is_own), "")
+
+
+class Interrupted(unittest.TestCase):
+    """Calls of a connection once the end was asked for."""
+
+    def setUp(self) -> None:
+        self.checks = self.raise_nothing
+        with mock.patch("redis.ConnectionPool") as pool:
+            self.library = pool.from_url.return_value.make_connection.return_value
+            self.library.path = self.library.port = self.library.host = None
+            self.calls = Connection("unix:///s", lambda: self.checks())
+        self.library.read_response.return_value = b"OK"
+
+    def raise_nothing(self) -> None:
+        pass
+
+    def stop(self) -> None:
+        raise Stopped
+
+    def test_it_was_asked_for_before(self) -> None:
+        """What is called still has its time, and the connection is as good as it was."""
+        self.checks = self.stop
+        self.assertEqual(self.calls.run([("PING",)]), [b"OK"])
+        self.assertEqual((self.calls.is_lost, signal.getitimer(signal.ITIMER_REAL)[0]), (False, 0))
+
+    def test_nothing_comes_in_time(self) -> None:
+        self.checks = self.stop
+        self.library.read_response.side_effect = lambda: time.sleep(60)
+        with mock.patch("pgsub_feed.sinks.redis_calls.GRACE", 0.05), self.assertRaises(Stopped):
+            self.calls.run([("PING",)])
+        self.assertTrue(self.calls.is_lost)
 
 
 class Errors(unittest.TestCase):

@@ -1,8 +1,9 @@
 """A signal is heard at once, whatever is waited for.
 
 These are real processes of the connector, and peers that say nothing more. On a machine with
-nothing else to do each ends within two seconds; here it may take longer, since many tests run at
-once. Without being heard it would end by another status after its own limit, or never.
+nothing else to do each ends within two seconds, or seven where an engine has commits that it may
+still answer for; here it may take longer, since many tests run at once. Without being heard it
+would end by another status after its own limit, or never.
 """
 
 from __future__ import annotations
@@ -13,6 +14,7 @@ import functools
 import os
 import signal
 import socket
+import socketserver
 import subprocess
 import sys
 import threading
@@ -20,10 +22,14 @@ import time
 import unittest
 from collections.abc import Callable
 from pathlib import Path
+from typing import Any
 
 from pgsub_connect.follow.request_socket import RequestSocket
+from pgsub_feed.sinks.redis_calls import Said
 
+from .fake_redis import FakeCalls, FakeRedis
 from .feeds import FeedCase, insert
+from .sinks import stock
 from .stores import StoreCase
 
 CONNECT = Path(__file__).resolve().parents[1] / "pgsub-connect"
@@ -86,6 +92,48 @@ class Hanging:
             with contextlib.suppress(OSError):
                 it.shutdown(socket.SHUT_RDWR)
             it.close()
+
+
+def packed(said: Any) -> bytes:
+    """How Redis says something."""
+    if isinstance(said, list):
+        return b"*%d\r\n" % len(said) + b"".join(map(packed, said))
+    if isinstance(said, Said):
+        return b"-ERR %b\r\n" % str(said).encode()
+    if said is None:
+        return b"$-1\r\n"
+    return b":%d\r\n" % said if isinstance(said, int) else b"$%d\r\n%b\r\n" % (len(said), said)
+
+
+class Answering(socketserver.ThreadingTCPServer):
+    """A Redis in memory that connections are made to."""
+
+    daemon_threads = True
+
+    def __init__(self) -> None:
+        super().__init__(("127.0.0.1", 0), Speaking)
+        self.redis, self.port = FakeRedis(), self.server_address[1]
+        threading.Thread(target=self.serve_forever, daemon=True).start()
+
+    def close(self) -> None:
+        self.shutdown()
+        self.server_close()
+
+
+class Speaking(socketserver.StreamRequestHandler):
+    """One of these connections."""
+
+    server: Answering
+
+    def handle(self) -> None:
+        calls = FakeCalls(self.server.redis)
+        with contextlib.suppress(OSError):
+            while line := self.rfile.readline():
+                words = []
+                for _ in range(int(line[1:])):
+                    size = int(self.rfile.readline()[1:])
+                    words.append(self.rfile.read(size + 2)[:-2])
+                self.wfile.write(packed(calls.one(words)))
 
 
 class Sinks(FeedCase, Case):
@@ -160,6 +208,37 @@ class Sinks(FeedCase, Case):
             self.sink(f"redis://127.0.0.1:{server.port}"), lambda: b"pgsub:lsn" in server.heard
         )
         self.assertEqual(status, 0)
+
+    def ends_in_exec(self, seconds: float) -> tuple[int, str, FakeRedis]:
+        """A sink that is asked to end while Redis takes so many seconds for a commit: its status,
+        what it has said, and what Redis has."""
+        self.feed.commit(0x100, [insert("1", "a")])
+        server, is_asked = Answering(), threading.Event()
+        self.addCleanup(server.close)
+        child = self.sink(f"redis://127.0.0.1:{server.port}")
+        until = time.monotonic() + PATIENCE
+        while server.redis.at() != "0/100":
+            self.assertLess(time.monotonic(), until)
+            time.sleep(0.02)
+
+        def take_long() -> None:
+            is_asked.set()
+            time.sleep(seconds)
+
+        server.redis.before_exec = take_long
+        self.feed.commit(0x200, [insert("2", "b")])
+        return (*self.ends(child, is_asked.is_set), server.redis)
+
+    def test_redis_that_has_a_commit_soon(self) -> None:
+        status, said, redis = self.ends_in_exec(2.0)
+        self.assertEqual((status, redis.at()), (0, "0/200"), said)
+        self.assertEqual(redis.rows(), stock(("1", "a"), ("2", "b")))
+        self.assertIn("all up to 0/200 is written", said)
+
+    def test_redis_that_never_has_a_commit(self) -> None:
+        status, said, _ = self.ends_in_exec(PATIENCE)
+        self.assertEqual(status, 7, said)
+        self.assertIn("the engine doesn't answer", said)
 
     def test_redis_that_takes_no_connection(self) -> None:
         listening = socket.create_server(("127.0.0.1", 0), backlog=0)

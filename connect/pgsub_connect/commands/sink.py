@@ -126,7 +126,7 @@ def engine_of(options: Options, check: Check, writer: Writer, known: KnownTables
     calls = redis_calls.Connection(options.url, check)
     if options.form == "streams":
         return Redis(calls, redis_streams.Streams(calls), check, writer)
-    return Redis(calls, redis_hashes.Hashes(calls, check), check, writer, known)
+    return Redis(calls, redis_hashes.Hashes(calls), check, writer, known)
 
 
 def run(options: Options) -> int:

@@ -15,6 +15,8 @@ from ..interruption import Check
 
 # For how long one wait lasts at most, in seconds.
 TICK = 0.1
+# An engine has so long for what it was told once the end was asked for, in seconds.
+GRACE = 5.0
 # What getaddrinfo returns of a host: an address and how to make a socket for it.
 Address = tuple[Any, Any, int, str, Any]
 BUSY = (BlockingIOError, ssl.SSLWantReadError, ssl.SSLWantWriteError)

@@ -7,7 +7,7 @@ from collections.abc import Callable
 
 from .. import log
 from ..errors import Passing, Stopped
-from ..interruption import Check, at_most
+from ..interruption import Check, at_most, is_ended
 from ..reader.following import Following
 from ..reader.polling import Parent, Poll
 from ..reader.positions import Noted
@@ -15,11 +15,10 @@ from ..reader.reading import Reading
 from ..reader.segments import Reader, segments
 from ..tables.first_rows import head_of, keeping
 from ..texts import lsn_text
+from .connecting import GRACE
 from .engine import Engine, Wanted
 from .first_rows import base_of
 
-# What was taken may take so long once the end was asked for, in seconds.
-GRACE = 0.7
 # After how many seconds an engine that is away is tried again, at first and at most, how long it
 # has to be there until that is forgotten, and how often it is looked meanwhile whether to end.
 FIRST_DELAY, LONGEST_DELAY, FORGET, STEP = 1.0, 60.0, 60.0, 0.1
@@ -99,15 +98,6 @@ def is_kept(
             raise
         outages.note(error, at)
         return False
-
-
-def is_ended(check: Check) -> bool:
-    """Whether the end was asked for."""
-    try:
-        check()
-    except Stopped:
-        return True
-    return False
 
 
 def follow(

@@ -21,7 +21,7 @@ import urllib.parse
 from typing import Any
 
 from .. import log
-from ..errors import EngineError, Passing, UsageError
+from ..errors import EngineError, Passing, Stopped, UsageError
 from ..interruption import Check, never
 from ..json_texts import Unreadable, object_of, parsed, whole_of
 from ..texts import shortened
@@ -80,7 +80,7 @@ def op_of(line: bytes) -> bytes:
 
 class Wire:
     """A connection. It isn't made again where it is lost. `check` is called while it waits: what
-    that raises leaves what is sent whole."""
+    that raises leaves what is sent, and what comes, whole."""
 
     def __init__(self, url: str, check: Check = never) -> None:
         try:
@@ -259,6 +259,10 @@ class Wire:
             status, headers = read_headers(body[:at]) if at else ("", {})
         except (ValueError, IndexError):
             raise self.wrong(line) from None
+        except Stopped:
+            # (it is read once more, as what was published is waited for at the end)
+            self.coming[:0] = line + END
+            raise
         return Message(subject, body[at:-2], status, headers)
 
     def wrong(self, line: bytes) -> EngineError:

@@ -10,7 +10,7 @@ from .. import log
 from ..errors import EngineError, FileError, Passing, Stopped, UsageError
 from ..interruption import Check, interruptible, never
 from ..texts import shortened
-from .connecting import addresses, is_loopback
+from .connecting import GRACE, addresses, is_loopback
 
 Command = Sequence[Union[bytes, str, int]]
 # The errors that may pass: it loads its files or runs a script, its memory or its disk is full, or
@@ -71,7 +71,8 @@ class Calls(Protocol):
     """A connection. What Redis says is bytes, a number, None or a list of these; an error is a Said
     that is returned.
 
-    `check` is called before it is waited for, and a signal ends that: then the connection is lost.
+    `check` is called before it is waited for. A signal ends that where nothing comes in time: then
+    the connection is lost.
     """
 
     where: str
@@ -110,7 +111,7 @@ class Connection:
         self.where = f"Redis at {named.get('host') or named.get('path')}{':' + str(named['port']) if named.get('port') else ''}"
         if host := named.get("host"):
             self.look_up(url, str(host), int(named["port"]))
-        self.guarded(0, self.connection.connect)
+        self.guarded(0, self.connection.connect, 0.0)
 
     def look_up(self, url: str, host: str, port: int) -> None:
         """Looks at where it is."""
@@ -126,11 +127,11 @@ class Connection:
         except OSError as error:
             raise Passing(f"{self.where}: {error}") from None
 
-    def guarded(self, size: int, call: Callable[[], Any]) -> Any:
+    def guarded(self, size: int, call: Callable[[], Any], grace: float) -> Any:
         """Calls. What is wrong with the connection passes, unless it is the login."""
         errors = self.redis.exceptions
         try:
-            with interruptible(self.check):
+            with interruptible(self.check, grace):
                 return call()
         except Stopped:
             self.is_lost = True
@@ -174,9 +175,12 @@ class Connection:
             # (the library would connect again, and what was watched is forgotten)
             raise Passing(f"{self.where}: the connection is lost")
         packed = b"".join(map(packed_command, commands))
-        size = len(packed)
-        self.guarded(size, lambda: self.connection.send_packed_command([packed]))
-        found: list[Any] = self.guarded(size, lambda: [self.said() for _ in commands])
+
+        def call() -> list[Any]:
+            self.connection.send_packed_command([packed])
+            return [self.said() for _ in commands]
+
+        found: list[Any] = self.guarded(len(packed), call, GRACE)
         return found
 
     def said(self) -> Any:

@@ -336,7 +336,9 @@ class Redis:
     def commands(self) -> list[Command]:
         """What writes all that waits, but for tables whose rows don't have a key each."""
         for oid in self.form.unkeyed():
-            self.relations.give_up(oid)
+            # (a signal may have come between two of them)
+            if oid in self.relations.kept:
+                self.relations.give_up(oid)
         return self.form.commands()
 
     def forget(self) -> None:

@@ -12,7 +12,6 @@ from typing import Union
 
 from ..errors import Unfit
 from ..formats.keys import NULL, row_text
-from ..interruption import Check
 from ..reader.commits import XID, Cell, Cells, Change, Commit, Missed
 from .redis_calls import Calls, Command, Said, raised, understood
 from .relations import Kept
@@ -58,8 +57,8 @@ class Hashes:
 
     name, is_keyed_only = "hashes", True
 
-    def __init__(self, calls: Calls, check: Check) -> None:
-        self.calls, self.check = calls, check
+    def __init__(self, calls: Calls) -> None:
+        self.calls = calls
         self.waiting = dict[str, Value]()
         # of tables whose key may not hold, by OID: keys that no row may have had before what waits,
         # and the tables in which two rows have one, or null in it
@@ -150,7 +149,7 @@ class Hashes:
     def scan(self, pattern: str) -> Iterator[str]:
         cursor = b"0"
         while True:
-            self.check()
+            self.calls.check()
             said = self.calls.run([("SCAN", cursor, "MATCH", pattern, "COUNT", LOOKED)])[0]
             if isinstance(said, Said):
                 raise raised(said, self.calls.where)
