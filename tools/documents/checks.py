@@ -6,7 +6,7 @@ import subprocess
 from collections.abc import Iterator, Sequence
 from dataclasses import dataclass
 from fnmatch import fnmatch
-from functools import cached_property
+from functools import cache, cached_property
 from pathlib import Path
 
 from . import texts
@@ -26,7 +26,15 @@ SHARES = {
 }
 WHOLE = 17500
 # folders that no commit has, or that have no document's paths
-SKIPPED = {".git", "out", "__pycache__", "differences"}
+SKIPPED = {
+    ".git",
+    "out",
+    "__pycache__",
+    ".pytest_cache",
+    ".mypy_cache",
+    ".hypothesis",
+    "differences",
+}
 # a name with one of these at its end is a file of the tree, wherever it lies
 KINDS = (
     ".md",
@@ -91,9 +99,9 @@ FOREIGN = (
 )
 
 
-@dataclass(frozen=True)
+@dataclass(frozen=True, eq=False)
 class Tree:
-    """The files of a repository."""
+    """The files of a repository, as they were when each was looked for first."""
 
     top: Path
 
@@ -112,6 +120,10 @@ class Tree:
         for file in self.files:
             found.update(str(it) for it in Path(file).parents)
         return found - {"."}
+
+    @cached_property
+    def tops(self) -> set[str]:
+        return {it.split("/")[0] for it in self.paths}
 
     @cached_property
     def names(self) -> set[str]:
@@ -188,8 +200,7 @@ def patterns_of(tree: Tree, token: str) -> list[str] | None:
         return None
     pattern = PLACEHOLDER.sub("*", token)
     first, _, rest = pattern.partition("/")
-    tops = {it.split("/")[0] for it in tree.paths}
-    if rest and token.split("/")[0] in tops:
+    if rest and token.split("/")[0] in tree.tops:
         return [pattern]
     if rest and first in tree.crates:
         return [f"crates/{pattern}{end}" for end in ("", ".antt", ".rt")] + [
@@ -263,6 +274,14 @@ def commands_in(line: texts.Line) -> Iterator[tuple[str, str]]:
     yield "", texts.SPAN.sub(" ", line.text)
 
 
+@cache
+def options_of(tree: Tree, command: str) -> set[str]:
+    """The options of a command; those of all commands where it isn't the repository's."""
+    sources = sources_of(tree, command)
+    return all_options(tree) if sources is None else options_in(tree, sources)
+
+
+@cache
 def all_options(tree: Tree) -> set[str]:
     ours = ("tools/", "bench/", "connect/", "crates/pgcommand/src/")
     readable = ("", ".py", ".sh", ".rt", ".toml", ".service")
@@ -277,18 +296,15 @@ def all_options(tree: Tree) -> set[str]:
 
 
 def check_options(tree: Tree, file: str) -> list[str]:
-    wrong, everything = [], all_options(tree)
+    wrong = []
     for line in texts.lines_of(tree.text(file)):
         for command, text in commands_in(line):
-            sources = sources_of(tree, command.removeprefix("./"))
-            known = everything if sources is None else options_in(tree, sources)
-            if command in FOREIGN:
-                continue
-            wrong += [
-                f"{file}:{line.number}: {command or 'nothing'} has an option {it}"
-                for it in OPTION.findall(text)
-                if it not in known
-            ]
+            if command not in FOREIGN:
+                wrong += [
+                    f"{file}:{line.number}: {command or 'nothing'} has an option {it}"
+                    for it in OPTION.findall(text)
+                    if it not in options_of(tree, command.removeprefix("./"))
+                ]
     return wrong
 
 

@@ -115,6 +115,16 @@ class Options(Made):
         )
 
 
+class Files(Made):
+    def test_what_other_programs_leave(self) -> None:
+        self.write(".pytest_cache/README.md", "[a](NO.md)")
+        self.write("connect/tests/.hypothesis/README.md", "[a](NO.md)")
+        self.write(".ci/README.md", "")
+        self.assertEqual(
+            sorted(checks.Tree(self.top).documents()), [".ci/README.md", "README.md", "docs/MAP.md"]
+        )
+
+
 class Groups(Made):
     def groups_wrong(self, text: str) -> list[str]:
         self.write(
