@@ -188,15 +188,28 @@ def locked(place: Place, tries: int) -> None:
         "--mode",
         "644",
     ]
-    done = subprocess.run(
-        [*words, "--dsn", f"host={place.secret}/none"],
-        stdin=subprocess.DEVNULL,
-        capture_output=True,
-    )
     place.secret.chmod(0o755)
-    checkpoint = store.with_name("copy.db.connector")
+    with socket.socket(socket.AF_UNIX) as server:
+        # (it doesn't answer: a start that ended would leave no checkpoint)
+        server.bind(str(place.secret / ".s.PGSQL.5432"))
+        server.listen()
+        server.settimeout(60)
+        child = subprocess.Popen(
+            [*words, "--dsn", f"host={place.secret}"], stdin=subprocess.DEVNULL
+        )
+        try:
+            client, _ = server.accept()
+            with client:
+                refused(store.with_name("copy.db.connector"))
+        finally:
+            child.kill()
+            child.wait()
+
+
+def refused(checkpoint: Path) -> None:
+    """Fails where another account can lock a checkpoint."""
     if not checkpoint.exists():
-        raise Wrong(f"there is no checkpoint: {done.stderr.decode(errors='replace')}")
+        raise Wrong("there is no checkpoint")
     code = "import fcntl, sys; fcntl.flock(open(sys.argv[1]), fcntl.LOCK_EX | fcntl.LOCK_NB)"
     done = subprocess.run(
         [sys.executable, "-c", code, str(checkpoint)],
