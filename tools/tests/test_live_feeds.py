@@ -147,7 +147,7 @@ class OfTables(unittest.TestCase):
             ("numeric(16,2)", (1.5, "1.50")),
             ("numeric[]", ("1.50",)),
         ):
-            self.assertEqual(valued([has(kind)], ["1.50"]), row)
+            self.assertEqual(valued([has(kind)], ("1.50",)), row)
             if kind != "numeric[]":
                 self.assertEqual(kind_of(*definition_of(kind)), kind)
 
