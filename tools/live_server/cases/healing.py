@@ -67,6 +67,12 @@ def healed(place: Place, child: Child) -> None:
     place.catch_up(child)
 
 
+def is_there_since(child: Child, text: str) -> bool:
+    """Whether public.stock has come anew since a text was said."""
+    lines = child.said().partition(text)[2].splitlines()
+    return any("public.stock" in it and "is there, complete as of" in it for it in lines)
+
+
 def ends_well(place: Place, child: Child) -> str:
     verify(place)
     place.catch_up(child)
@@ -206,9 +212,10 @@ def killed(place: Place) -> None:
     place.run("ALTER TABLE other ADD COLUMN z int DEFAULT 3", "UPDATE other SET a = 0 WHERE id = 1")
     child.wait_for("public.other")
     place.run("ALTER TABLE stock ADD COLUMN z int DEFAULT 3", "DROP TABLE other")
-    touch_stock = "UPDATE stock SET price = 3 WHERE sku = 7"
-    place.run(touch_stock)
-    waits(child, lambda: "public.stock" not in left(place), "mending the tables")
+    place.run("UPDATE stock SET price = 3 WHERE sku = 7")
+    child.wait_for("column z of public.stock")
+    waits(child, lambda: is_there_since(child, "column z of public.stock"), "mending the table")
+    waits(child, lambda: "public.stock" not in left(place), "keeping that it is mended")
     # (of the table that was dropped rows may stay, which is told)
     verify(place)
     child.stop()
