@@ -97,25 +97,28 @@ def until_now(place: Place) -> None:
 
 
 def refused(place: Place) -> None:
-    """A copy that has a feed isn't followed without it, unless that is said; and then that feed is
-    none of the copy any more."""
+    """A copy that has a feed goes on with it, and with no other, unless it is said that this ends
+    it; and then that feed is none of the copy any more."""
     place.stock()
     feed = str(feed_of(place))
     Path(feed).mkdir()
     (Path(feed) / "0000000000000000").touch()
-    place.ends(UNFIT, "a new store begins a new feed", "--create", "--feed", feed)
+    text = f"{place.store} begins anew, and an older copy has left: {feed}. Once nobody reads that any more, rm -r {feed};"
+    place.ends(UNFIT, text, "--create", "--feed", feed)
     if place.store.exists() or place.value("SELECT count(*) FROM pg_replication_slots") != "0":
         raise Failed("something was made")
     (Path(feed) / "0000000000000000").unlink()
     place.follow("--create", "--feed", feed)
     place.change()
-    place.ends(UNFIT, "would leave a gap in it")
-    place.follow("--feed", feed)
+    other = place.folder / "other"
+    place.ends(UNFIT, "would leave a gap in it", "--feed", str(other))
+    place.follow()
+    if [len(list(commits(it))) for it in segments(Path(feed))] != [2]:
+        raise Failed("it doesn't go on with its feed where none is named")
     place.follow("--without-feed")
     place.change()
     place.follow()
     place.ends(FILE, "NotAFeed", "--feed", feed)
-    other = place.folder / "other"
     place.follow("--feed", str(other), "--without-feed")
     place.change()
     place.follow("--feed", str(other))
