@@ -242,6 +242,9 @@ def set_aside(place: Place) -> None:
         "INSERT INTO bare VALUES (7)",
     )
     check_equal(place)
+    check_status(place, 1, "column a of public.bare (")
+    place.subcommand("add", "--dsn", place.dsn(), "--store", str(place.store), "--table", "bare")
+    check_equal(place)
     check_status(place, 0, "ok")
     place.run(
         "ALTER TABLE t ALTER COLUMN v TYPE int USING length(v)", "INSERT INTO t VALUES (11, 5)"
