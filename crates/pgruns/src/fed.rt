@@ -2,7 +2,7 @@
 //! both, runs, and closes them.
 
 ghost use Rattle.std.specs.Prelude.{◌≡◌, ◌↔◌, [], false, true, None, Option, Result, Err, Some};
-ghost use Rattle.std.specs.Prelude.{IfOk, IfErr, IfSome};
+ghost use Rattle.std.specs.Prelude.{⊤, IfOk, IfErr, IfSome};
 ghost use Rattle.sqlite.specs.Files.{over_files};
 ghost use Rattle.sqlite.specs.Held as connection;
 ghost use Rattle.sqlite.specs.State.{HasCleanDisk};
@@ -33,7 +33,7 @@ ghost use Rattle.pgruns.specs.Fed.{IsOpenedAt, TellsUnfed, status_of_unapplied, 
 
 use crate::closing::{close_told, followed_status, run_status};
 use crate::filed::Filed;
-use crate::opening::Opening;
+use crate::opening::{FeedOpening, Opening};
 use crate::telling::{tell_unapplied, tell_unfed};
 use pgfeed::{Feed, FeedFault, Folder, Origin, SegmentLimits};
 use pgfollow::{Clock, Link};
@@ -80,12 +80,25 @@ fn open_feed<D: Folder + Drop>(
     }
 }
 
+impl<D: Folder + Drop> FeedOpening<D> for FeedPlan<'_, D> {
+    ghost fails = { λ _ _. ⊤ };
+
+    ghost opens = { λ plan p feed. IsOpenedAt D.File.seen D.File.may_leave D.File.is_clean D.is_true
+        D.places D.has plan.folder plan.origin.system.now plan.origin.database.now
+        plan.origin.slot.now plan.limits p feed };
+
+    fn open_feed(self, alloc: Global, position: Lsn) -> Result<Feed<D>, FeedFault> {
+        open_feed(alloc, self, position)
+    }
+}
+
 /// Opens a feed beside an opened store of any kind, and follows a server over both. Returns the
 /// exit status, the store, and the feed, where it could be opened; where not, standard error gets
 /// why.
 fn follow_fed<
     S: Alter + Drop,
     D: Folder + Drop,
+    B: FeedOpening<D> + Drop,
     L: Listener + Drop,
     R: Read + Drop,
     W: Write + Drop,
@@ -94,7 +107,7 @@ fn follow_fed<
 >(
     alloc: Global,
     store: Store<S>,
-    plan: FeedPlan<'_, D>,
+    plan: B,
     listener: L,
     limits: Limits,
     version: Version,
@@ -104,7 +117,7 @@ fn follow_fed<
 ) -> (u8, Store<S>, Option<Feed<D>>)
     requires readable { link.old.read_failed ≡ false }
     requires writable { link.old.write_failed ≡ false }
-    ensures unfed { result.2 ≡ None → (f : FeedFault)
+    ensures unfed { result.2 ≡ None → (f : FeedFault) × B.fails plan f
         × (result.0 ≡ status_of_unfed f) × (result.1 ≡ store) × (link.new ≡ link.old)
         × TellsUnfed E.takes E.failed f err.old err.new }
     ensures ran { IfSome result.2 (λ feed. (why : Option FollowFault)
@@ -114,9 +127,7 @@ fn follow_fed<
         × ((why ≡ Some follow.Write) ↔ (link.new.write_failed ≡ true))
         × IfSome why IsOfFollowing
         × ((begun : Feed D D.File)
-        × IsOpenedAt D.File.seen D.File.may_leave D.File.is_clean D.is_true D.places D.has
-        plan.entry.folder plan.entry.origin.system.now plan.entry.origin.database.now
-        plan.entry.origin.slot.now plan.entry.limits store.position begun
+        × B.opens plan store.position begun
         × (IsHonest S.Store result.1 → Serves S.Store store →
         FollowsRecorded S.Store told_from
         (KeepsRest D.File.seen D.File.may_leave D.File.is_clean D.is_true D.places D.has)
@@ -128,7 +139,7 @@ fn follow_fed<
         store begun result.1 feed why))) }
     ensures honest { IsHonest S.Store result.1 → IsHonest S.Store store }
 {
-    match open_feed(alloc, plan, store.position()) {
+    match plan.open_feed(alloc, store.position()) {
         Ok(feed) => {
             let (status, store, feed) = follow_recorded(
                 alloc, store, feed, listener, limits, version, link, clock, err,
@@ -144,6 +155,7 @@ fn follow_fed<
 fn apply_fed<
     S: Alter + Drop,
     D: Folder + Drop,
+    B: FeedOpening<D> + Drop,
     R: Input + Drop,
     K: Ticks + Drop,
     P: Output + Drop,
@@ -152,23 +164,21 @@ fn apply_fed<
 >(
     alloc: Global,
     store: Store<S>,
-    plan: FeedPlan<'_, D>,
+    plan: B,
     limits: Limits,
     input: Option<(Version, Incoming<R>)>,
     reporter: Option<&RefCell<Reporter<K, P>>>,
     out: &mut W,
     err: &mut E,
 ) -> (u8, Store<S>, Option<Feed<D>>)
-    ensures unfed { result.2 ≡ None → (f : FeedFault)
+    ensures unfed { result.2 ≡ None → (f : FeedFault) × B.fails plan f
         × (result.0 ≡ status_of_unapplied f) × (result.1 ≡ store) × (out.new ≡ out.old)
         × TellsUnfed E.takes E.failed f err.old err.new }
     ensures ran { IfSome result.2 (λ feed. (why : Result Ending RunFault)
         × (result.0 ≡ status_of why)
         × Tells E.takes E.failed [] [] why err.old err.new
         × ((begun : Feed D D.File)
-        × IsOpenedAt D.File.seen D.File.may_leave D.File.is_clean D.is_true D.places D.has
-        plan.entry.folder plan.entry.origin.system.now plan.entry.origin.database.now
-        plan.entry.origin.slot.now plan.entry.limits store.position begun
+        × B.opens plan store.position begun
         × AppliesRecorded S.Store told_from
         (KeepsRest D.File.seen D.File.may_leave D.File.is_clean D.is_true D.places D.has)
         (LastsFrom D.File.seen D.File.may_leave D.File.is_clean D.is_true D.places D.has)
@@ -179,7 +189,7 @@ fn apply_fed<
         out.old out.new)) }
     ensures honest { IsHonest S.Store result.1 → IsHonest S.Store store }
 {
-    match open_feed(alloc, plan, store.position()) {
+    match plan.open_feed(alloc, store.position()) {
         Ok(feed) => {
             let (status, store, feed) = apply_recorded(
                 alloc, store, feed, limits, input, reporter, out, err,
@@ -196,6 +206,7 @@ pub fn follow_fed_file<
     F: Start,
     O: Opening<F>,
     D: Folder + Drop,
+    B: FeedOpening<D> + Drop,
     L: Listener + Drop,
     R: Read + Drop,
     W: Write + Drop,
@@ -204,7 +215,7 @@ pub fn follow_fed_file<
 >(
     alloc: Global,
     opening: O,
-    plan: FeedPlan<'_, D>,
+    plan: B,
     listener: L,
     limits: Limits,
     version: Version,
@@ -219,7 +230,7 @@ pub fn follow_fed_file<
         × TellsCaused E.takes E.failed (Err (Stream (OfStore f))) err.old err.new
         × IfSome left (λ conn. HasCleanDisk (connection.state over_files conn) →
         StaysAsFound over_files (image_at F.Start) conn)) }
-    ensures unfed { result.2 ≡ None → IfOk result.1 (λ closing. (f : FeedFault)
+    ensures unfed { result.2 ≡ None → IfOk result.1 (λ closing. (f : FeedFault) × B.fails plan f
         × (result.0 ≡ status_of_unfed f) × (link.new ≡ link.old)
         × TellsBoth E.takes E.failed (TellsUnfed E.takes E.failed f) (fault_of_closing closing)
         err.old err.new
@@ -233,9 +244,7 @@ pub fn follow_fed_file<
         × RunsInFiles (image_at F.Start) (λ opened ended.
         (result.0 ≡ status_closed status_of_unclosed (status_of_follow ended.group.missed.count why)
         (fault_of_closing closing)) × ((begun : Feed D D.File)
-        × IsOpenedAt D.File.seen D.File.may_leave D.File.is_clean D.is_true D.places D.has
-        plan.entry.folder plan.entry.origin.system.now plan.entry.origin.database.now
-        plan.entry.origin.slot.now plan.entry.limits opened.position begun
+        × B.opens plan opened.position begun
         × (IsHonest over_files ended →
         FollowsRecorded over_files told_from
         (KeepsRest D.File.seen D.File.may_leave D.File.is_clean D.is_true D.places D.has)
@@ -267,6 +276,7 @@ pub fn apply_fed_to_file<
     F: Start,
     O: Opening<F>,
     D: Folder + Drop,
+    B: FeedOpening<D> + Drop,
     R: Input + Drop,
     K: Ticks + Drop,
     P: Output + Drop,
@@ -275,7 +285,7 @@ pub fn apply_fed_to_file<
 >(
     alloc: Global,
     opening: O,
-    plan: FeedPlan<'_, D>,
+    plan: B,
     limits: Limits,
     input: Option<(Version, Incoming<R>)>,
     reporter: Option<&RefCell<Reporter<K, P>>>,
@@ -287,7 +297,7 @@ pub fn apply_fed_to_file<
         × Tells E.takes E.failed [] [] (Err (Stream (OfStore f))) err.old err.new
         × IfSome left (λ conn. HasCleanDisk (connection.state over_files conn) →
         StaysAsFound over_files (image_at F.Start) conn)) }
-    ensures unfed { result.2 ≡ None → IfOk result.1 (λ closing. (f : FeedFault)
+    ensures unfed { result.2 ≡ None → IfOk result.1 (λ closing. (f : FeedFault) × B.fails plan f
         × (result.0 ≡ status_of_unapplied f) × (out.new ≡ out.old)
         × TellsBoth E.takes E.failed (TellsUnfed E.takes E.failed f) (fault_of_closing closing)
         err.old err.new
@@ -297,9 +307,7 @@ pub fn apply_fed_to_file<
         × TellsBoth E.takes E.failed (Tells E.takes E.failed [] [] why)
         (fault_of_closing closing) err.old err.new
         × RunsInFiles (image_at F.Start) (λ opened ended. (begun : Feed D D.File)
-        × IsOpenedAt D.File.seen D.File.may_leave D.File.is_clean D.is_true D.places D.has
-        plan.entry.folder plan.entry.origin.system.now plan.entry.origin.database.now
-        plan.entry.origin.slot.now plan.entry.limits opened.position begun
+        × B.opens plan opened.position begun
         × AppliesRecorded over_files told_from
         (KeepsRest D.File.seen D.File.may_leave D.File.is_clean D.is_true D.places D.has)
         (LastsFrom D.File.seen D.File.may_leave D.File.is_clean D.is_true D.places D.has)

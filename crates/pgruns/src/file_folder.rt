@@ -1,6 +1,6 @@
 //! The folder of a feed: each segment is a file, named by the LSN at which it begins.
 
-ghost use Rattle.std.specs.Prelude.{IfOk, IsTrue};
+ghost use Rattle.std.specs.Prelude.{◌≡◌, None, IfOk, IsTrue};
 
 use pgfeed::{FeedFault, Folder};
 use pglsn::Lsn;
@@ -94,7 +94,10 @@ fn usable<D: Disk + Drop>(file: D) -> Result<D, FeedFault>
 
 impl<'r> FileFolder<'r> {
     /// The folder at a path, which isn't touched yet.
-    pub fn new(rt: &'r HostRuntime, path: &'r str) -> FileFolder<'r> {
+    pub fn new(rt: &'r HostRuntime, path: &'r str) -> FileFolder<'r>
+        ensures path { result.path.now ≡ path.now }
+        ensures untouched { result.folder ≡ None }
+    {
         FileFolder {
             rt,
             path,

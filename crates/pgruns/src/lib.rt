@@ -21,4 +21,4 @@ pub use fed::{FeedPlan, apply_fed_to_file, follow_fed_file};
 pub use file_folder::FileFolder;
 pub use filed::{Filed, apply_to_file, dump_file, follow_file};
 pub use laws::new_files_are_empty;
-pub use opening::{LeftUnopened, Opening, StoreFile};
+pub use opening::{FeedOpening, LeftUnopened, Opening, StoreFile};

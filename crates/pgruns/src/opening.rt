@@ -1,15 +1,21 @@
-//! Opens the store of a run.
+//! Opens the store of a run, and the feed beside it.
 
-ghost use Rattle.std.specs.Prelude.{◌≡◌, ⊤, IfOk, IfErr, IfSome};
+ghost use Rattle.std.specs.Prelude.{◌≡◌, ◌⊎◌, ℕ, IfOk, IfErr, IfSome};
 ghost use Rattle.sqlite.specs.Files.{over_files};
 ghost use Rattle.sqlite.specs.Held as connection;
 ghost use Rattle.sqlite.specs.State.{HasCleanDisk};
 ghost use Rattle.sqlite.specs.WalFiles.{image_at};
+ghost use Rattle.pgapply.specs.Stored.{IsOwnFault};
 ghost use Rattle.pgapply.specs.declared.fault.StoreFault.{StoreFault as Reason};
+ghost use Rattle.pgapply.specs.declared.fault.StoreFault.TheVariants.{NotAStore};
+ghost use Rattle.pgfeed.specs.declared.fault.FeedFault.{FeedFault as FeedReason};
+ghost use Rattle.pgfeed.specs.declared.feed.Feed.{Feed as FeedValue};
 ghost use Rattle.pgstore.specs.Reopened.{HoldsContent, StaysAsFound};
 ghost use Rattle.pgstore.specs.StoreValue.{begun_at, IsHonest, Serves};
 
 use crate::new_file::{make_file, ready_file};
+use pgfeed::{Feed, FeedFault, Folder};
+use pglsn::Lsn;
 use pgstore::{Refusal, Store};
 use sqlite::{Connection, FileFrom, FileStore, Start};
 use std::alloc::Global;
@@ -41,6 +47,22 @@ pub trait Opening<F: Start> {
         ensures failed { IfErr result (λ e. fails self e.0) };
 }
 
+/// The feed of a run, which is still to be opened in a folder of this kind.
+///
+/// That it can't be opened for a reason is here too a fact that opening it alone gives.
+pub trait FeedOpening<D: Folder + Drop> {
+    /// That it can't be opened for this reason.
+    ghost fails: { Self → FeedReason → Type 0 };
+
+    /// That it was opened so, at this LSN.
+    ghost opens: { Self → ℕ → FeedValue D D.File → Type 0 };
+
+    /// Opens it at the position of the store beside it.
+    fn open_feed(self, alloc: Global, position: Lsn) -> Result<Feed<D>, FeedFault>
+        ensures opened { IfOk result (opens self position) }
+        ensures failed { IfErr result (fails self) };
+}
+
 /// The store in the file at a path, as `Store::open_or_return` opens it, with so many of its pages
 /// in memory. `start` stands for what the files hold, for any file it is `Unknown`.
 pub struct StoreFile<'p, F: Start> {
@@ -57,7 +79,7 @@ pub struct StoreFile<'p, F: Start> {
 }
 
 impl<F: Start> Opening<F> for StoreFile<'_, F> {
-    ghost fails = { λ _ _. ⊤ };
+    ghost fails = { λ _ f. IsOwnFault f ⊎ (f ≡ NotAStore) };
 
     fn open(
         self,

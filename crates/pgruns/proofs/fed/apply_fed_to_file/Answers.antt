@@ -39,17 +39,18 @@ returns-in-Ok-clause-unfed g c none =
     Tells g.E.Output.takes g.E.Output.failed [] [] (ending_of_closing f) applied.new.err closed.new.err) closed.ensures.fault
     closed.ensures.tells in (
       e.0,
-      c.run_status.ensures ∙ ap (λ (n : ℕ). status_closed status_of_unopened n closed.result.0) e.1
+      e.1,
+      c.run_status.ensures ∙ ap (λ (n : ℕ). status_closed status_of_unopened n closed.result.0) e.2
           ∙ unapplied_stays e.0 closed.result.0,
-      e.3,
-      (applied.new.err, e.4, told),
+      e.4,
+      (applied.new.err, e.5, told),
       record {
         opened = c.in-Ok.store;
         ended = applied.result.1;
         found = λ honest. c.in-Ok.ensures.stood (applied.ensures.honest honest);
         serves = λ honest. c.in-Ok.ensures.serves (applied.ensures.honest honest);
         unmissed = ap (λ (a : Group). a.missed) c.in-Ok.ensures.begun;
-        run = e.2;
+        run = e.3;
         closes = closed.ensures.closes;
       },
     )

@@ -1,5 +1,4 @@
 use Rattle.std.proofs.Common.{ℕ, subst}
-use Rattle.pgruns.specs.Fed.{IsOpenedAt}
 use Rattle.pgsub_cli.proofs.Parts.{ledger_of, store_of}
 use Rattle.pgruns.proofs.fed.follow_fed.Goals as goal
 
@@ -15,10 +14,8 @@ returns-in-Ok-clause-ran g c =
       e.5,
       (
         c.in-Ok.feed,
-        subst (λ (p : ℕ). IsOpenedAt g.D.File.Disk.seen g.D.File.Disk.may_leave g.D.File.Disk.is_clean g.D.Folder.is_true
-            g.D.Folder.places g.D.Folder.has c.args.plan.folder c.args.plan.origin.system.now c.args.plan.origin.database.now
-            c.args.plan.origin.slot.now c.args.plan.limits p c.in-Ok.feed)
-            c.position.ensures.position c.in-Ok.ensures,
+        subst (λ (p : ℕ). g.B.FeedOpening.opens c.args.plan p c.in-Ok.feed) c.position.ensures.position
+            c.in-Ok.ensures.opened,
         λ honest serves.
             let f = e.6 honest serves in (
               f.0,

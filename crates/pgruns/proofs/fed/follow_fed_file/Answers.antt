@@ -44,17 +44,18 @@ returns-in-Ok-clause-unfed g c none =
     Tells g.E.Output.takes g.E.Output.failed [] [] (ending_of_closing f) followed.new.err closed.new.err) closed.ensures.fault
     closed.ensures.tells in (
       e.0,
-      c.followed_status.ensures ∙ ap (λ (n : ℕ). status_closed status_of_unclosed n closed.result.0) e.1
+      e.1,
+      c.followed_status.ensures ∙ ap (λ (n : ℕ). status_closed status_of_unclosed n closed.result.0) e.2
           ∙ unfed_stays e.0 closed.result.0,
-      e.3,
-      (followed.new.err, e.4, told),
+      e.4,
+      (followed.new.err, e.5, told),
       record {
         opened = c.in-Ok.store;
         ended = followed.result.1;
         found = λ honest. c.in-Ok.ensures.stood (followed.ensures.honest honest);
         serves = λ honest. c.in-Ok.ensures.serves (followed.ensures.honest honest);
         unmissed = ap (λ (a : Group). a.missed) c.in-Ok.ensures.begun;
-        run = e.2;
+        run = e.3;
         closes = closed.ensures.closes;
       },
     )
