@@ -316,11 +316,6 @@ def statement_of(tree: Tree, clauses: Sequence[str]) -> str:
     ).stdout
 
 
-def section_of(text: str, heading: str) -> str:
-    """The text under a heading of the second level."""
-    return f"\n{text}".partition(f"\n## {heading}\n")[2].partition("\n## ")[0]
-
-
 def is_module(tree: Tree, name: str) -> bool:
     """Whether a name is that of a module of definitions, as CRATE/MODULE."""
     crate, _, module = name.partition("/")
@@ -330,7 +325,7 @@ def is_module(tree: Tree, name: str) -> bool:
 def check_statement(tree: Tree) -> list[str]:
     """PROOFS lists just the modules of the definitions that its clauses stand on, and says how many
     the theorem itself has."""
-    told = section_of(tree.text("docs/PROOFS.md"), "Reading the statement")
+    told = texts.section_of(tree.text("docs/PROOFS.md"), "Reading the statement")
     try:
         all_of_them, theorem = statement_of(tree, CLAUSES), statement_of(tree, [THEOREM])
     except subprocess.CalledProcessError as error:
@@ -349,6 +344,14 @@ def check_statement(tree: Tree) -> list[str]:
             f"docs/PROOFS.md doesn't say that the theorem stands on {count[0] if count else 'nothing'}"
         )
     return wrong
+
+
+def check_claims(tree: Tree) -> list[str]:
+    """Each sentence that says what is proved names its clause, and the module that passes on the
+    statement is complete."""
+    words = [str(tree.top / "tools/statement"), "--check"]
+    ran = subprocess.run(words, capture_output=True, text=True, check=False)
+    return (ran.stdout + ran.stderr).splitlines()
 
 
 def groups_of(crates: str) -> dict[str, list[str]]:

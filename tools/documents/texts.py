@@ -65,3 +65,8 @@ def anchors_of(text: str) -> set[str]:
             found[slug] = count + 1
             anchors.add(f"{slug}-{count}" if count else slug)
     return anchors
+
+
+def section_of(text: str, heading: str) -> str:
+    """The text under a heading of the second level."""
+    return f"\n{text}".partition(f"\n## {heading}\n")[2].partition("\n## ")[0]

@@ -15,8 +15,10 @@ BRACES = r"\{(?:[^{}]|\{(?:[^{}]|\{[^{}]*\})*\})*\}"
 CLAUSE = re.compile(rf"^ *(ensures|requires) (?:(\w+) )?({BRACES})", re.M)
 FUNCTION = re.compile(r"^ *(pub )?(?:const )?fn (\w+)", re.M)
 # what begins an impl or a trait, and which type it is of
-OWNER = re.compile(r"^(?:pub )?(?:impl(?:<.*?>)?|trait) (?:[\w:<>, ]+ for )?(?:\w+::)*(\w+)", re.M)
-BODY = re.compile(r"^ *\{|;$", re.M)
+OWNER = re.compile(
+    r"^(?:pub(?:\(crate\))? )?(?:impl(?:<.*?>)?|trait) (?:[\w:<>, ]+ for )?(?:\w+::)*(\w+)", re.M
+)
+BODY = re.compile(r"^ *\{|;$|\{$", re.M)
 
 
 @dataclass(frozen=True)

@@ -9,14 +9,13 @@ import textwrap
 from collections.abc import Callable, Sequence
 from pathlib import Path
 
-from documents.checks import section_of
 from documents.texts import SPAN
 
 from .contracts import Clause, Contracts, begin, declaration_of, imports_of
 from .definitions import TOKEN, Definition, Module, Name, Statement, named_by, names_of
 from .examples import Cases, all_cases, named_in
 from .sections import sections_of
-from .sentences import SECTIONS, Sentence, sentences_of
+from .sentences import SECTIONS, is_open, sentences_in
 
 STYLE = (Path(__file__).parent / "page.css").read_text(encoding="utf-8")
 NOTATION = (
@@ -84,7 +83,10 @@ class Page:
         self.crates = top / "crates"
         self.contracts = Contracts(self.crates)
         self.statement = Statement(self.crates)
-        self.sentences = {it: self.read_section(*it) for it in SECTIONS}
+        self.sentences = {
+            (file, heading, crate): sentences_in(top, file, heading, self.contracts, crate)
+            for file, heading, crate in SECTIONS
+        }
         for title in titles:
             begin(self.statement, self.contracts.named(title))
         for clause in self.clauses():
@@ -94,11 +96,6 @@ class Page:
         # in which they come
         self.types: dict[tuple[str, str], None] = {}
         self.words: dict[Name, None] = {}
-
-    def read_section(self, file: str, heading: str, crate: str) -> list[Sentence]:
-        path = self.top / file
-        text = path.read_text(encoding="utf-8") if path.is_file() else ""
-        return sentences_of(section_of(text, heading), self.contracts, crate)
 
     def clauses(self) -> list[Clause]:
         """The clauses that the documents name, each once."""
@@ -158,7 +155,7 @@ class Page:
                 else:
                     names = (
                         "".join(map(self.clause, it.clauses))
-                        or '<p class="none">names no clause</p>'
+                        or f'<p class="none">{"not claimed" if is_open(it.text) else "names no clause"}</p>'
                     )
                 shown.append(
                     f'<div class="claim"><div class="says {it.kind}">{says}</div><div>{names}</div></div>'

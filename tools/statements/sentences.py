@@ -2,8 +2,9 @@
 
 A sentence names a clause in a code span: `follow`'s clause `safe` as "clause `safe` of
 `pgsub_core::follow`", a law by its name. Where a function is named once, the clauses that follow it
-are its own. The lines of a quotation or a list stand for the sentence before them that ends with a
-colon, unless they name clauses themselves.
+are its own. An item that names a function and none of its clauses names the whole contract.
+The lines of a quotation or a list stand for the sentence before them that ends with a colon, unless
+they name clauses themselves. What is open or only tested names none.
 """
 
 from __future__ import annotations
@@ -11,6 +12,7 @@ from __future__ import annotations
 import re
 from collections.abc import Iterator
 from dataclasses import dataclass
+from pathlib import Path
 
 from documents import texts
 
@@ -68,14 +70,18 @@ class Reader:
                 )
         return []
 
-    def named_in(self, text: str) -> list[Clause]:
+    def named_in(self, text: str, kind: str) -> list[Clause]:
         """The clauses that a sentence names."""
-        spans = texts.spans_of(text)
+        # (the first cell of a row names commands)
+        spans = texts.spans_of(text if kind != "row" else text.split("|", 2)[2])
         functions = self.functions_in(spans)
         if functions:
             self.spoken.insert(0, functions)
         found = [it for span in spans for it in self.clauses_named(span)]
         found += [it for it in functions if is_law(text, it.function)]
+        if kind == "item":
+            partly = {(it.crate, it.owner, it.function) for it in found}
+            found += [it for it in functions if (it.crate, it.owner, it.function) not in partly]
         return list(dict.fromkeys(found))
 
     def clauses_named(self, name: str) -> list[Clause]:
@@ -88,10 +94,25 @@ class Reader:
     def sentence(self, text: str, kind: str) -> Sentence:
         if crate := CRATE_ITEM.match(text):
             self.crate = crate[1]
-        named = tuple(self.named_in(text))
+        named = tuple(self.named_in(text, kind))
         if not kind:
             self.inherited = named
         return Sentence(text, named or self.inherited, kind)
+
+
+def is_open(text: str) -> bool:
+    """Whether a sentence says what isn't claimed."""
+    return text.startswith(("Open:", "Only tested:"))
+
+
+def unclaimed_in(top: Path, contracts: Contracts) -> list[str]:
+    """The sentences that should name a clause and name none, a line for each."""
+    return [
+        f"{file}, {heading}: names no clause: {it.text}"
+        for file, heading, crate in SECTIONS
+        for it in sentences_in(top, file, heading, contracts, crate)
+        if not it.clauses and not is_open(it.text)
+    ]
 
 
 def is_law(text: str, name: str) -> bool:
@@ -109,9 +130,19 @@ def blocks_of(section: str) -> Iterator[tuple[str, str]]:
         elif text.startswith(("- ", "* ")) or re.match(r"\d+\. ", text):
             yield text, "item"
         elif text.startswith("|"):
-            yield text, "row"
+            # (the head of a table, and the line below it, say nothing)
+            yield from [(text, "row")] if "`" in text else []
         elif text:
             yield text, ""
+
+
+def sentences_in(
+    top: Path, file: str, heading: str, contracts: Contracts, crate: str
+) -> list[Sentence]:
+    """Those of a document's section, none where it isn't there."""
+    path = top / file
+    text = path.read_text(encoding="utf-8") if path.is_file() else ""
+    return sentences_of(texts.section_of(text, heading), contracts, crate)
 
 
 def sentences_of(section: str, contracts: Contracts, crate: str = "") -> list[Sentence]:

@@ -151,6 +151,41 @@ After = Unit
         )
 
 
+class PassedOn(Tree):
+    """The module that passes on each name."""
+
+    def test_names_come_with_their_modules_in_reading_order(self) -> None:
+        rows = FILES["crates/low/specs/Server/Rows.antt"] + "\nabbrev pub IsLeft : ℕ\nIsLeft = 1\n"
+        rows += "\nunfoldable pub copies_of : Row → ℕ\ncopies_of row = row.copies\n"
+        self.write("crates/low/specs/Server/Rows.antt", rows)
+        calls = "use Rattle.low.specs.Server.Rows.{Row, IsLeft as NoneIsLeft, copies_of}\n\n"
+        calls += "abbrev pub IsLeft : ℕ → Type 0\nIsLeft n = n ≡ NoneIsLeft\n\n"
+        calls += "abbrev pub Follows : ℕ → Row → Type 0\nFollows n row = IsLeft (copies_of row)\n"
+        self.write("crates/low/specs/Calls.antt", calls)
+        lines = self.printed("--names").splitlines()
+        self.assertIn("--   low::follow.safe", lines)
+        self.assertEqual(
+            [it for it in lines if not it.startswith("--")],
+            [
+                "pub use Rattle.low.specs.Server.Rows.{IsLeft, Row}",
+                "unfoldable pub use Rattle.low.specs.Server.Rows.{copies_of}",
+                "pub use Rattle.low.specs.Calls.{IsLeft as IsLeft_of_low, Follows}",
+            ],
+        )
+
+    def test_long_lines_are_split(self) -> None:
+        rows = "".join(f"\nabbrev pub is_left_{n} : ℕ\nis_left_{n} = {n}\n" for n in range(9))
+        self.write("crates/low/specs/Server/Rows.antt", rows)
+        names = [f"is_left_{n}" for n in range(9)]
+        calls = f"use Rattle.low.specs.Server.Rows.{{{', '.join(names)}}}\n\n"
+        calls += f"abbrev pub Follows : ℕ\nFollows = {' + '.join(names)}\n"
+        self.write("crates/low/specs/Calls.antt", calls)
+        uses = [it for it in self.printed("--names").splitlines() if it.startswith("pub use")]
+        self.assertEqual(len(uses), 3)
+        self.assertLessEqual(max(map(len, uses)), 100)
+        self.assertEqual(re.findall(r"is_left_\d", "".join(uses)), names)
+
+
 PROOFS = """## The theorem
 
 It is the clause `safe` of `low::follow`:
@@ -203,6 +238,33 @@ class Pages(Tree):
         self.assertIn('<a href="#e-low.proofs.CallRows-none_left">none_left</a>', page)
         self.assertIn("-- nothing is left", page)
         self.assertNotIn("= refl", page)
+
+    def crates_promise(self, text: str) -> str:
+        self.write("docs/PROOFS.md", f"## What each crate promises\n\n{text}\n")
+        return self.page()
+
+    def test_an_item_that_names_a_function_names_its_whole_contract(self) -> None:
+        lib = FILES["crates/low/src/lib.rt"].replace(
+            "    ensures safe", "    ensures same { IsLeft result }\n    ensures safe"
+        )
+        self.write("crates/low/src/lib.rt", lib)
+        page = self.crates_promise("- `low`: `follow` leaves the row.\n- `low`: so it is (`safe`).")
+        whole, part = page.split('<div class="claim">')[1:]
+        self.assertIn("low::follow.same", whole)
+        self.assertIn("low::follow.safe", whole)
+        self.assertNotIn("low::follow.same", part)
+
+    def test_the_head_of_a_table_says_nothing_and_what_is_open_claims_nothing(self) -> None:
+        table = "| Command | Call |\n|---|---|\n| `same` | `follow`: `safe` |"
+        claims = self.crates_promise(f"{table}\n\nOpen: the rest.").split('<div class="claim">')
+        self.assertEqual(len(claims), 3)
+        self.assertIn("low::follow.safe", claims[1])
+        self.assertIn("not claimed", claims[2])
+
+    def test_a_function_without_clauses_has_none_of_the_next_one(self) -> None:
+        lib = "pub fn cause() -> u8 {\n    0\n}\n\n" + FILES["crates/low/src/lib.rt"]
+        self.write("crates/low/src/lib.rt", lib)
+        self.assertIn("names no clause", self.crates_promise("- `low`: `cause` is known."))
 
 
 if __name__ == "__main__":

@@ -1,3 +1,4 @@
 pub mod Recovered
 pub mod Life
 pub mod FedLife
+pub mod Statement
