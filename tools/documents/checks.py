@@ -73,12 +73,14 @@ CLAUSES = (
     "pgfollow::follow_live.followed",
     "pgrecovery::crashes_lose_nothing_confirmed.followed",
     "pgrecovery::one_life_holds_one_history.life",
-    "pgruns::follow_file.ran",
-    "pgruns::follow_file.unopened",
-    "pgruns::apply_to_file.ran",
-    "pgruns::apply_to_file.unopened",
-    "pgruns::dump_file.ran",
-    "pgruns::dump_file.unopened",
+    "pgruns::follow.ran",
+    "pgruns::follow.unopened",
+    "pgruns::follow.unfed",
+    "pgruns::apply.ran",
+    "pgruns::apply.unopened",
+    "pgruns::apply.unfed",
+    "pgruns::dump.ran",
+    "pgruns::dump.unopened",
 )
 # commands whose options aren't ours
 FOREIGN = (

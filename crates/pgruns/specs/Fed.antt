@@ -1,12 +1,26 @@
 -- Part of the statement.
--- A run over a store in two files that keeps a feed of its commits in a folder.
-use Rattle.std.specs.Prelude.{◌≡◌, ◌⊎◌, ◌++◌, ◌∷◌, ℕ, List, [], Bool, codes}
+-- A run over a store in two files that keeps a feed of its commits in a folder, or none.
+use Rattle.std.specs.Prelude.{◌≡◌, ◌⊎◌, ◌++◌, ◌∷◌, ℕ, List, [], Bool, Option, None, Some, Result}
+use Rattle.std.specs.Prelude.{⊤, codes}
+use Rattle.sqlite.specs.Store.{Ghosts}
+use Rattle.pgcommand.specs.declared.limits.Limits.{Limits}
+use Rattle.pgorder.specs.declared.Version.{Version}
 use Rattle.pgfeed.specs.declared.fault.FeedFault.{FeedFault}
 use Rattle.pgfeed.specs.declared.fault.FeedFault.TheVariants as feed
 use Rattle.pgfeed.specs.declared.feed.Feed.{Feed}
-use Rattle.pgfeed.specs.declared.folder.SegmentLimits.{SegmentLimits}
-use Rattle.pgfeed.specs.Feeds.{OpensIn}
+use Rattle.pgfeed.specs.Beside.{KeepsRest, LastsFrom, is_stuck_feed, told_from}
+use Rattle.pgfeed.specs.Feeds.{OpensIn, ReopensAt}
 use Rattle.pgfeed.specs.Naming.{IsOf}
+use Rattle.pgfollow.specs.declared.fault.FollowFault.{FollowFault}
+use Rattle.pgledger.specs.declared.recorded.Recorded.{Recorded}
+use Rattle.pgstore.specs.StoreValue.{StoreValue, HasTables, IsHonest, Serves}
+use Rattle.pgstore.specs.Reopened.{Reopens}
+use Rattle.pgsub_cli.specs.declared.fault.Ending.{Ending}
+use Rattle.pgsub_cli.specs.declared.fault.RunFault.{RunFault}
+use Rattle.pgsub_cli.specs.declared.storing.Incoming.{Incoming}
+use Rattle.pgruns.specs.declared.fed.FeedPlan.{FeedPlan}
+use Rattle.pgruns.specs.Filed.{FollowsTold, position_of}
+use Rattle.pgruns.specs.Recorded.{Applies, FollowsRecorded, HoldsRecorded, ReopensRecorded}
 
 -- ---- why no feed is opened
 
@@ -34,13 +48,57 @@ status_of_unapplied _ = 3
 abbrev pub TellsUnfed : {E : Type 0} → (E → List ℕ → E → Type 0) → (E → Type 0) → FeedFault → E → E → Type 0
 TellsUnfed takes failed f old new = takes old (feed_line f) new ⊎ failed old
 
--- ---- a store with its feed
+-- one was asked for, and none was opened
+abbrev pub IsUnfed : {A B : Type 0} → Option A → Option B → Type 0
+IsUnfed None kept = ⊥
+IsUnfed (Some asked) None = ⊤
+IsUnfed (Some asked) (Some feed) = ⊥
+
+-- none was asked for, or it was opened
+abbrev pub IsRun : {A B : Type 0} → Option A → Option B → Type 0
+IsRun None kept = ⊤
+IsRun (Some asked) None = ⊥
+IsRun (Some asked) (Some feed) = ⊤
+
+-- ---- a store with its feed, or with none
 
 module _ {F D : Type 0} (seen : D → List ℕ) (may_leave : D → List ℕ → Type 0) (is_clean : D → Bool) (is_true : F → Type 0)
     (places : F → List ℕ) (has : F → ℕ → List ℕ → Type 0) where
-  -- It was opened in this folder at this LSN, as a feed of this system, database and slot, whose
-  -- segments end by these limits.
-  pub record IsOpenedAt (folder : F) (system database slot : List ℕ) (limits : SegmentLimits) (p : ℕ) (l : Feed F D) : Type 0 where
-    pub opened : OpensIn seen may_leave is_clean is_true places has folder p l
-    pub told : IsOf l.names system database slot
-    pub limited : l.limits ≡ limits
+  -- It was opened at this LSN as it was planned: in the folder, as a feed of the system, database
+  -- and slot, whose segments end by the limits.
+  pub record IsOpenedAt (plan : FeedPlan F D) (p : ℕ) (l : Feed F D) : Type 0 where
+    pub opened : OpensIn seen may_leave is_clean is_true places has plan.folder p l
+    pub told : IsOf l.names plan.origin.system.now plan.origin.database.now plan.origin.slot.now
+    pub limited : l.limits ≡ plan.limits
+
+  module _ {P S : Type 0} (opens : P → ℕ → Feed F D → Type 0) (g : Ghosts S) where
+    -- A server was followed over the opened store: where no feed was asked for, over that alone,
+    -- and else with the feed that was opened beside it, as `opens` says.
+    abbrev pub FollowsBeside : (L : Type 0) → Option (List ℕ) → Option (List ℕ) → ℕ → Option (List ℕ) → Option (List ℕ) → Limits → Version
+        → Option FollowFault → StoreValue S → StoreValue S → Option P → Option (Feed F D) → Type 0
+    FollowsBeside L unread rest reads wrote wrote' limits version why opened ended None kept =
+        (kept ≡ None) × (IsHonest g ended → FollowsTold g L unread rest reads wrote wrote' limits version opened ended why)
+    FollowsBeside L unread rest reads wrote wrote' limits version why opened ended (Some plan) None = ⊥
+    FollowsBeside L unread rest reads wrote wrote' limits version why opened ended (Some plan) (Some feed) =
+        (begun : Feed F D) × opens plan opened.position begun
+        × (IsHonest g ended → FollowsRecorded g told_from (KeepsRest seen may_leave is_clean is_true places has)
+        (LastsFrom seen may_leave is_clean is_true places has) is_stuck_feed (ReopensAt seen may_leave is_clean is_true places has) L
+        unread rest reads wrote wrote' limits version opened begun ended feed why)
+
+    module _ {R W : Type 0} (gives starts : R → List ℕ → Type 0) (unread : R → Type 0) (takes : W → List ℕ → W → Type 0)
+        (failed : W → Type 0) where
+      -- what came was applied to it so
+      abbrev pub AppliesBeside : Limits → Option (Version × Incoming R) → Result Ending RunFault → W → W → StoreValue S → StoreValue S
+          → Option P → Option (Feed F D) → Type 0
+      AppliesBeside limits input why out out' opened ended None kept =
+          (kept ≡ None)
+          × Applies (IsHonest g) (Serves g) (HasTables g) position_of (Reopens g g) gives starts unread takes failed limits input opened
+          ended why out out'
+      AppliesBeside limits input why out out' opened ended (Some plan) None = ⊥
+      AppliesBeside limits input why out out' opened ended (Some plan) (Some feed) =
+          (begun : Feed F D) × opens plan opened.position begun
+          × Applies {C = Recorded (StoreValue S) (Feed F D)} (λ r. IsHonest g r.store) (λ r. Serves g r.store)
+          (HoldsRecorded g told_from (KeepsRest seen may_leave is_clean is_true places has)
+          (LastsFrom seen may_leave is_clean is_true places has) is_stuck_feed) (λ r. r.store.position)
+          (ReopensRecorded g (ReopensAt seen may_leave is_clean is_true places has)) gives starts unread takes failed limits input
+          (record { store = opened; ledger = begun }) (record { store = ended; ledger = feed }) why out out'

@@ -8,7 +8,7 @@ use Rattle.pgapply.specs.Value.{Tables}
 use Rattle.pgledger.specs.declared.recorded.Recorded.{Recorded}
 use Rattle.pgledger.specs.Entries.{Entry}
 use Rattle.pgledger.specs.Records.{Records}
-use Rattle.pgstore.specs.StoreValue.{StoreValue, HasTables, IsHonest, Serves}
+use Rattle.pgstore.specs.StoreValue.{StoreValue, HasTables, Serves}
 use Rattle.pgstore.specs.Reopened.{Reopens}
 use Rattle.pgfollow.specs.declared.fault.FollowFault.{FollowFault}
 use Rattle.pgsub_cli.specs.declared.fault.Ending.{Ending}
@@ -40,20 +40,13 @@ module _ {S G : Type 0} (g : Ghosts S) where
         (λ r other. ReopensRecorded reopens r.store other.store)
         (λ r. Serves g r.store.store) (λ r. r.store.store.group.missed) unread rest reads wrote wrote' limits version told last why
 
-module _ {S G R W : Type 0} (g : Ghosts S) (begins : G → ℕ) (keeps : G → List Entry → Type 0) (outlasts : G → ℕ → Type 0)
-    (is_stuck : G → Bool) (reopens : G → ℕ → G → Type 0) where
-  -- What came was applied to the one, which led to the other: its lines were printed, and what the
-  -- store holds then, and what a crash may leave of it, is as of a run without a ledger.
-  pub record AppliesRecorded (gives starts : R → List ℕ → Type 0) (unread : R → Type 0) (takes : W → List ℕ → W → Type 0)
-      (failed : W → Type 0) (limits : Limits) (input : Option (Version × Incoming R)) (old new : Recorded (StoreValue S) G)
-      (ended : Result Ending RunFault) (out out' : W) : Type 0 where
-    pub prints : PrintsOver gives starts unread (HoldsRecorded g begins keeps outlasts is_stuck) (λ r. r.store.position)
-        (λ r. IsHonest g r.store) takes failed limits input old new out out' ended
-    pub kept : Serves g new.store
-        → HoldsAfter gives starts unread (HoldsRecorded g begins keeps outlasts is_stuck) (λ r. r.store.position) limits input old new
-    pub left : IsHonest g new.store
-        → MayBeLeft gives starts unread (HoldsRecorded g begins keeps outlasts is_stuck) (λ r. r.store.position) (ReopensRecorded g reopens)
-        (λ r. Serves g r.store) limits input old new
-    pub crash : IsHonest g new.store → Serves g old.store
-        → LosesNothing gives starts unread (HoldsRecorded g begins keeps outlasts is_stuck) (λ r. r.store.position)
-        (ReopensRecorded g reopens) limits input old new
+-- What came was applied to the one, which led to the other: its lines were printed, and what it
+-- holds then, and what a crash may leave of it, is by what came.
+pub record Applies {C R W : Type 0} (is_honest serves : C → Type 0) (holds : C → Tables → Type 0) (place : C → ℕ)
+    (reopens : C → C → Type 0) (gives starts : R → List ℕ → Type 0) (unread : R → Type 0) (takes : W → List ℕ → W → Type 0)
+    (failed : W → Type 0) (limits : Limits) (input : Option (Version × Incoming R)) (old new : C) (ended : Result Ending RunFault)
+    (out out' : W) : Type 0 where
+  pub prints : PrintsOver gives starts unread holds place is_honest takes failed limits input old new out out' ended
+  pub kept : serves new → HoldsAfter gives starts unread holds place limits input old new
+  pub left : is_honest new → MayBeLeft gives starts unread holds place reopens serves limits input old new
+  pub crash : is_honest new → LosesNothing gives starts unread holds place reopens limits input old new

@@ -3,7 +3,7 @@
 //!
 //! ```text
 //! let opening = StoreFile { rt, path: "copy.db", cache, start: Unknown, is_made: false };
-//! let (status, left, out) = dump_file(alloc, opening, out, &mut err);
+//! let (status, left, out) = dump(alloc, opening, out, &mut err);
 //! ```
 #![tactic(auto)]
 
@@ -17,8 +17,8 @@ mod opening;
 mod telling;
 
 pub use closing::Closing;
-pub use fed::{FeedPlan, apply_fed_to_file, follow_fed_file};
+pub use fed::{ApplyPlan, FeedPlan, FollowPlan, LiveIo};
 pub use file_folder::FileFolder;
-pub use filed::{Filed, apply_to_file, dump_file, follow_file};
+pub use filed::{Filed, apply, dump, follow};
 pub use laws::new_files_are_empty;
 pub use opening::{FeedOpening, LeftUnopened, Opening, StoreFile};

@@ -14,8 +14,7 @@ use pgfeed::{Folder, Origin, SegmentLimits};
 use pgfollow::{Clock, Link};
 use pgorder::Version;
 use pgruns::{
-    FeedPlan, FileFolder, Filed, StoreFile, apply_fed_to_file, apply_to_file, dump_file,
-    follow_fed_file, follow_file,
+    ApplyPlan, FeedPlan, FileFolder, Filed, FollowPlan, LiveIo, StoreFile, apply, dump, follow,
 };
 use pgsub_cli::fault::RunFault;
 use pgsub_cli::reporting::Reporter;
@@ -168,14 +167,8 @@ fn reporter_of<'r>(
 
 /// The exit status of a run. What it leaves of the files ends here, and only here: a proof over it
 /// asks for what holds of each of its parts.
-fn status_of<F: Start>(run: (u8, Filed<FileFrom<F>>)) -> u8 {
+fn status_of<F: Start, L: Drop>(run: (u8, Filed<FileFrom<F>>, L)) -> u8 {
     run.0
-}
-
-/// That of a run beside which a feed is kept.
-fn fed_status_of<F: Start, L: Drop>(run: (u8, Filed<FileFrom<F>>, L)) -> u8 {
-    let (status, left, _ledger) = run;
-    status_of((status, left))
 }
 
 /// The store in the file at a path, with so many of its pages in memory.
@@ -194,14 +187,6 @@ fn store_file<'p>(
     }
 }
 
-/// The feed that a task keeps beside its store, if it keeps one.
-fn feed_of(task: &Task) -> Option<&FeedOptions> {
-    match task {
-        Task::Apply { feed, .. } | Task::Follow { feed, .. } => feed.as_ref(),
-        _ => None,
-    }
-}
-
 /// When the segments of a feed end: 0 seconds mean no limit of age.
 fn segment_limits(options: &FeedOptions) -> SegmentLimits {
     let micros = match options.segment_seconds {
@@ -214,9 +199,16 @@ fn segment_limits(options: &FeedOptions) -> SegmentLimits {
     }
 }
 
-/// The feed that these options ask for.
-fn feed_plan<'a>(rt: &'a HostRuntime, options: &'a FeedOptions) -> FeedPlan<'a, FileFolder<'a>> {
-    FeedPlan {
+/// The feed that a task keeps beside its store, if it keeps one.
+fn feed_of<'a>(rt: &'a HostRuntime, task: &'a Task) -> Option<FeedPlan<'a, FileFolder<'a>>> {
+    let options = match task {
+        Task::Apply { feed, .. } | Task::Follow { feed, .. } => feed.as_ref(),
+        _ => None,
+    };
+    let Some(options) = options else {
+        return None;
+    };
+    Some(FeedPlan {
         folder: FileFolder::new(rt, options.folder.as_str()),
         origin: Origin {
             system: options.system.as_str(),
@@ -224,56 +216,35 @@ fn feed_plan<'a>(rt: &'a HostRuntime, options: &'a FeedOptions) -> FeedPlan<'a, 
             slot: options.slot.as_str(),
         },
         limits: segment_limits(options),
-    }
-}
-
-/// Applies to the store in the file at a path what comes, and keeps a feed of its commits, in a
-/// folder of any kind: a proof over the folder's own asks for what holds of each of its parts.
-fn apply_fed<D: Folder + Drop>(
-    rt: &HostRuntime,
-    task: &Task,
-    path: &str,
-    plan: FeedPlan<'_, D>,
-    input: Option<(Version, Incoming<File>)>,
-) -> u8 {
-    let (mut out, mut err) = (rt.stdout(), rt.stderr());
-    let reporter = reporter_of(rt, task, &input);
-    fed_status_of(apply_fed_to_file(
-        rt.alloc(),
-        store_file(rt, path, cache_of(task), true),
-        plan,
-        limits_of(task),
-        input,
-        reporter.as_ref(),
-        &mut out,
-        &mut err,
-    ))
+    })
 }
 
 /// Applies what a task names to the store in the file at a path. That is read before the store is
-/// opened.
+/// opened. A feed's folder is of any kind: a proof over the folder's own asks for what holds of
+/// each of its parts.
 ///
 /// The store's files never become a standard stream that was closed at the start: the SQL library
 /// opens them with higher numbers.
-fn run_over(rt: &HostRuntime, task: &Task, path: &str) -> u8 {
+fn run_over<D: Folder + Drop>(
+    rt: &HostRuntime,
+    task: &Task,
+    path: &str,
+    feed: Option<FeedPlan<'_, D>>,
+) -> u8 {
     let (mut out, mut err) = (rt.stdout(), rt.stderr());
     let input = match input_of(rt, task) {
         Ok(input) => input,
         Err(fault) => return tell_stopped(rt.alloc(), task, fault, &mut err),
     };
-    if let Some(options) = feed_of(task) {
-        return apply_fed(rt, task, path, feed_plan(rt, options), input);
-    }
     let reporter = reporter_of(rt, task, &input);
-    status_of(apply_to_file(
-        rt.alloc(),
-        store_file(rt, path, cache_of(task), true),
-        limits_of(task),
+    let plan = ApplyPlan {
+        feed,
+        limits: limits_of(task),
         input,
-        reporter.as_ref(),
-        &mut out,
-        &mut err,
-    ))
+        reporter: reporter.as_ref(),
+    };
+    let opening = store_file(rt, path, cache_of(task), true);
+    status_of(apply(rt.alloc(), opening, plan, &mut out, &mut err))
 }
 
 /// Prints what the store in the file at a path holds, which has to be there.
@@ -284,8 +255,7 @@ fn dump_over(rt: &HostRuntime, task: &Task, path: &str) -> u8 {
         return tell_stopped(rt.alloc(), task, missing, &mut err);
     }
     let opening = store_file(rt, path, cache_of(task), false);
-    let (status, left, _out) = dump_file(rt.alloc(), opening, rt.stdout(), &mut err);
-    status_of((status, left))
+    status_of(dump(rt.alloc(), opening, rt.stdout(), &mut err))
 }
 
 /// The system's clock.
@@ -313,46 +283,27 @@ impl Clock for SystemClock<'_> {
 
 /// Follows a server over the store in the file at a path: its bytes come from standard input, and
 /// statuses go to standard output. Standard error is told of changes that found no row as soon as
-/// their commits are stored.
-fn run_live(rt: &HostRuntime, limits: Limits, version: Version, path: &str, cache: usize) -> u8 {
-    let mut err = rt.stderr();
-    let mut link = Link::new(rt.stdin(), rt.stdout());
-    let mut clock = SystemClock { rt };
-    status_of(follow_file(
-        rt.alloc(),
-        store_file(rt, path, cache, true),
-        MissedLines::new(rt.alloc(), rt.stderr()),
-        limits,
-        version,
-        &mut link,
-        &mut clock,
-        &mut err,
-    ))
-}
-
-/// The same, and a feed of its commits is kept, in a folder of any kind.
-fn run_live_fed<D: Folder + Drop>(
+/// their commits are stored. A feed's folder is of any kind, as in `run_over`.
+fn run_live<D: Folder + Drop>(
     rt: &HostRuntime,
-    plan: FeedPlan<'_, D>,
-    limits: Limits,
+    task: &Task,
     version: Version,
     path: &str,
-    cache: usize,
+    feed: Option<FeedPlan<'_, D>>,
 ) -> u8 {
-    let mut err = rt.stderr();
-    let mut link = Link::new(rt.stdin(), rt.stdout());
-    let mut clock = SystemClock { rt };
-    fed_status_of(follow_fed_file(
-        rt.alloc(),
-        store_file(rt, path, cache, true),
-        plan,
-        MissedLines::new(rt.alloc(), rt.stderr()),
-        limits,
+    let plan = FollowPlan {
+        feed,
+        listener: MissedLines::new(rt.alloc(), rt.stderr()),
+        limits: limits_of(task),
         version,
-        &mut link,
-        &mut clock,
-        &mut err,
-    ))
+    };
+    let mut io = LiveIo {
+        link: Link::new(rt.stdin(), rt.stdout()),
+        clock: SystemClock { rt },
+        err: rt.stderr(),
+    };
+    let opening = store_file(rt, path, cache_of(task), true);
+    status_of(follow(rt.alloc(), opening, plan, &mut io))
 }
 
 /// Applies a recording or a file to a store in memory, which ends with the program, and tells
@@ -390,27 +341,15 @@ fn run_words(rt: &HostRuntime, words: &[String]) -> u8 {
         Err(CommandFault::Usage(error)) => return tell_usage(rt, &error),
         Err(CommandFault::Memory) => return tell_memory(rt, words),
     };
-    if let Task::Follow {
-        version,
-        limits,
-        store,
-        ..
-    } = &task
-    {
-        let (path, cache) = (store.as_str(), cache_of(&task));
-        return match feed_of(&task) {
-            Some(options) => {
-                let plan = feed_plan(rt, options);
-                run_live_fed(rt, plan, *limits, *version, path, cache)
-            }
-            None => run_live(rt, *limits, *version, path, cache),
-        };
+    let feed = feed_of(rt, &task);
+    if let Task::Follow { version, store, .. } = &task {
+        return run_live(rt, &task, *version, store.as_str(), feed);
     }
     if let Task::Dump { store, .. } = &task {
         return dump_over(rt, &task, store.as_str());
     }
     if let Some(path) = store_path(&task) {
-        return run_over(rt, &task, path);
+        return run_over(rt, &task, path, feed);
     }
     if let Task::Apply { progress: true, .. } = &task {
         return run_told(rt, &task);

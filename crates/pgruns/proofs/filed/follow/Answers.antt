@@ -1,23 +1,22 @@
 use Rattle.std.proofs.Common.{◌∙◌, [], ℕ, Option, refl, sym, ap, ap₂, subst}
 use Rattle.std.specs.Prelude.{option_map}
-use Rattle.std.proofs.lemmas.Option.{IfSome_then}
 use Rattle.pgapply.specs.declared.fault.StoreFault.{StoreFault}
 use Rattle.pgstore.specs.StoreValue.{Group}
 use Rattle.pgsub_cli.specs.Runs.{Tells}
 use Rattle.pgruns.specs.Filed.{ending_of_closing, status_closed, status_of_unclosed}
 use Rattle.pgruns.proofs.Unfed.{unfed_stays}
-use Rattle.pgruns.proofs.fed.follow_fed_file.Goals as goal
+use Rattle.pgruns.proofs.filed.follow.Goals as goal
 
 pub returns-in-Ok-clause-ran : goal.returns-in-Ok-clause-ran
-returns-in-Ok-clause-ran g c =
-    let followed = c.follow_fed-status in
+returns-in-Ok-clause-ran g c run =
+    let followed = c.follow_over-status in
     let closed = c.close_told-fault in
+    let e = followed.ensures.ran run in
     let told = subst (λ (f : Option StoreFault).
-    Tells g.E.Output.takes g.E.Output.failed [] [] (ending_of_closing f) followed.new.err closed.new.err) closed.ensures.fault
-    closed.ensures.tells in
-    IfSome_then followed.result.2 followed.ensures.ran (λ feed e. (
+    Tells g.E.Output.takes g.E.Output.failed [] [] (ending_of_closing f) followed.new.io.err closed.new.err) closed.ensures.fault
+    closed.ensures.tells in (
       e.0,
-      (followed.new.err, e.2, told),
+      (followed.new.io.err, e.2, told),
       e.3,
       e.4,
       e.5,
@@ -29,26 +28,26 @@ returns-in-Ok-clause-ran g c =
         unmissed = ap (λ (a : Group). a.missed) c.in-Ok.ensures.begun;
         run = (
           c.followed_status.ensures ∙ ap₂ (status_closed status_of_unclosed) e.1 closed.ensures.fault,
-          (e.6.0, e.6.1, λ honest. e.6.2 honest (c.in-Ok.ensures.serves (followed.ensures.honest honest))),
+          e.6 (λ honest. c.in-Ok.ensures.serves (followed.ensures.honest honest)),
         );
         closes = closed.ensures.closes;
       },
-    ))
+    )
 
 pub returns-in-Ok-clause-unfed : goal.returns-in-Ok-clause-unfed
-returns-in-Ok-clause-unfed g c none =
-    let followed = c.follow_fed-status in
+returns-in-Ok-clause-unfed g c unfed =
+    let followed = c.follow_over-status in
     let closed = c.close_told-fault in
-    let e = followed.ensures.unfed none in
+    let e = followed.ensures.unfed unfed in
     let told = subst (λ (f : Option StoreFault).
-    Tells g.E.Output.takes g.E.Output.failed [] [] (ending_of_closing f) followed.new.err closed.new.err) closed.ensures.fault
+    Tells g.E.Output.takes g.E.Output.failed [] [] (ending_of_closing f) followed.new.io.err closed.new.err) closed.ensures.fault
     closed.ensures.tells in (
       e.0,
       e.1,
       c.followed_status.ensures ∙ ap (λ (n : ℕ). status_closed status_of_unclosed n closed.result.0) e.2
           ∙ unfed_stays e.0 closed.result.0,
       e.4,
-      (followed.new.err, e.5, told),
+      (followed.new.io.err, e.5, told),
       record {
         opened = c.in-Ok.store;
         ended = followed.result.1;
@@ -64,9 +63,9 @@ pub returns-in-Err-clause-unopened : goal.returns-in-Err-clause-unopened
 returns-in-Err-clause-unopened g c = (
   c.fault-fault.result,
   subst (g.O.Opening.fails c.args.opening) (sym c.fault-fault.ensures) c.in-Err.ensures.failed,
-  c.tell_unfollowed.ensures.status,
+  c.tell_unfollowed-status.ensures.status,
   refl,
   refl,
-  (option_map (λ text. text.now) c.cause-cause.result, c.tell_unfollowed.ensures.tells),
+  (option_map (λ text. text.now) c.cause-cause.result, c.tell_unfollowed-status.ensures.tells),
   c.in-Err.ensures.unchanged,
 )

@@ -1,21 +1,20 @@
 use Rattle.std.proofs.Common.{◌∙◌, [], ℕ, Option, refl, sym, ap, ap₂, subst}
-use Rattle.std.proofs.lemmas.Option.{IfSome_then}
 use Rattle.pgapply.specs.declared.fault.StoreFault.{StoreFault}
 use Rattle.pgstore.specs.StoreValue.{Group}
 use Rattle.pgsub_cli.specs.Runs.{Tells}
 use Rattle.pgsub_cli.specs.Storing.{status_of_unopened}
 use Rattle.pgruns.specs.Filed.{ending_of_closing, status_closed}
 use Rattle.pgruns.proofs.Unfed.{unapplied_stays}
-use Rattle.pgruns.proofs.fed.apply_fed_to_file.Goals as goal
+use Rattle.pgruns.proofs.filed.apply.Goals as goal
 
 pub returns-in-Ok-clause-ran : goal.returns-in-Ok-clause-ran
-returns-in-Ok-clause-ran g c =
-    let applied = c.apply_fed-status in
+returns-in-Ok-clause-ran g c run =
+    let applied = c.apply_over-status in
     let closed = c.close_told-fault in
+    let e = applied.ensures.ran run in
     let told = subst (λ (f : Option StoreFault).
     Tells g.E.Output.takes g.E.Output.failed [] [] (ending_of_closing f) applied.new.err closed.new.err) closed.ensures.fault
-    closed.ensures.tells in
-    IfSome_then applied.result.2 applied.ensures.ran (λ feed e. (
+    closed.ensures.tells in (
       e.0,
       c.run_status.ensures ∙ ap₂ (status_closed status_of_unopened) e.1 closed.ensures.fault,
       (applied.new.err, e.2, told),
@@ -25,16 +24,16 @@ returns-in-Ok-clause-ran g c =
         found = λ honest. c.in-Ok.ensures.stood (applied.ensures.honest honest);
         serves = λ honest. c.in-Ok.ensures.serves (applied.ensures.honest honest);
         unmissed = ap (λ (a : Group). a.missed) c.in-Ok.ensures.begun;
-        run = (e.3.0, e.3.1, e.3.2);
+        run = e.3 (λ honest. c.in-Ok.ensures.serves (applied.ensures.honest honest));
         closes = closed.ensures.closes;
       },
-    ))
+    )
 
 pub returns-in-Ok-clause-unfed : goal.returns-in-Ok-clause-unfed
-returns-in-Ok-clause-unfed g c none =
-    let applied = c.apply_fed-status in
+returns-in-Ok-clause-unfed g c unfed =
+    let applied = c.apply_over-status in
     let closed = c.close_told-fault in
-    let e = applied.ensures.unfed none in
+    let e = applied.ensures.unfed unfed in
     let told = subst (λ (f : Option StoreFault).
     Tells g.E.Output.takes g.E.Output.failed [] [] (ending_of_closing f) applied.new.err closed.new.err) closed.ensures.fault
     closed.ensures.tells in (
