@@ -1,0 +1,10 @@
+pub mod Causes
+pub mod Describing
+pub mod Framing
+pub mod Messages
+pub mod Orders
+pub mod Refused
+pub mod Sent
+pub mod Steps
+pub mod WorkedRows
+pub mod Works
