@@ -1,6 +1,6 @@
 //! Tests of what stands below the subscriber where memory runs out, and no code: of tuples, frames,
-//! statuses, the order of messages, and spools. What else these do their contracts say, and worked
-//! rows of the definitions are proved beside them.
+//! statuses, the order of messages, spools, and watches. What else these do their contracts say,
+//! and worked rows of the definitions are proved beside them.
 //!
 //! `tools/refused_memory/run.sh tests_parts` makes each allocation fail in turn: a call that fails
 //! changes nothing, and succeeds when it is made once more. Without it they show that the calls
@@ -19,3 +19,5 @@ mod spools;
 mod statuses;
 #[cfg(test)]
 mod tuples;
+#[cfg(test)]
+mod watches;
