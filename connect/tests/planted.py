@@ -1247,21 +1247,30 @@ def found(bug: Bug) -> str:
             return f"the line that it changes is there {text.count(bug.before)} times"
         path.write_text(text.replace(bug.before, bug.after), encoding="utf-8")
         tests = [f"tests/{name}.py" for name in bug.tests]
-        try:
-            done = subprocess.run(
-                [sys.executable, "-m", "pytest", "-x", "-q", "-p", "no:cacheprovider", *tests],
-                cwd=folder,
-                capture_output=True,
-                timeout=LIMIT,
-                check=False,
-                env=ENVIRONMENT,
-            )
-        except subprocess.TimeoutExpired:
-            return ""
+        done = run_tests(folder, tests)
+        if done is None:
+            # (it may be that the machine is busy)
+            path.write_text(text, encoding="utf-8")
+            return "" if run_tests(folder, tests) else "the tests don't end without it, either"
         # (other statuses are of tests that couldn't be read or run)
         if done.returncode not in (PASSED, FAILED):
             return (done.stdout + done.stderr).decode(errors="replace")
         return "" if done.returncode == FAILED else "the tests pass"
+
+
+def run_tests(folder: str, tests: list[str]) -> subprocess.CompletedProcess[bytes] | None:
+    """Runs tests up to the first that fails; None where they don't end."""
+    try:
+        return subprocess.run(
+            [sys.executable, "-m", "pytest", "-x", "-q", "-p", "no:cacheprovider", *tests],
+            cwd=folder,
+            capture_output=True,
+            timeout=LIMIT,
+            check=False,
+            env=ENVIRONMENT,
+        )
+    except subprocess.TimeoutExpired:
+        return None
 
 
 def main(words: list[str]) -> int:
