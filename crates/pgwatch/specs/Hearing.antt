@@ -55,8 +55,8 @@ abbrev pub described_judged : Facts → ℕ → ℕ → Option Missing → Resul
 described_judged f at end (Some missing) = Err (breach.Undescribed at missing.at missing.oid)
 described_judged f at end None = told_judged f at end
 
--- Why a commit isn't in its place: it stands behind the commit before it, and ends behind its own LSN
--- and the start of the session.
+-- Why a commit isn't in its place: it stands behind the commit before it, and ends behind its own
+-- LSN and the start of the session.
 abbrev pub misplaced : Facts → ℕ → ℕ → ℕ → Option Breach
 misplaced f at lsn end = if nat_lt lsn f.last_end then Some (breach.BelowCommit at lsn f.last_at f.last_end)
     else (if nat_le end lsn then Some (breach.EndNotAbove at lsn end)

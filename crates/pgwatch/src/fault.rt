@@ -5,8 +5,8 @@ use pgorder::OrderFault;
 use thiserror::Error;
 
 /// The rule that a session breaks, or why it is no longer watched. `at` is the frame after which no
-/// history is left that may be sent so, `cause` an earlier one to which it doesn't fit; both are the
-/// numbers that the caller gave.
+/// history is left that may be sent so, `cause` an earlier one to which it doesn't fit; both are
+/// the numbers that the caller gave.
 #[derive(Clone, Copy, Debug, PartialEq, Eq, Error)]
 pub enum Breach {
     /// The message can't come here: pairs, blocks and xids are out of order.

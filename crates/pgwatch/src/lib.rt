@@ -12,9 +12,9 @@
 //! watch.keepalive(frame, end)?;
 //! ```
 //!
-//! `crates/pgwatched` proves what its answers mean: Ok after each message exactly where some history
-//! has these messages as the front of a session; and a breach exactly at the first message after
-//! which no history is left.
+//! `crates/pgwatched` proves what its answers mean: Ok after each message exactly where some
+//! history has these messages as the front of a session; and a breach exactly at the first message
+//! after which no history is left.
 #![tactic(auto)]
 
 mod facts;

@@ -17,8 +17,8 @@ use pgorder::{Event, Order, OrderFault, Version};
 use std::alloc::Global;
 
 /// A watch over one session, of protocol version 1 or 2. It ends for good with the first error, and
-/// with the first streamed transaction that commits. What it holds are the OIDs of the relations that
-/// were described and the xids of the streamed transactions that are open.
+/// with the first streamed transaction that commits. What it holds are the OIDs of the relations
+/// that were described and the xids of the streamed transactions that are open.
 ///
 /// PostgreSQL documentation, Logical Streaming Replication Protocol.
 #[derive(Drop)]

@@ -1,6 +1,8 @@
 -- The causes of breaches.
-use Rattle.std.proofs.Common.{◌≡◌, ◌<◌, ◌≤◌, ◌⊎◌, inl, inr, ℕ, List, [], ◌∷◌, Bool, true, false, cond, ◌||◌, ◌&&◌}
-use Rattle.std.proofs.Common.{eqb, nat_le, nat_lt, Option, Some, None, Result, Ok, Err, refl, ap, subst, ◌∙◌}
+use Rattle.std.proofs.Common.{◌≡◌, ◌<◌, ◌≤◌, ◌⊎◌, inl, inr, ℕ, List}
+use Rattle.std.proofs.Common.{[], ◌∷◌, Bool, true, false, cond, ◌||◌, ◌&&◌}
+use Rattle.std.proofs.Common.{eqb, nat_le, nat_lt, Option, Some, None}
+use Rattle.std.proofs.Common.{Result, Ok, Err, refl, ap, subst, ◌∙◌}
 use Rattle.std.proofs.Common.{arith, ℤ}
 use Rattle.std.specs.Prelude.{◌+◌}
 use Rattle.std.proofs.lemmas.Bool.Decides.{nat_tests, leb_tells}
@@ -20,8 +22,10 @@ use Rattle.pgwatch.specs.declared.fault.Breach.TheVariants as breach
 use Rattle.pgwatch.specs.declared.facts.Facts.{Facts}
 use Rattle.pgwatch.specs.declared.facts.Missing.{Missing}
 use Rattle.pgwatch.specs.declared.watch.Watch.{Watch}
-use Rattle.pgwatch.specs.Hearing.{hear, at_start, by_order, meant, with_facts, commit_judged, by_place}
-use Rattle.pgwatch.specs.Hearing.{described_judged, misplaced, stream_judged, item_noted, first_unknown}
+use Rattle.pgwatch.specs.Hearing.{hear, at_start, by_order}
+use Rattle.pgwatch.specs.Hearing.{meant, with_facts, commit_judged, by_place}
+use Rattle.pgwatch.specs.Hearing.{described_judged, misplaced}
+use Rattle.pgwatch.specs.Hearing.{stream_judged, item_noted, first_unknown}
 use Rattle.pgwatch.specs.Hearing.{first_missing, closed, keepalive_noted}
 use Rattle.pgwatch.specs.Hearing as hearing
 use Rattle.pgsub_core.specs.Server.Work.{is_among}
@@ -42,7 +46,8 @@ pub record KnowsCauses (f : Facts) (seen : List Framed) : Type 0 where
   pub told : (f.told ≡ 0) ⊎ Came f.told_at (IsKeepaliveAt f.told) seen
   pub missing : MissingCame f.missing seen
 
-earlier : (x : Framed) (at : ℕ) (is : Sent → Type 0) (n : ℕ) (seen : List Framed) → (n ≡ 0) ⊎ Came at is seen → (n ≡ 0) ⊎ Came at is (x ∷ seen)
+earlier : (x : Framed) (at : ℕ) (is : Sent → Type 0) (n : ℕ) (seen : List Framed) → (n ≡ 0) ⊎ Came at is seen
+    → (n ≡ 0) ⊎ Came at is (x ∷ seen)
 earlier x at is n seen (inl none) = inl none
 earlier x at is n seen (inr came) = inr (inr came)
 
@@ -216,7 +221,8 @@ module _ (n : ℕ) (s e : ℕ) (clock : ℤ) (seen : List Framed) where
         })
 
     relation_goes : (label : Option ℕ) (def : RelationDef) (there full : Bool)
-        → cond there (Ok w) (cond full (Err (breach.Full n)) (Ok (record w { known = with_known def.oid w.known; held = w.held + 1 }))) ≡ Ok u
+        → cond there (Ok w) (cond full (Err (breach.Full n)) (Ok (record w { known = with_known def.oid w.known; held = w.held + 1 })))
+        ≡ Ok u
         → KnowsCauses u.facts (framed (message.Item label (item.Relation def)) ∷ seen)
     relation_goes label def true full e = alike w.facts u.facts (message.Item label (item.Relation def)) k (ap (watch_facts w.facts) e)
     relation_goes label def false true e = absurd (cc)
@@ -283,7 +289,8 @@ module _ (n : ℕ) (s e : ℕ) (clock : ℤ) (seen : List Framed) where
         (commit_caused w.facts n lsn end seen k why (misplaced w.facts n lsn end) (placed w.facts n lsn end seen k) is)
 
     relation_breaks : (def : RelationDef) (there full : Bool)
-        → cond there (Ok w) (cond full (Err (breach.Full n)) (Ok (record w { known = with_known def.oid w.known; held = w.held + 1 }))) ≡ Err b
+        → cond there (Ok w) (cond full (Err (breach.Full n)) (Ok (record w { known = with_known def.oid w.known; held = w.held + 1 })))
+        ≡ Err b
         → IsCaused b seen n
     relation_breaks def true full e = absurd (cc)
     relation_breaks def false true e = here_is (ap (watch_breach b) e)

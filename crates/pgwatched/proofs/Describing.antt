@@ -1,5 +1,6 @@
 -- Items that are described one after the other.
-use Rattle.std.proofs.Common.{◌≡◌, ◌≢◌, ℕ, List, [], ◌∷◌, ◌++◌, Bool, true, false, cond, ◌||◌, eqb, map}
+use Rattle.std.proofs.Common.{◌≡◌, ◌≢◌, ℕ, List, [], ◌∷◌, ◌++◌}
+use Rattle.std.proofs.Common.{Bool, true, false, cond, ◌||◌, eqb, map}
 use Rattle.std.proofs.Common.{Option, Some, None, Result, Ok, Err, refl, sym, ap, subst, ◌∙◌}
 use Rattle.std.proofs.Common.{append_assoc, append-nil, arith}
 use Rattle.std.proofs.lemmas.Bool.Decides.{nat_tests}
@@ -11,7 +12,8 @@ use Rattle.pglogical.specs.declared.message.Item.TheVariants.{Relation, Insert, 
 use Rattle.pglogical.specs.declared.message.Item.TheVariants.{Truncate}
 use Rattle.pgapply.specs.Apply.{Change}
 use Rattle.pgsub_core.specs.Server.Work.{changes_of}
-use Rattle.pgsub_core.specs.Server.Described.{last_of, relation_of, relations_after, with_definition}
+use Rattle.pgsub_core.specs.Server.Described.{last_of, relation_of}
+use Rattle.pgsub_core.specs.Server.Described.{relations_after, with_definition}
 use Rattle.pgsub_core.specs.Server.Described.{definitions_of, found_behind, with_changes}
 use Rattle.pgsub_core.specs.Server.Described.{described_from, described}
 use Rattle.pgwatch.specs.Known.{OidSet, none_known, is_known, with_known, is_known-none}

@@ -1,5 +1,6 @@
 -- The bytes of what is heard.
-use Rattle.std.proofs.Common.{◌≡◌, ◌⊎◌, inl, inr, Bool, true, false, List, [], ◌∷◌, ◌++◌, refl, sym, subst}
+use Rattle.std.proofs.Common.{◌≡◌, ◌⊎◌, inl, inr, Bool, true, false}
+use Rattle.std.proofs.Common.{List, [], ◌∷◌, ◌++◌, refl, sym, subst}
 use Rattle.std.proofs.Common.{◌∙◌}
 use Rattle.std.proofs.Common.{append-nil, append_assoc}
 use Rattle.std.proofs.lemmas.Grind.{flat_map-append}
@@ -43,7 +44,8 @@ broken_is_no_session v start limit before next w b heard broken rule history byt
     broken_is_not_sent v start limit before next w b heard broken rule (later ++ session.later) (
       history,
       is,
-      subst (Delivers v history start) (sym (same (sent_of before) next.sent later session.later session.sent session.parts)) session.delivered,
+      subst (Delivers v history start) (sym (same (sent_of before) next.sent later
+          session.later session.sent session.parts)) session.delivered,
     )
   where
     same : (a : List Sent) (x : Sent) (b c all : List Sent) → all ≡ (a ++ x ∷ b) ++ c → a ++ x ∷ (b ++ c) ≡ all

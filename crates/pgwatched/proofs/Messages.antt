@@ -235,7 +235,8 @@ module _ (v : Version) (known : OidSet) (limit held : ℕ) (f : Facts) (ended : 
 
     aborts : (xid label : ℕ) (o : OpenXids) → IsAt Outside known f before earlier → (u : Version) (there same : Bool)
         → by_order (watch_at (state_at Outside o)) n (message.StreamAbort xid label)
-        (in_version_2 u (cond there (cond same (Ok (state_at Outside (without xid o), event.Drop xid)) (Ok (state_at Outside o, event.Cut xid label)))
+        (in_version_2 u (cond there (cond same (Ok (state_at Outside (without xid o), event.Drop xid))
+        (Ok (state_at Outside o, event.Cut xid label)))
         (Ok (state_at Outside o, event.Ignore)))) ≡ Ok w
         → IsStep f w before earlier (message.StreamAbort xid label)
     aborts xid label o place One there same e = absurd (cc)
@@ -292,7 +293,8 @@ module _ (v : Version) (known : OidSet) (limit held : ℕ) (f : Facts) (ended : 
   -- ---- a message that breaks a rule
 
   module _ (b : Breach) where
-    refused_commit : (lsn end : ℕ) (time : ℤ) (l x : ℕ) → IsAt (InPair l x) known f before earlier → (s : OrderState) → (r : Result Facts Breach)
+    refused_commit : (lsn end : ℕ) (time : ℤ) (l x : ℕ) → IsAt (InPair l x) known f before earlier → (s : OrderState)
+        → (r : Result Facts Breach)
         → commit_judged f n lsn end ≡ r → with_facts (watch_at s) r ≡ Err b → IsRefusal f before earlier (message.Commit lsn end time)
     refused_commit lsn end time l x place s (Ok g) is e = absurd (cc)
     refused_commit lsn end time l x place s (Err why) is e = record {
@@ -311,7 +313,8 @@ module _ (v : Version) (known : OidSet) (limit held : ℕ) (f : Facts) (ended : 
     refused_stream xid lsn end time None is e rule = absurd (subst IsOfRule (sym e) rule)
 
     refused_relation : (s : OrderState) (def : RelationDef) (there full : Bool)
-        → cond there (Ok (watch_at s)) (cond full (Err (breach.Full n)) (Ok (record (watch_at s) { known = with_known def.oid known; held = held + 1 })))
+        → cond there (Ok (watch_at s)) (cond full (Err (breach.Full n))
+        (Ok (record (watch_at s) { known = with_known def.oid known; held = held + 1 })))
         ≡ Err b → IsOfRule b → ⊥
     refused_relation s def true full e rule = absurd (cc)
     refused_relation s def false true e rule = subst IsOfRule (sym (ap (of_err b) e)) rule

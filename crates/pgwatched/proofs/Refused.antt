@@ -1,6 +1,7 @@
 -- What breaks a rule is sent of no history.
 use Rattle.std.proofs.Common.{◌≡◌, ◌<◌, ◌≤◌, inl, inr, ℕ, ℤ, List, [], ◌∷◌, ◌++◌, Bool, true, false}
-use Rattle.std.proofs.Common.{cond, nat_lt, Result, Ok, Err, refl, sym, ap, subst, ◌∙◌, arith, append_assoc}
+use Rattle.std.proofs.Common.{cond, nat_lt, Result, Ok, Err, refl}
+use Rattle.std.proofs.Common.{sym, ap, subst, ◌∙◌, arith, append_assoc}
 use Rattle.std.specs.List.{AllByRecursion}
 use Rattle.std.specs.Prelude.{is_ok}
 use Rattle.std.proofs.lemmas.Bool.Decides.{nat_tests}
@@ -135,7 +136,8 @@ module _ (u : Watch) (n : ℕ) (m : Message) (b : Breach) (start end : ℕ) (clo
       → hear w (hearing.Message n m) ≡ Err b → IsOfRule b
       → ((fault : OrderFault) → order_step w.order.version w.order.state m ≡ Err fault → ⊥) → HasNone w.facts before earlier []
   last_refused w before earlier place broken rule ordered remaining history after above follow =
-      elim (refusal w.order.version w.known w.limit w.held w.facts w.ended n before earlier b w.order.state.context w.order.state.open_xids m place
+      elim (refusal w.order.version w.known w.limit w.held w.facts w.ended n before earlier b w.order.state.context
+      w.order.state.open_xids m place
       broken rule) [
         | inl fault ↦ ordered fault.0 fault.1
         | inr r ↦ commit_refused w.facts earlier remaining r.completed r.why history after above

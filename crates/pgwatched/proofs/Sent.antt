@@ -1,5 +1,6 @@
 -- What is heard well is sent of some history.
-use Rattle.std.proofs.Common.{◌≡◌, ◌<◌, ◌≤◌, inl, inr, ℕ, ℤ, List, [], ◌∷◌, ◌++◌, Bool, true, false, cond}
+use Rattle.std.proofs.Common.{◌≡◌, ◌<◌, ◌≤◌, inl, inr, ℕ, ℤ}
+use Rattle.std.proofs.Common.{List, [], ◌∷◌, ◌++◌, Bool, true, false, cond}
 use Rattle.std.proofs.Common.{nat_lt, Result, Ok, Err, refl, sym, ap, subst, ◌∙◌, arith}
 use Rattle.std.specs.List.{AllByRecursion}
 use Rattle.std.specs.Prelude.{is_ok}
@@ -122,7 +123,8 @@ module _ (fs : List Framed) (u : Watch)
         history = subst (λ from. IsHistoryFrom from s.ts) quiet.last s.history;
         after = subst (λ p. EndAfter p s.ts) quiet.start s.after;
         above = subst (λ p. ChangesEndAfter p s.ts) quiet.told s.above;
-        follow = subst (λ ms. CommitsFollow earlier s.ts (ms ++ commits_and_keepalives (m ∷ before) (sent_of fs))) (sym quiet.none) s.follow;
+        follow = subst (λ ms. CommitsFollow earlier s.ts (ms ++ commits_and_keepalives (m ∷ before) (sent_of fs))) (sym quiet.none)
+            s.follow;
       }
 
   commit_sent : (start end : ℕ) (clock : ℤ) (m : Message) (v : Watch) → IsCommit w.facts v before earlier m → hear_all v fs ≡ Ok u

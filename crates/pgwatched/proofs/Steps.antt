@@ -107,7 +107,8 @@ module _ (f : Facts) (at lsn end : ℕ) where
         ends = ends;
         after = after;
         described = none;
-        above = λ changes. let above : nat_le end f.told ≡ false = ap (λ b. b && nat_le end f.told) (sym changes) ∙ is in grind (arith, leb_tells);
+        above = λ changes. let above : nat_le end f.told ≡ false = ap (λ b. b && nat_le end f.told) (sym changes) ∙ is
+            in grind (arith, leb_tells);
         start = refl;
         last = refl;
         told = refl;
@@ -149,7 +150,13 @@ module _ (f : Facts) (at lsn end : ℕ) where
       → IsWhy f lsn end r
   told_bad b r pair true is e =
       let parts = both_true f.changes (nat_le end f.told) is in
-      inr (inr (pair.0, pair.1, none-any pair.0 (pair.2 ∙ parts.0), (let le : nat_le end f.told ≡ true = parts.1 in grind (arith, leb_tells))))
+      inr (inr (
+        pair.0,
+        pair.1,
+        none-any pair.0 (pair.2 ∙ parts.0),
+        (let le : nat_le end f.told ≡ true = parts.1
+            in grind (arith, leb_tells)),
+      ))
     where
       both_true : (x y : Bool) → (x && y) ≡ true → (x ≡ true) × (y ≡ true)
       both_true true y e = (refl, e)

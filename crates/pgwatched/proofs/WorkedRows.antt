@@ -1,5 +1,6 @@
 -- Worked rows: what a watch answers to sessions, as the definitions give it.
-use Rattle.std.proofs.Common.{◌≡◌, ℕ, List, [], ◌∷◌, ◌++◌, true, false, Some, None, Option, Result, Ok, Err}
+use Rattle.std.proofs.Common.{◌≡◌, ℕ, List, [], ◌∷◌, ◌++◌, true}
+use Rattle.std.proofs.Common.{false, Some, None, Option, Result, Ok, Err}
 use Rattle.std.proofs.Common.{refl, pos}
 use Rattle.pgtuple.specs.declared.cell.Cell.TheVariants.{Text}
 use Rattle.pglogical.specs.declared.message.Item.TheVariants.{Relation, Insert, Truncate}
@@ -81,7 +82,8 @@ undescribed = simp open_rows
 not_committed : breach_in One (begin 1 200 ∷ insert 2 16 ∷ []) ≡ None
 not_committed = simp open_rows
 
-second_of_a_truncate : breach_in One (begin 1 200 ∷ relation 2 16 ∷ came 3 (message.Item None (Truncate 0 (16 ∷ 17 ∷ []))) ∷ commit 4 200 240 ∷ [])
+second_of_a_truncate : breach_in One (begin 1 200 ∷ relation 2 16 ∷ came 3 (message.Item None (Truncate 0 (16 ∷ 17 ∷ [])))
+    ∷ commit 4 200 240 ∷ [])
     ≡ Some (breach.Undescribed 4 3 17)
 second_of_a_truncate = simp open_rows
 
@@ -120,7 +122,8 @@ full = simp open_rows
 -- A streamed transaction may be open and be aborted, and its room is free again. Its commit, too,
 -- has to be in its place; there it is no longer watched.
 abbrev block : ℕ → List Framed
-block xid = came 1 (message.StreamStart xid true) ∷ came 2 (message.Item (Some xid) (Insert 16 (Text (49 ∷ []) ∷ []))) ∷ came 3 message.StreamStop ∷ []
+block xid = came 1 (message.StreamStart xid true) ∷ came 2 (message.Item (Some xid) (Insert 16 (Text (49 ∷ []) ∷ [])))
+    ∷ came 3 message.StreamStop ∷ []
 
 aborted : breach_within 1 Two (block 20 ++ came 4 (message.StreamAbort 20 20) ∷ block 21) ≡ None
 aborted = simp open_rows

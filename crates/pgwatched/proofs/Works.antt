@@ -1,5 +1,6 @@
 -- What a commit's items may be the work of.
-use Rattle.std.proofs.Common.{◌≡◌, ℕ, List, [], ◌∷◌, ◌++◌, true, false, cond, eqb, map, Option, Some}
+use Rattle.std.proofs.Common.{◌≡◌, ℕ, List, [], ◌∷◌, ◌++◌}
+use Rattle.std.proofs.Common.{true, false, cond, eqb, map, Option, Some}
 use Rattle.std.proofs.Common.{None, Result, Ok, Err, refl, ap, subst, ◌∙◌, arith}
 use Rattle.std.proofs.lemmas.Bool.Decides.{nat_tests}
 use Rattle.pglogical.specs.Named.{named}
@@ -8,9 +9,11 @@ use Rattle.pglogical.specs.declared.message.Item.{Item}
 use Rattle.pglogical.specs.declared.message.Item.TheVariants.{Relation, Insert, Update, Delete}
 use Rattle.pglogical.specs.declared.message.Item.TheVariants.{Truncate}
 use Rattle.pgapply.specs.Apply.{Change}
-use Rattle.pgsub_core.specs.Server.Work.{Work, Nothing, Changed, changes_of, surviving_changes, IsWork}
+use Rattle.pgsub_core.specs.Server.Work.{Work, Nothing, Changed}
+use Rattle.pgsub_core.specs.Server.Work.{changes_of, surviving_changes, IsWork}
 use Rattle.pgsub_core.specs.Server.Work.{xids_of}
-use Rattle.pgsub_core.specs.Server.Described.{last_of, with_definition, definitions_of, found_behind}
+use Rattle.pgsub_core.specs.Server.Described.{last_of, with_definition}
+use Rattle.pgsub_core.specs.Server.Described.{definitions_of, found_behind}
 use Rattle.pgsub_core.specs.Server.Described.{with_changes, described_from, described}
 
 -- what is found under an OID has it

@@ -1,5 +1,5 @@
-//! What the answers of a watch (`pgwatch`) mean, in the words of `pgsub_core`: of which messages some
-//! history has a session, and of which none has. No code here runs.
+//! What the answers of a watch (`pgwatch`) mean, in the words of `pgsub_core`: of which messages
+//! some history has a session, and of which none has. No code here runs.
 #![tactic(auto)]
 
 mod laws;
