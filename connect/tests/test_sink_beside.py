@@ -2,7 +2,6 @@
 
 from __future__ import annotations
 
-import sys
 import unittest
 from unittest import mock
 
@@ -13,6 +12,7 @@ from pgsub_connect.status.progress import Progress
 from pgsub_connect.status.status_file import status_fields
 from pgsub_feed.sinks.following import WAITS
 
+from .beside import started
 from .fake_nats import FakeNats
 from .feeds import insert
 from .settled import options_of
@@ -80,14 +80,7 @@ class Runs(SinkCase):
     def sink(self, code: str = "") -> Sink:
         """One that begins with the feed, or runs this in its place."""
         settings = SinkSettings(self.url, str(self.path), str(self.folder / "copy.db"))
-        it = Sink(settings, self.progress)
-        at = it.words.index("--store")
-        it.words = [*it.words[:at], *it.words[at + 2 :]]
-        if code:
-            it.words = [sys.executable, "-S", "-c", code]
-        self.addCleanup(it.finish)
-        it.start()
-        return it
+        return started(self, Sink(settings, self.progress), code)
 
     def shown(self) -> object:
         found = status_fields(self.progress, 0.0, 0.0)["sinks"]

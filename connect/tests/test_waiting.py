@@ -27,6 +27,7 @@ from pgsub_feed.reader.polling import Parent
 from pgsub_feed.tables.position import read_position
 
 from .asking import Asker, asking
+from .beside import started
 from .fake_server import Quiet
 from .feeds import FeedCase, insert
 from .small_world import wait_for
@@ -154,14 +155,7 @@ class Told(FeedCase):
         self.woken += 1
 
     def kept(self, code: str = "") -> Beside:
-        it = Beside(self.settings, Progress(), self.wake)
-        at = it.words.index("--store")
-        it.words = [*it.words[:at], *it.words[at + 2 :]]
-        if code:
-            it.words = [sys.executable, "-S", "-c", code]
-        self.addCleanup(it.finish)
-        it.start()
-        return it
+        return started(self, Beside(self.settings, Progress(), self.wake), code)
 
     def following(self) -> Beside:
         """One that sleeps by now."""
