@@ -227,10 +227,13 @@ is_command s word (inr (inr (inl e))) named isnt = inr (inr (inl (ap (λ (x : Sh
 is_command s word (inr (inr (inr (inl e)))) named isnt = inr (inr (inr (inl (ap (λ (x : Shape). x.name) e))))
 is_command s word (inr (inr (inr (inr (inl e))))) named isnt = inr (inr (inr (inr (inl (ap (λ (x : Shape). x.name) e)))))
 is_command s word (inr (inr (inr (inr (inr (inl e)))))) named isnt = inr (inr (inr (inr (inr (inl (ap (λ (x : Shape). x.name) e))))))
-is_command s word (inr (inr (inr (inr (inr (inr (inl e))))))) named isnt = inr (inr (inr (inr (inr (inr (ap (λ (x : Shape). x.name) e))))))
+is_command s word (inr (inr (inr (inr (inr (inr (inl e))))))) named isnt =
+    inr (inr (inr (inr (inr (inr (inl (ap (λ (x : Shape). x.name) e)))))))
 is_command s word (inr (inr (inr (inr (inr (inr (inr (inl e)))))))) named isnt =
+    inr (inr (inr (inr (inr (inr (inr (ap (λ (x : Shape). x.name) e)))))))
+is_command s word (inr (inr (inr (inr (inr (inr (inr (inr (inl e))))))))) named isnt =
     absurd (help_word (bytes_eq (codes "help") word) word refl (subst (λ (x : Shape). answers_to word (label_of x) ≡ true) e named) isnt)
-is_command s word (inr (inr (inr (inr (inr (inr (inr (inr none)))))))) named isnt = absurd none
+is_command s word (inr (inr (inr (inr (inr (inr (inr (inr (inr none))))))))) named isnt = absurd none
 
 -- Words without a fault name one of the commands.
 pub names_one : (words : List Text) → fault_of pgsub_app words ≡ []

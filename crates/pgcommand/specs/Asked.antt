@@ -18,7 +18,7 @@ use Rattle.pgcommand.specs.declared.feed.FeedOptions.{FeedOptions}
 use Rattle.pgcommand.specs.declared.limits.Limits.{Limits}
 use Rattle.pgcommand.specs.declared.task.Task.{Task}
 use Rattle.pgcommand.specs.declared.task.Task.TheVariants.{Show, Apply, Dump, Follow, Same, Resume}
-use Rattle.pgcommand.specs.declared.task.Task.TheVariants.{Lsn}
+use Rattle.pgcommand.specs.declared.task.Task.TheVariants.{Lsn, Watch}
 use Rattle.pgcommand.specs.declared.fault.CommandFault.{CommandFault}
 use Rattle.pgcommand.specs.declared.fault.CommandFault.TheVariants.{Usage, Memory}
 use Rattle.pgorder.specs.declared.Version.{Version}
@@ -125,12 +125,16 @@ resume_app = with_rule (new_app (codes "resume")) (word_rule (codes "FILE"))
 abbrev pub lsn_app : App
 lsn_app = with_rule (new_app (codes "lsn")) (word_rule (codes "TEXT"))
 
+abbrev pub watch_app : App
+watch_app = with_rule (with_rule (new_app (codes "watch")) proto_rule) (word_rule (codes "FILE"))
+
 abbrev pub bare_app : App
 bare_app = on_top (λ s. record s { has_version = true; subcommand_required = true }) (new_app (codes "pgsub"))
 
 abbrev pub pgsub_app : App
-pgsub_app = with_subcommand (with_subcommand (with_subcommand (with_subcommand (with_subcommand (with_subcommand (with_subcommand bare_app
-    show_app.top) apply_app.top) dump_app.top) follow_app.top) same_app.top) resume_app.top) lsn_app.top
+pgsub_app = with_subcommand (with_subcommand (with_subcommand
+    (with_subcommand (with_subcommand (with_subcommand (with_subcommand (with_subcommand bare_app
+    show_app.top) apply_app.top) dump_app.top) follow_app.top) same_app.top) resume_app.top) lsn_app.top) watch_app.top
 
 -- the command is read as this one, and none of its arguments is global
 abbrev pub IsCommand : App → Command → Type 0
@@ -207,12 +211,15 @@ IsAsked name rows (Same version left right) =
     × (string_bytes right ≡ text_in (codes "RIGHT") rows)
 IsAsked name rows (Resume file) = (name ≡ codes "resume") × (string_bytes file ≡ text_in (codes "FILE") rows)
 IsAsked name rows (Lsn text) = (name ≡ codes "lsn") × (string_bytes text ≡ text_in (codes "TEXT") rows)
+IsAsked name rows (Watch version file) = (name ≡ codes "watch") × IsVersion rows version × (string_bytes file ≡ text_in (codes "FILE") rows)
 
 -- the name of a subcommand
 abbrev pub IsCommandName : Text → Type 0
 IsCommandName name = (name ≡ codes "show")
     ⊎ ((name ≡ codes "apply")
-    ⊎ ((name ≡ codes "dump") ⊎ ((name ≡ codes "follow") ⊎ ((name ≡ codes "same") ⊎ ((name ≡ codes "resume") ⊎ (name ≡ codes "lsn"))))))
+    ⊎ ((name ≡ codes "dump")
+    ⊎ ((name ≡ codes "follow")
+    ⊎ ((name ≡ codes "same") ⊎ ((name ≡ codes "resume") ⊎ ((name ≡ codes "lsn") ⊎ (name ≡ codes "watch")))))))
 
 abbrev pub is_given : Text → List Row → Bool
 is_given name rows = is_some (first_of name rows)

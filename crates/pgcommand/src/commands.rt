@@ -8,7 +8,7 @@ ghost use Rattle.pgcommand.specs.Asked.{store_rule, cache_rule, max_buffered_rul
 ghost use Rattle.pgcommand.specs.Asked.{feed_rule, feed_text_rule, feed_bytes_rule};
 ghost use Rattle.pgcommand.specs.Asked.{feed_seconds_rule, with_feed, show_app, apply_app};
 ghost use Rattle.pgcommand.specs.Asked.{dump_app, follow_app, same_app, resume_app, lsn_app};
-ghost use Rattle.pgcommand.specs.Asked.{bare_app, pgsub_app};
+ghost use Rattle.pgcommand.specs.Asked.{watch_app, bare_app, pgsub_app};
 
 use clap::error::ErrorKind;
 use clap::{Arg, ArgAction, Command, Error, value_parser};
@@ -27,6 +27,18 @@ const FOLLOW_STATUSES: &str = "Exit statuses:
   14  memory has run out
   15  standard input or output failed
   16  the stream ended, and some of its changes found no row";
+
+/// What `watch --help` says of what it holds, and of how it ends.
+const WATCH_STATUSES: &str =
+    "Of a session it holds at most 1000000 relations, open transactions and items of these, \
+    and watches no further where it would hold more.
+
+Exit statuses:
+  0  no rule is broken, and all was watched
+  1  memory has run out
+  2  usage error
+  3  a file can't be read or written, or is no recording
+  4  a rule is broken, or not all was watched";
 
 /// What `--help` says of `--cache`.
 const CACHE: &str =
@@ -350,6 +362,26 @@ fn lsn_command<'a>(alloc: Global) -> Result<Command<'a>, AllocError>
     .arg(word(alloc, "TEXT", "The log sequence number, as 16/B374D848"))
 }
 
+/// The command `watch` without arguments.
+fn bare_watch<'a>(alloc: Global) -> Command<'a>
+    ensures { IsCommand (new_app (codes "watch")) result }
+{
+    named(
+        alloc,
+        "watch",
+        "Print which rules of a well-formed server a recording keeps, and where it breaks one",
+    )
+    .after_help(WATCH_STATUSES)
+}
+
+fn watch_command<'a>(alloc: Global) -> Result<Command<'a>, AllocError>
+    ensures { IfOk result (IsCommand watch_app) }
+{
+    bare_watch(alloc)
+        .arg(proto(alloc))?
+        .arg(word(alloc, "FILE", "The recording"))
+}
+
 /// The program without its subcommands.
 fn bare<'a>(alloc: Global) -> Command<'a>
     ensures { IsCommand bare_app result }
@@ -373,5 +405,6 @@ pub(crate) fn program<'a>(alloc: Global) -> Result<Command<'a>, AllocError>
     let program = with_subcommand(program, follow_command(alloc))?;
     let program = with_subcommand(program, same_command(alloc))?;
     let program = with_subcommand(program, resume_command(alloc))?;
-    with_subcommand(program, lsn_command(alloc))
+    let program = with_subcommand(program, lsn_command(alloc))?;
+    with_subcommand(program, watch_command(alloc))
 }

@@ -68,6 +68,11 @@ pub enum Task {
     Lsn {
         text: String,
     },
+    /// Print which rules of a well-formed server the sessions of a recording keep.
+    Watch {
+        version: Version,
+        file: String,
+    },
 }
 
 /// Whether version 1 is asked for.
@@ -312,6 +317,13 @@ pub(crate) fn task_of(alloc: Global, name: &str, found: &ArgMatches<'_>) -> Resu
         "lsn" => Task::Lsn {
             text: value_of(alloc, found, "TEXT")?,
         },
+        "watch" => {
+            let file = value_of(alloc, found, "FILE")?;
+            Task::Watch {
+                version: version_of(found),
+                file,
+            }
+        }
         _ => unreachable!(),
     };
     Ok(task)

@@ -12,6 +12,7 @@ use build::{COMMIT, KIT};
 use pgcommand::{CommandFault, DEFAULT_CACHE, FeedOptions, Limits, Task, command_of};
 use pgfeed::{Folder, Origin, SegmentLimits};
 use pgfollow::{Clock, Link};
+use pgledger::Supposing;
 use pgorder::Version;
 use pgruns::{
     ApplyPlan, FeedPlan, FileFolder, Filed, FollowPlan, LiveIo, StoreFile, apply, dump, follow,
@@ -88,9 +89,10 @@ fn opened(rt: &HostRuntime, path: &str) -> Option<File> {
 /// The files that a task names, of which the first is the left one.
 fn files_of(rt: &HostRuntime, task: &Task) -> (Option<File>, Option<File>) {
     match task {
-        Task::Show { file, .. } | Task::Apply { file, .. } | Task::Resume { file } => {
-            (opened(rt, file.as_str()), None)
-        }
+        Task::Show { file, .. }
+        | Task::Apply { file, .. }
+        | Task::Resume { file }
+        | Task::Watch { file, .. } => (opened(rt, file.as_str()), None),
         Task::Same { left, right, .. } => {
             let left = opened(rt, left.as_str());
             (left, opened(rt, right.as_str()))
@@ -225,7 +227,7 @@ fn feed_of<'a>(rt: &'a HostRuntime, task: &'a Task) -> Option<FeedPlan<'a, FileF
 ///
 /// The store's files never become a standard stream that was closed at the start: the SQL library
 /// opens them with higher numbers.
-fn run_over<D: Folder + Drop>(
+fn run_over<D: Folder + Supposing + Drop>(
     rt: &HostRuntime,
     task: &Task,
     path: &str,
@@ -284,7 +286,7 @@ impl Clock for SystemClock<'_> {
 /// Follows a server over the store in the file at a path: its bytes come from standard input, and
 /// statuses go to standard output. Standard error is told of changes that found no row as soon as
 /// their commits are stored. A feed's folder is of any kind, as in `run_over`.
-fn run_live<D: Folder + Drop>(
+fn run_live<D: Folder + Supposing + Drop>(
     rt: &HostRuntime,
     task: &Task,
     version: Version,

@@ -66,7 +66,7 @@ later_stops version bytes after lines fault (inl memory) = inl memory
 later_stops version bytes after lines fault (inr (head, rest, is, inl (shown, (none, ends)))) = absurd (cc)
 later_stops version bytes after lines fault (inr (head, rest, is, inr stops)) = inr (head, rest, is, inr stops)
 
-one_more : (sessions : List Session) (i : ℕ) (session : Session) → i < length sessions → session ≡ get_or sessions i session
+pub one_more : (sessions : List Session) (i : ℕ) (session : Session) → i < length sessions → session ≡ get_or sessions i session
     → bytes_of (take (i + 1) sessions) ≡ bytes_of (take i sessions) ++ session_bytes session ∷ []
 one_more sessions i session within at =
     map_more session_bytes sessions i session within ∙ ap (λ (s : Session). bytes_of (take i sessions) ++ session_bytes s ∷ []) (sym at)

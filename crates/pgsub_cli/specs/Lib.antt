@@ -4,6 +4,7 @@ pub mod FaultTexts
 pub mod Followed
 pub mod Recorded
 pub mod Shown
+pub mod Watched
 pub mod Runs
 pub mod Storing
 pub mod StoreAfter

@@ -25,15 +25,20 @@ FollowsReported {C} holds place reopens serves count L unread rest reads wrote w
     × FollowsOver {C = Reported C L} (λ r. holds r.store) (λ r. place r.store) (λ r other. reopens r.store other.store)
     (λ r. serves r.store) (λ r. count r.store) unread rest reads wrote wrote' limits version told last why
 
-module _ {C G : Type 0} (holds : C → Tables → Type 0) (place reach : C → ℕ) (begins : G → ℕ) (keeps : G → List Entry → Type 0)
-    (outlasts : G → ℕ → Type 0) (is_stuck : G → Bool) where
-  -- the store holds these tables, and the entries of its ledger lead to them
+module _ {C G : Type 0} (holds : C → Tables → Type 0) (place reach : C → ℕ) (supposed : Type 0) (begins : G → ℕ)
+    (keeps : G → List Entry → Type 0) (outlasts : G → ℕ → Type 0) (is_stuck : G → Bool) where
+  -- The store holds these tables. Where that is so which is supposed of the ledger, its entries
+  -- lead to them.
   abbrev pub HoldsBoth : Recorded C G → Tables → Type 0
-  HoldsBoth r tables = holds r.store tables × Records begins keeps outlasts is_stuck r.ledger tables (place r.store) (reach r.store)
+  HoldsBoth r tables =
+      holds r.store tables
+      × (supposed → Records begins keeps outlasts is_stuck r.ledger tables (place r.store) (reach r.store))
 
--- a crash leaves this one, where the store is opened again, and then the ledger at its position
-abbrev pub ReopensBoth : {C G : Type 0} → (C → ℕ) → (C → C → Type 0) → (G → ℕ → G → Type 0) → Recorded C G → Recorded C G → Type 0
-ReopensBoth place reopens reopens' r other = reopens r.store other.store × reopens' r.ledger (place other.store) other.ledger
+-- A crash leaves this one, where the store is opened again, and then the ledger at its position.
+-- Of the ledger that is asked where that is so which is supposed of it.
+abbrev pub ReopensBoth : {C G : Type 0} → (C → ℕ) → (C → C → Type 0) → Type 0 → (G → ℕ → G → Type 0) → Recorded C G → Recorded C G → Type 0
+ReopensBoth place reopens supposed reopens' r other =
+    reopens r.store other.store × (supposed → reopens' r.ledger (place other.store) other.ledger)
 
 -- What came was applied to the one, which led to the other: what was printed, what the store holds
 -- then, and what a crash may leave of it.

@@ -37,6 +37,7 @@ use Rattle.pgsub_cli.specs.Followed.{Leaves, PrintsLed, lines_of, new_subscriber
 use Rattle.pgsub_cli.specs.Limits.{default_limits}
 use Rattle.pgsub_cli.specs.Recorded.{ComesOf, ComesNot, Records, IsUnread}
 use Rattle.pgsub_cli.specs.Shown.{AreShown}
+use Rattle.pgsub_cli.specs.Watched.{WritesWatched}
 
 -- ---- the exit status: 0 done, 1 a stream that is rejected or memory that ran out, 2 usage, 3 a
 -- fault of a file, 4 a difference
@@ -74,6 +75,7 @@ left_path (task.Follow version limits store cache feed) = string_bytes store
 left_path (task.Same version left right) = string_bytes left
 left_path (task.Resume file) = string_bytes file
 left_path (task.Lsn text) = []
+left_path (task.Watch version file) = string_bytes file
 
 abbrev pub right_path : Task → List ℕ
 right_path (task.Show version file) = []
@@ -83,6 +85,7 @@ right_path (task.Follow version limits store cache feed) = []
 right_path (task.Same version left right) = string_bytes right
 right_path (task.Resume file) = []
 right_path (task.Lsn text) = []
+right_path (task.Watch version file) = []
 
 -- the file of the store that the command line names, if it names one
 abbrev pub store_path : Task → Option (List ℕ)
@@ -262,6 +265,13 @@ module _ {R W : Type 0} (gives begins : R → List ℕ → Type 0) (read_failed 
       ⊎ ((sessions : List Session) × (others : List Session) × Records gives left sessions × Records gives right others
       × ComparesSessions takes write_failed version sessions others old new ended)
 
+  -- The sessions of a recording are watched. Where it can't be read, nothing is written.
+  abbrev pub Watches : Version → Option R → W → W → Result Ending RunFault → Type 0
+  Watches version file old new ended =
+      ((f : RunFault) × (ended ≡ Err f) × IsUnread gives read_failed Left file f × (new ≡ old))
+      ⊎ ((sessions : List Session) × Records gives file sessions
+      × WritesWatched takes write_failed version (bytes_of sessions) old new ended)
+
   -- How each task ends that names no store. Of `show` no line is lost. Where the store can't be
   -- read or memory runs out, `resume` loses its lines, and `apply` those that aren't printed yet.
   abbrev pub Ends : Task → Option R → Option R → W → W → Result Ending RunFault → Type 0
@@ -273,3 +283,4 @@ module _ {R W : Type 0} (gives begins : R → List ℕ → Type 0) (read_failed 
   Ends (task.Same version file other) left right old new ended = Compares version left right old new ended
   Ends (task.Resume file) left right old new ended = Prints IsReadFault PrintsResumed left old new ended
   Ends (task.Lsn text) left right old new ended = WritesNumber takes write_failed (string_bytes text) old new ended
+  Ends (task.Watch version file) left right old new ended = Watches version left old new ended

@@ -87,7 +87,7 @@ impl fmt::Display for StopText<'_> {
     }
 }
 
-fn write_wire<W: fmt::Write>(f: &mut fmt::Formatter<W>, fault: WireFault) -> fmt::Result
+pub(crate) fn write_wire<W: fmt::Write>(f: &mut fmt::Formatter<W>, fault: WireFault) -> fmt::Result
     ensures { DisplaysOnOk W.write_str_gives f.old result (Some (wire_text fault)) f.new }
 {
     let name = match fault {
@@ -106,7 +106,10 @@ fn write_wire<W: fmt::Write>(f: &mut fmt::Formatter<W>, fault: WireFault) -> fmt
     f.write_str(name)
 }
 
-fn write_decode<W: fmt::Write>(f: &mut fmt::Formatter<W>, fault: DecodeFault) -> fmt::Result
+pub(crate) fn write_decode<W: fmt::Write>(
+    f: &mut fmt::Formatter<W>,
+    fault: DecodeFault,
+) -> fmt::Result
     ensures { DisplaysOnOk W.write_str_gives f.old result
         (Some (reason_text fault.reason fault.place)) f.new }
 {
@@ -143,7 +146,10 @@ fn write_tuple<W: fmt::Write>(
     write!(f, "{name} at {place}")
 }
 
-fn write_order<W: fmt::Write>(f: &mut fmt::Formatter<W>, fault: OrderFault) -> fmt::Result
+pub(crate) fn write_order<W: fmt::Write>(
+    f: &mut fmt::Formatter<W>,
+    fault: OrderFault,
+) -> fmt::Result
     ensures { DisplaysOnOk W.write_str_gives f.old result (Some (order_text fault)) f.new }
 {
     f.write_str(match fault {

@@ -23,6 +23,7 @@ pub mod reporting;
 pub mod showing;
 pub mod storing;
 pub mod telling;
+pub mod watching;
 
 pub use dumping::run_dump;
 pub use following::run_follow;

@@ -24,7 +24,7 @@ use crate::reporting::{Reporter, run_opened};
 use crate::storing::Incoming;
 use pgapply::ReplicaStore;
 use pgfollow::{Clock, Link};
-use pgledger::{Ledger, LedgerStore, Recorded};
+use pgledger::{Ledger, LedgerStore, Recorded, Supposing};
 use pgorder::Version;
 use std::alloc::Global;
 use std::cell::RefCell;
@@ -74,7 +74,7 @@ pub fn follow_reported<
 /// ledger.
 pub fn follow_recorded<
     C: LedgerStore + Drop,
-    G: Ledger + Drop,
+    G: Ledger + Supposing + Drop,
     L: Listener + Drop,
     R: Read + Drop,
     W: Write + Drop,
@@ -100,8 +100,9 @@ pub fn follow_recorded<
         × ((why ≡ Some follow.Write) ↔ (link.new.write_failed ≡ true))
         × IfSome why IsOfFollowing
         × (C.is_honest result.1 → C.serves store →
-        FollowsReported (HoldsBoth C.holds C.place C.reach G.begins G.keeps G.outlasts G.is_stuck)
-        (λ r. C.place r.store) (ReopensBoth C.place C.reopens G.reopens) (λ r. C.serves r.store)
+        FollowsReported (HoldsBoth C.holds C.place C.reach G.supposed G.begins G.keeps G.outlasts
+        G.is_stuck) (λ r. C.place r.store) (ReopensBoth C.place C.reopens G.supposed G.reopens)
+        (λ r. C.serves r.store)
         (λ r. C.missed r.store) L (R.remaining link.old.reader) (R.remaining link.new.reader)
         link.new.reads (W.contents link.old.writer) (W.contents link.new.writer) limits version
         (record { store = store; ledger = ledger })
@@ -119,7 +120,7 @@ pub fn follow_recorded<
 /// Applies to an opened store with its ledger what comes, and prints what it holds then.
 pub fn apply_recorded<
     C: LedgerStore + Drop,
-    G: Ledger + Drop,
+    G: Ledger + Supposing + Drop,
     R: Input + Drop,
     K: Ticks + Drop,
     P: Output + Drop,
@@ -137,9 +138,10 @@ pub fn apply_recorded<
 ) -> (u8, C, G)
     ensures ends { (ended : Result Ending RunFault) × (result.0 ≡ status_of ended)
         × AppliesOver (λ r. C.is_honest r.store) (λ r. C.serves r.store)
-        (HoldsBoth C.holds C.place C.reach G.begins G.keeps G.outlasts G.is_stuck)
-        (λ r. C.place r.store) (ReopensBoth C.place C.reopens G.reopens) R.gives R.begins R.failed
-        W.takes W.failed limits input (record { store = store; ledger = ledger })
+        (HoldsBoth C.holds C.place C.reach G.supposed G.begins G.keeps G.outlasts G.is_stuck)
+        (λ r. C.place r.store) (ReopensBoth C.place C.reopens G.supposed G.reopens) R.gives
+        R.begins R.failed W.takes W.failed limits input
+        (record { store = store; ledger = ledger })
         (record { store = result.1; ledger = result.2 }) ended out.old out.new
         × Tells E.takes E.failed [] [] ended err.old err.new }
     ensures honest { C.is_honest result.1 → C.is_honest store }

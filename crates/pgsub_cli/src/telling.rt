@@ -57,7 +57,10 @@ pub fn left_path(task: &Task) -> &str
     ensures { result.now ≡ left_path task.now }
 {
     match task {
-        Task::Show { file, .. } | Task::Apply { file, .. } | Task::Resume { file } => file.as_str(),
+        Task::Show { file, .. }
+        | Task::Apply { file, .. }
+        | Task::Resume { file }
+        | Task::Watch { file, .. } => file.as_str(),
         Task::Dump { store, .. } | Task::Follow { store, .. } => store.as_str(),
         Task::Same { left, .. } => left.as_str(),
         Task::Lsn { .. } => "",

@@ -6,7 +6,7 @@ ghost use Rattle.pgsub_cli.specs.declared.fault.Ending.{Ending};
 ghost use Rattle.pgsub_cli.specs.declared.fault.RunFault.{RunFault};
 ghost use Rattle.pgsub_cli.specs.Runs.{Applies, Compares, ComparesSessions, Ends, Prints};
 ghost use Rattle.pgsub_cli.specs.Runs.{PrintsResumed, PrintsShown, Tells, WritesVerdict, left_path};
-ghost use Rattle.pgsub_cli.specs.Runs.{right_path, store_path, status_of};
+ghost use Rattle.pgsub_cli.specs.Runs.{Watches, right_path, store_path, status_of};
 
 use crate::comparing::compare;
 use crate::stores::{apply, resume};
@@ -21,6 +21,7 @@ use pgsub_cli::recorded::read_sessions;
 use pgsub_cli::showing::show;
 use pgsub_cli::storing::read_input;
 use pgsub_cli::telling::{left_path, right_path, status, tell};
+use pgsub_cli::watching::watch;
 use pgsub_core::{Session, Side, Verdict};
 use std::alloc::Global;
 
@@ -125,6 +126,20 @@ fn compare_recordings<R: Input + Drop, W: Output>(
     compare_sessions(alloc, version, sessions.as_slice(), others.as_slice(), out)
 }
 
+/// Watches the sessions of a recording, and prints how each rule of a well-formed server stands.
+fn watch_recording<R: Input + Drop, W: Output>(
+    alloc: Global,
+    version: Version,
+    file: Option<R>,
+    out: &mut W,
+) -> Result<Ending, RunFault>
+    ensures { Watches R.gives R.begins R.failed W.takes W.failed version file out.old out.new
+        result }
+{
+    let sessions = read_sessions(alloc, Side::Left, file)?;
+    watch(alloc, version, sessions.as_slice(), out)
+}
+
 /// Runs a task up to its end, and tells nothing of a fault.
 fn run_task<R: Input + Drop, W: Output + Drop>(
     alloc: Global,
@@ -148,6 +163,7 @@ fn run_task<R: Input + Drop, W: Output + Drop>(
         Task::Same { version, .. } => compare_recordings(alloc, *version, left, right, out),
         Task::Resume { .. } => resume_recording(alloc, left, out),
         Task::Lsn { text } => write_number(alloc, text.as_str(), out),
+        Task::Watch { version, .. } => watch_recording(alloc, *version, left, out),
         Task::Dump { .. } | Task::Follow { .. } => unreachable!(),
     }
 }
@@ -155,7 +171,7 @@ fn run_task<R: Input + Drop, W: Output + Drop>(
 /// Runs a task that names no store. `left` is the first file that it names and `right` the second
 /// one, None where it can't be opened or none is named. Returns the exit status: 0 done, 1 a stream
 /// that is rejected or memory that ran out, 2 a text that isn't an LSN, 3 a fault of a file, 4 two
-/// recordings that differ.
+/// recordings that differ or one that breaks a rule.
 ///
 /// There is a way in which the task ends, with this status: what is printed are the lines that the
 /// files' bytes lead to, also where a fault stopped them, which is then the task's. A recording

@@ -1,7 +1,7 @@
 //! What a watch knows of a session's commits and keepalives, and of the pair that is under way.
 ghost use Rattle.std.specs.Prelude.{◌≡◌};
 ghost use Rattle.pgwatch.specs.Hearing.{first_facts, begun, change_noted, keepalive_noted};
-ghost use Rattle.pgwatch.specs.Hearing.{misplaced, commit_judged, stream_judged, Judges};
+ghost use Rattle.pgwatch.specs.Hearing.{misplaced, commit_judged, Judges};
 ghost use Rattle.pgwatch.specs.Hearing.{described_judged, told_judged};
 
 use crate::fault::Breach;
@@ -110,16 +110,6 @@ impl Facts {
         match self.misplaced(at, lsn, end) {
             Some(breach) => Err(breach),
             None => self.described(at, end),
-        }
-    }
-
-    /// A streamed transaction commits, which breaks a rule or ends the watch.
-    pub(crate) fn stream_commit(&self, at: u64, lsn: Lsn, end: Lsn) -> Breach
-        ensures { result ≡ stream_judged at (misplaced self.now at lsn end) }
-    {
-        match self.misplaced(at, lsn, end) {
-            Some(breach) => breach,
-            None => Breach::Streamed { at },
         }
     }
 

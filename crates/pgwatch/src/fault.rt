@@ -52,14 +52,17 @@ pub enum Breach {
         cause: u64,
         told: Lsn,
     },
-    /// Not watched: there is no room for another relation or open transaction.
+    /// A streamed commit with the item or the abort `cause` of a subtransaction that isn't nested,
+    /// or isn't aborted before anything else of the transaction.
+    #[error("watch 7 Unnested")]
+    Unnested {
+        at: u64,
+        cause: u64,
+        subxid: u32,
+    },
+    /// Not watched: there is no room for another relation, open transaction or item of one.
     #[error("not watched: full")]
     Full {
-        at: u64,
-    },
-    /// Not watched: a streamed transaction commits.
-    #[error("not watched: streamed")]
-    Streamed {
         at: u64,
     },
     /// Not watched: memory has run out.

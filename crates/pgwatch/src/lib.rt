@@ -20,6 +20,9 @@
 mod facts;
 mod fault;
 mod known;
+mod nest;
+mod noted;
+mod streams;
 mod watch;
 
 pub use fault::Breach;

@@ -2,7 +2,7 @@
 use Rattle.std.proofs.Common.{◌≡◌, ◌<◌, ◌≤◌, ◌⊎◌, inl, inr, ℕ, List}
 use Rattle.std.proofs.Common.{[], ◌∷◌, Bool, true, false, cond, ◌||◌, ◌&&◌}
 use Rattle.std.proofs.Common.{eqb, nat_le, nat_lt, Option, Some, None}
-use Rattle.std.proofs.Common.{Result, Ok, Err, refl, ap, subst, ◌∙◌}
+use Rattle.std.proofs.Common.{Result, Ok, Err, refl, sym, ap, subst, ◌∙◌, ◌++◌, not}
 use Rattle.std.proofs.Common.{arith, ℤ}
 use Rattle.std.specs.Prelude.{◌+◌}
 use Rattle.std.proofs.lemmas.Bool.Decides.{nat_tests, leb_tells}
@@ -15,24 +15,39 @@ use Rattle.pglogical.specs.declared.message.Message.TheVariants as message
 use Rattle.pgorder.specs.declared.Event.{Event}
 use Rattle.pgorder.specs.declared.Event.TheVariants as event
 use Rattle.pgorder.specs.States.{is_in_block}
-use Rattle.pgorder.specs.Steps.{StepResult, order_step}
+use Rattle.pgorder.specs.Steps.{Context, Outside, InPair, InBlock, OrderState, StepResult}
+use Rattle.pgorder.specs.Steps.{order_step, step_item, in_version_2}
+use Rattle.pgorder.specs.OpenXids.{OpenXids, is_open, without}
+use Rattle.pgorder.specs.declared.Version.{Version}
+use Rattle.pgorder.specs.declared.Version.TheVariants.{One, Two}
+use Rattle.pgorder.specs.declared.fault.OrderFault.TheVariants as fault
 use Rattle.pgwatch.specs.Known.{OidSet, is_known, with_known}
 use Rattle.pgwatch.specs.declared.fault.Breach.{Breach}
 use Rattle.pgwatch.specs.declared.fault.Breach.TheVariants as breach
 use Rattle.pgwatch.specs.declared.facts.Facts.{Facts}
 use Rattle.pgwatch.specs.declared.facts.Missing.{Missing}
 use Rattle.pgwatch.specs.declared.watch.Watch.{Watch}
-use Rattle.pgwatch.specs.Hearing.{hear, at_start, by_order}
-use Rattle.pgwatch.specs.Hearing.{meant, with_facts, commit_judged, by_place}
-use Rattle.pgwatch.specs.Hearing.{described_judged, misplaced}
-use Rattle.pgwatch.specs.Hearing.{stream_judged, item_noted, first_unknown}
-use Rattle.pgwatch.specs.Hearing.{first_missing, closed, keepalive_noted}
+use Rattle.pgwatch.specs.declared.noted.Noted.{Noted}
+use Rattle.pgwatch.specs.declared.noted.What.{What}
+use Rattle.pgwatch.specs.declared.noted.What.TheVariants as what
+use Rattle.pgwatch.specs.Known.{none_known}
+use Rattle.pgwatch.specs.Nesting.{Nesting, at_end, path_with, survived, nested_as, nested, nest}
+use Rattle.pgwatch.specs.Nesting.{or_misfit, then_nested, of_xid, without_xid}
+use Rattle.pgwatch.specs.Hearing.{hear, at_start, by_order, meant, with_facts, commit_judged}
+use Rattle.pgwatch.specs.Hearing.{by_place, described_judged, misplaced, item_noted, begun}
+use Rattle.pgwatch.specs.Hearing.{first_unknown, first_missing, closed, keepalive_noted, is_full}
+use Rattle.pgwatch.specs.Hearing.{what_of, block_noted, aborted, replayed_as, replayed_one}
+use Rattle.pgwatch.specs.Hearing.{replayed, then_watch, commits, nest_judged}
 use Rattle.pgwatch.specs.Hearing as hearing
 use Rattle.pgsub_core.specs.Server.Work.{is_among}
 use Rattle.pgsub_core.specs.Server.Stream.{Sent, Data, Keepalive}
 use Rattle.pgwatched.specs.Watched.{Framed, heard_of, then_hear, hear_all}
 use Rattle.pgwatched.specs.Causes.{IsCommitAt, IsChangeOf, IsKeepaliveAt, Came, IsCaused}
-use Rattle.pgwatched.specs.Causes.{BreachesAreCaused}
+use Rattle.pgwatched.specs.Causes.{BreachesAreCaused, EndsAt, IsPart, IsPartSent}
+use Rattle.std.specs.List.{AllByRecursion}
+use Rattle.pgsub_core.proofs.Surviving.{all_append, all_weaker}
+use Rattle.pgwatched.proofs.Replays.{full_only}
+use Rattle.pgwatched.proofs.Kept.{item_leaves, commit_leaves, judged_leaves}
 
 -- ---- what is known of causes
 
@@ -150,11 +165,147 @@ module _ (f : Facts) (at lsn end : ℕ) where
     commit_caused b (Some why) is e = subst (λ b. IsCaused b seen at) (ap (breach_of b) e) is
     commit_caused b None ends e = described_caused b f.missing k.missing ends e
 
-    stream_caused : (b : Breach) (o : Option Breach) → Placed o → stream_judged at o ≡ b → IsCaused b seen at
-    stream_caused b (Some why) is e = subst (λ b. IsCaused b seen at) e is
-    stream_caused b None ends e = subst (λ b. IsCaused b seen at) e refl
+abbrev done : Watch → Result Watch Breach
+done w = Ok w
 
--- ---- one message
+-- ---- what is kept of streamed transactions came
+
+abbrev IsNotedAs : Noted → Message → Type 0
+IsNotedAs x (message.Item label i) = (what_of i ≡ x.what) × IsPart x.subxid (message.Item label i)
+IsNotedAs x (message.StreamAbort xid label) = (what.Abort ≡ x.what) × (label ≡ x.subxid)
+IsNotedAs x m = ⊥
+
+abbrev IsNotedSent : Noted → Sent → Type 0
+IsNotedSent x (Data s e clock m) = IsNotedAs x m
+IsNotedSent x (Keepalive e clock reply) = ⊥
+
+abbrev IsNoted : List Framed → Noted → Type 0
+IsNoted seen x = Came x.at (IsNotedSent x) seen
+
+abbrev AreNoted : List Noted → List Framed → Type 0
+AreNoted noted seen = AllByRecursion (IsNoted seen) noted
+
+came_as : (at : ℕ) (is as_well : Sent → Type 0) → ((s : Sent) → is s → as_well s) → (seen : List Framed) → Came at is seen
+    → Came at as_well seen
+came_as at is as_well go [] came = came
+came_as at is as_well go (f ∷ seen) (inl here) = inl (here.0, go f.sent here.1)
+came_as at is as_well go (f ∷ seen) (inr later) = inr (came_as at is as_well go seen later)
+
+part_sent : (x : Noted) (s : Sent) → IsNotedSent x s → IsPartSent x.subxid s
+part_sent x (Data s e clock (message.Item label i)) is = is.1
+part_sent x (Data s e clock (message.StreamAbort xid label)) is = is.1
+part_sent x (Data s e clock (message.Begin lsn time xid)) is = absurd is
+part_sent x (Data s e clock (message.Commit lsn end time)) is = absurd is
+part_sent x (Data s e clock (message.Origin lsn name)) is = absurd is
+part_sent x (Data s e clock (message.TypeName xid oid namespace name)) is = absurd is
+part_sent x (Data s e clock (message.Logical xid transactional lsn prefix content)) is = absurd is
+part_sent x (Data s e clock (message.StreamStart xid first)) is = absurd is
+part_sent x (Data s e clock message.StreamStop) is = absurd is
+part_sent x (Data s e clock (message.StreamCommit xid lsn end time)) is = absurd is
+part_sent x (Keepalive e clock reply) is = absurd is
+
+part_came : (x : Noted) (seen : List Framed) → IsNoted seen x → Came x.at (IsPartSent x.subxid) seen
+part_came x seen came = came_as x.at (IsNotedSent x) (IsPartSent x.subxid) (part_sent x) seen came
+
+abbrev names_of : What → List ℕ
+names_of (what.Relation oid) = []
+names_of (what.Change oid) = oid ∷ []
+names_of (what.Truncate oids) = oids
+names_of what.Abort = []
+
+named_as : (i : Item) → names_of (what_of i) ≡ named i
+named_as (item.Relation def) = refl
+named_as (item.Insert oid row) = refl
+named_as (item.Update oid prior row) = refl
+named_as (item.Delete oid kind row) = refl
+named_as (item.Truncate options oids) = refl
+
+change_sent : (x : Noted) (oid : ℕ) → is_among (names_of x.what) oid ≡ true → (s : Sent) → IsNotedSent x s → IsChangeOf oid s
+change_sent x oid names (Data s e clock (message.Item label i)) is =
+    subst (λ oids. is_among oids oid ≡ true) (ap names_of (sym is.0) ∙ named_as i) names
+change_sent x oid names (Data s e clock (message.StreamAbort xid label)) is =
+    absurd (let no : is_among (names_of what.Abort) oid ≡ true = subst (λ h. is_among (names_of h) oid ≡ true) (sym is.0) names in cc)
+change_sent x oid names (Data s e clock (message.Begin lsn time xid)) is = absurd is
+change_sent x oid names (Data s e clock (message.Commit lsn end time)) is = absurd is
+change_sent x oid names (Data s e clock (message.Origin lsn name)) is = absurd is
+change_sent x oid names (Data s e clock (message.TypeName xid o namespace name)) is = absurd is
+change_sent x oid names (Data s e clock (message.Logical xid transactional lsn prefix content)) is = absurd is
+change_sent x oid names (Data s e clock (message.StreamStart xid first)) is = absurd is
+change_sent x oid names (Data s e clock message.StreamStop) is = absurd is
+change_sent x oid names (Data s e clock (message.StreamCommit xid lsn end time)) is = absurd is
+change_sent x oid names (Keepalive e clock reply) is = absurd is
+
+-- all of a list, and of a part of it
+module _ (P : Noted → Type 0) where
+  of_all : (xid : ℕ) (s : List Noted) → AllByRecursion P s → AllByRecursion P (of_xid xid s)
+  of_all xid [] all = tt
+  of_all xid (x ∷ s) all =
+      elim (eqb x.xid xid) as (λ b. AllByRecursion P (cond b (x ∷ of_xid xid s) (of_xid xid s))) [
+        | true ↦ (all.0, of_all xid s all.1)
+        | false ↦ of_all xid s all.1
+      ]
+
+  without_all : (xid : ℕ) (s : List Noted) → AllByRecursion P s → AllByRecursion P (without_xid xid s)
+  without_all xid [] all = tt
+  without_all xid (x ∷ s) all =
+      elim (eqb x.xid xid) as (λ b. AllByRecursion P (cond (not b) (x ∷ without_xid xid s) (without_xid xid s))) [
+        | true ↦ without_all xid s all.1
+        | false ↦ (all.0, without_all xid s all.1)
+      ]
+
+  survived_all : (n m : Nesting) (x : Noted) (path : Option (List ℕ)) → P x → AllByRecursion P n.surviving → survived n x path ≡ Some m
+      → AllByRecursion P m.surviving
+  survived_all n m x None p all e = absurd (cc)
+  survived_all n m x (Some path) p all e =
+      let it : record { path = path; seen = with_known x.subxid n.seen; undone = none_known; surviving = x ∷ n.surviving } ≡ m = cc in
+      subst (λ (m : Nesting). AllByRecursion P m.surviving) it (p, all)
+
+  item_all : (n m : Nesting) (x : Noted) (undone : Bool) → P x → AllByRecursion P n.surviving
+      → cond undone (Some n) (survived n x (path_with n x.subxid)) ≡ Some m → AllByRecursion P m.surviving
+  item_all n m x true p all e = let it : n ≡ m = cc in subst (λ (m : Nesting). AllByRecursion P m.surviving) it all
+  item_all n m x false p all e = survived_all n m x (path_with n x.subxid) p all e
+
+  abort_all : (n m : Nesting) (xid : ℕ) (undone seen : Bool) → AllByRecursion P n.surviving
+      → cond undone (Some n) (cond seen None (Some (record n { seen = with_known xid n.seen; undone = with_known xid n.undone }))) ≡ Some m
+      → AllByRecursion P m.surviving
+  abort_all n m xid true seen all e = let it : n ≡ m = cc in subst (λ (m : Nesting). AllByRecursion P m.surviving) it all
+  abort_all n m xid false true all e = absurd (cc)
+  abort_all n m xid false false all e =
+      let it : record n { seen = with_known xid n.seen; undone = with_known xid n.undone } ≡ m = cc in
+      subst (λ (m : Nesting). AllByRecursion P m.surviving) it all
+
+  one_all : (n m : Nesting) (x : Noted) (h : What) → P x → AllByRecursion P n.surviving → nested_as n x h ≡ Some m
+      → AllByRecursion P m.surviving
+  one_all n m x (what.Relation oid) p all e = item_all n m x (is_known x.subxid n.undone) p all e
+  one_all n m x (what.Change oid) p all e = item_all n m x (is_known x.subxid n.undone) p all e
+  one_all n m x (what.Truncate oids) p all e = item_all n m x (is_known x.subxid n.undone) p all e
+  one_all n m x what.Abort p all e = abort_all n m x.subxid (is_known x.subxid n.undone) (is_known x.subxid n.seen) all e
+
+  or_some : (x : Noted) (o : Option Nesting) (m : Nesting) → or_misfit x o ≡ Ok m → o ≡ Some m
+  or_some x None m e = absurd (cc)
+  or_some x (Some n) m e = cc
+
+  nested_all : (xs : List Noted) (n m : Nesting) → AllByRecursion P xs → AllByRecursion P n.surviving → nest n xs ≡ Ok m
+      → AllByRecursion P m.surviving
+  nested_all [] n m all first e = let it : n ≡ m = cc in subst (λ (m : Nesting). AllByRecursion P m.surviving) it first
+  nested_all (x ∷ xs) n m all first e = go (nest n xs) e (λ k is. nested_all xs n k all.1 first is)
+    where
+      go : (r : Result Nesting Noted) → then_nested x r ≡ Ok m → ((k : Nesting) → r ≡ Ok k → AllByRecursion P k.surviving)
+          → AllByRecursion P m.surviving
+      go (Err y) e rest = absurd (cc)
+      go (Ok k) e rest = one_all k m x x.what all.0 (rest k refl) (or_some x (nested k x) m e)
+
+  misfit_in : (xs : List Noted) (n : Nesting) (y : Noted) → AllByRecursion P xs → nest n xs ≡ Err y → P y
+  misfit_in [] n y all e = absurd (cc)
+  misfit_in (x ∷ xs) n y all e = go (nest n xs) e (λ z is. misfit_in xs n z all.1 is)
+    where
+      of_one : (o : Option Nesting) → or_misfit x o ≡ Err y → P y
+      of_one None e = let it : x ≡ y = cc in subst P it all.0
+      of_one (Some m) e = absurd (cc)
+
+      go : (r : Result Nesting Noted) → then_nested x r ≡ Err y → ((z : Noted) → r ≡ Err z → P z) → P y
+      go (Err z) e rest = let it : z ≡ y = cc in subst P it (rest z refl)
+      go (Ok k) e rest = of_one (nested k x) e
 
 unknown_named : (known : OidSet) (oids : List ℕ) (oid : ℕ) → first_unknown known oids ≡ Some oid → is_among oids oid ≡ true
 unknown_named known [] oid e = absurd (cc)
@@ -169,8 +320,55 @@ unknown_named known (o ∷ oids) oid e =
     or_true true y e = refl
     or_true false y e = e
 
-abbrev done : Watch → Result Watch Breach
-done w = Ok w
+-- items that are read again
+module _ (seen : List Framed) (at : ℕ) where
+  facts_in : (w u : Watch) → KnowsCauses w.facts seen → w.facts ≡ u.facts → KnowsCauses u.facts seen
+  facts_in w u k same = subst (λ (f : Facts). KnowsCauses f seen) same k
+
+  relation_known : (w u : Watch) (oid : ℕ) (there full : Bool) → KnowsCauses w.facts seen
+      → cond there (Ok w) (cond full (Err (breach.Full at)) (Ok (record w { known = with_known oid w.known; held = w.held + 1 }))) ≡ Ok u
+      → KnowsCauses u.facts seen
+  relation_known w u oid true full k e = facts_in w u k (let it : w ≡ u = cc in ap (λ (w : Watch). w.facts) it)
+  relation_known w u oid false true k e = absurd (cc)
+  relation_known w u oid false false k e =
+      facts_in w u k (let it : record w { known = with_known oid w.known; held = w.held + 1 } ≡ u = cc in ap (λ (w : Watch). w.facts) it)
+
+  missing_known : (x : Noted) (o : Option Missing) (known : OidSet) (u : Option ℕ) → first_unknown known (names_of x.what) ≡ u
+      → IsNoted seen x → MissingCame o seen → MissingCame (first_missing o x.at u) seen
+  missing_known x (Some missing) known u is noted came = came
+  missing_known x None known None is noted came = tt
+  missing_known x None known (Some oid) is noted came =
+      came_as x.at (IsNotedSent x) (IsChangeOf oid) (change_sent x oid (unknown_named known (names_of x.what) oid is)) seen noted
+
+  change_known_again : (w u : Watch) (x : Noted) (oids : List ℕ) → names_of x.what ≡ oids → IsNoted seen x → KnowsCauses w.facts seen
+      → done (hearing.changed_by w x.at oids) ≡ Ok u → KnowsCauses u.facts seen
+  change_known_again w u x oids names noted k e =
+      let it : hearing.changed_by w x.at oids ≡ u = cc in
+      subst (λ (v : Watch). KnowsCauses v.facts seen) it (record {
+        last = k.last;
+        told = k.told;
+        missing = subst (λ os. MissingCame (first_missing w.facts.missing x.at (first_unknown w.known os)) seen) names
+            (missing_known x w.facts.missing w.known (first_unknown w.known (names_of x.what)) refl noted k.missing);
+      })
+
+  one_known_again : (w u : Watch) (x : Noted) (h : What) → x.what ≡ h → IsNoted seen x → KnowsCauses w.facts seen
+      → replayed_as w at x.at h ≡ Ok u → KnowsCauses u.facts seen
+  one_known_again w u x (what.Relation oid) is noted k e = relation_known w u oid (is_known oid w.known) (is_full w) k e
+  one_known_again w u x (what.Change oid) is noted k e = change_known_again w u x (oid ∷ []) (ap names_of is) noted k e
+  one_known_again w u x (what.Truncate oids) is noted k e = change_known_again w u x oids (ap names_of is) noted k e
+  one_known_again w u x what.Abort is noted k e = facts_in w u k (let it : w ≡ u = cc in ap (λ (w : Watch). w.facts) it)
+
+  replays_known : (xs : List Noted) → AreNoted xs seen → (w u : Watch) → KnowsCauses w.facts seen → replayed w at xs ≡ Ok u
+      → KnowsCauses u.facts seen
+  replays_known [] noted w u k e = facts_in w u k (let it : w ≡ u = cc in ap (λ (w : Watch). w.facts) it)
+  replays_known (x ∷ xs) noted w u k e = go (replayed_one w at x) refl e (λ v. replays_known xs noted.1 v u)
+    where
+      go : (r : Result Watch Breach) → replayed_one w at x ≡ r → then_watch r (λ new. replayed new at xs) ≡ Ok u
+          → ((v : Watch) → KnowsCauses v.facts seen → replayed v at xs ≡ Ok u → KnowsCauses u.facts seen) → KnowsCauses u.facts seen
+      go (Err b) is e rest = absurd (cc)
+      go (Ok v) is e rest = rest v (one_known_again w v x x.what refl noted.0 k is) e
+
+-- ---- one message
 
 abbrev watch_breach : Breach → Result Watch Breach → Breach
 watch_breach b (Ok w) = b
@@ -195,30 +393,24 @@ module _ (n : ℕ) (s e : ℕ) (clock : ℤ) (seen : List Framed) where
   alike : (f g : Facts) (m : Message) → KnowsCauses f seen → f ≡ g → KnowsCauses g (framed m ∷ seen)
   alike f g m k same = subst (λ (g : Facts). KnowsCauses g (framed m ∷ seen)) same (more f (framed m) seen k)
 
-  closed_facts : (w : Watch) (event : Event) → w.facts ≡ (closed w event).facts
-  closed_facts w event.Ignore = refl
-  closed_facts w (event.Begin xid) = refl
-  closed_facts w (event.Hold top label) = refl
-  closed_facts w (event.Open xid) = refl
-  closed_facts w (event.Reopen xid) = refl
-  closed_facts w event.Close = refl
-  closed_facts w (event.Cut xid label) = refl
-  closed_facts w (event.Drop xid) = refl
-  closed_facts w (event.CommitPair xid lsn end) = refl
-  closed_facts w (event.CommitStream xid lsn end) = refl
+  -- a commit that goes well is the last one
+  commit_known : (f g : Facts) (m : Message) (lsn end : ℕ) → EndsAt end m → KnowsCauses f seen → commit_judged f n lsn end ≡ Ok g
+      → KnowsCauses g (framed m ∷ seen)
+  commit_known f g m lsn end ends k is =
+      subst (λ (g : Facts). KnowsCauses g (framed m ∷ seen)) (commit_moves f n lsn end g (misplaced f n lsn end) is)
+      (record {
+        last = inr (inl (refl, ends));
+        told = earlier (framed m) f.told_at (IsKeepaliveAt f.told) f.told seen k.told;
+        missing = missing_earlier (framed m) f.missing seen k.missing;
+      })
 
   module _ (w u : Watch) (k : KnowsCauses w.facts seen) where
-    commit_goes : (lsn end : ℕ) (time : ℤ) (r : Result Facts Breach) → commit_judged w.facts n lsn end ≡ r → with_facts w r ≡ Ok u
-        → KnowsCauses u.facts (framed (message.Commit lsn end time) ∷ seen)
-    commit_goes lsn end time (Err b) is e = absurd (cc)
-    commit_goes lsn end time (Ok g) is e =
-        subst (λ (g : Facts). KnowsCauses g (framed (message.Commit lsn end time) ∷ seen))
-        (commit_moves w.facts n lsn end g (misplaced w.facts n lsn end) is ∙ ap (watch_facts w.facts) e)
-        (record {
-          last = inr (inl (refl, refl));
-          told = earlier (framed (message.Commit lsn end time)) w.facts.told_at (IsKeepaliveAt w.facts.told) w.facts.told seen k.told;
-          missing = missing_earlier (framed (message.Commit lsn end time)) w.facts.missing seen k.missing;
-        })
+    commit_goes : (m : Message) (lsn end : ℕ) → EndsAt end m → (r : Result Facts Breach) → commit_judged w.facts n lsn end ≡ r
+        → with_facts w r ≡ Ok u → KnowsCauses u.facts (framed m ∷ seen)
+    commit_goes m lsn end ends (Err b) is e = absurd (cc)
+    commit_goes m lsn end ends (Ok g) is e =
+        subst (λ (g : Facts). KnowsCauses g (framed m ∷ seen)) (ap (watch_facts w.facts) e)
+        (commit_known w.facts g m lsn end ends k is)
 
     relation_goes : (label : Option ℕ) (def : RelationDef) (there full : Bool)
         → cond there (Ok w) (cond full (Err (breach.Full n)) (Ok (record w { known = with_known def.oid w.known; held = w.held + 1 })))
@@ -239,54 +431,117 @@ module _ (n : ℕ) (s e : ℕ) (clock : ℤ) (seen : List Framed) where
         })
 
     item_goes : (label : Option ℕ) (i : Item) → item_noted w n i ≡ Ok u → KnowsCauses u.facts (framed (message.Item label i) ∷ seen)
-    item_goes label (item.Relation def) e = relation_goes label def (is_known def.oid w.known) (nat_le w.limit w.held) e
+    item_goes label (item.Relation def) e = relation_goes label def (is_known def.oid w.known) (is_full w) e
     item_goes label (item.Insert oid row) e = change_goes label (item.Insert oid row) e
     item_goes label (item.Update oid prior row) e = change_goes label (item.Update oid prior row) e
     item_goes label (item.Delete oid kind row) e = change_goes label (item.Delete oid kind row) e
     item_goes label (item.Truncate options oids) e = change_goes label (item.Truncate options oids) e
 
-    item_or_block_goes : (label : Option ℕ) (i : Item) (block : Bool) → cond block (Ok w) (item_noted w n i) ≡ Ok u
+    -- where the facts stay
+    stays : (m : Message) (v : Watch) → w.facts ≡ v.facts → (full : Bool) → cond full (Err (breach.Full n)) (Ok v) ≡ Ok u
+        → KnowsCauses u.facts (framed m ∷ seen)
+    stays m v same true e = absurd (cc)
+    stays m v same false e = alike w.facts u.facts m k (same ∙ ap (watch_facts w.facts) e)
+
+    block_goes : (label : Option ℕ) (i : Item) (event : Event) → block_noted w n i event ≡ Ok u
         → KnowsCauses u.facts (framed (message.Item label i) ∷ seen)
-    item_or_block_goes label i true e = alike w.facts u.facts (message.Item label i) k (ap (watch_facts w.facts) e)
-    item_or_block_goes label i false e = item_goes label i e
+    block_goes label i (event.Hold xid subxid) e =
+        stays (message.Item label i)
+        (record w { streams = w.streams ++ record { xid = xid; subxid = subxid; at = n; what = what_of i } ∷ [] }) refl (is_full w) e
+    block_goes label i event.Ignore e = stays (message.Item label i) w refl false e
+    block_goes label i (event.Begin xid) e = stays (message.Item label i) w refl false e
+    block_goes label i (event.Open xid) e = stays (message.Item label i) w refl false e
+    block_goes label i (event.Reopen xid) e = stays (message.Item label i) w refl false e
+    block_goes label i event.Close e = stays (message.Item label i) w refl false e
+    block_goes label i (event.Cut xid subxid) e = stays (message.Item label i) w refl false e
+    block_goes label i (event.Drop xid) e = stays (message.Item label i) w refl false e
+    block_goes label i (event.CommitPair xid lsn end) e = stays (message.Item label i) w refl false e
+    block_goes label i (event.CommitStream xid lsn end) e = stays (message.Item label i) w refl false e
+
+    item_or_block_goes : (label : Option ℕ) (i : Item) (event : Event) (block : Bool)
+        → cond block (block_noted w n i event) (item_noted w n i) ≡ Ok u
+        → KnowsCauses u.facts (framed (message.Item label i) ∷ seen)
+    item_or_block_goes label i event true e = block_goes label i event e
+    item_or_block_goes label i event false e = item_goes label i e
+
+    abort_goes : (m : Message) (event : Event) → aborted w n event ≡ Ok u → KnowsCauses u.facts (framed m ∷ seen)
+    abort_goes m (event.Cut xid label) e =
+        stays m (record w { streams = w.streams ++ record { xid = xid; subxid = label; at = n; what = what.Abort } ∷ [] }) refl
+        (is_full w) e
+    abort_goes m (event.Drop xid) e = stays m (closed w xid) refl false e
+    abort_goes m event.Ignore e = stays m w refl false e
+    abort_goes m (event.Begin xid) e = stays m w refl false e
+    abort_goes m (event.Hold top label) e = stays m w refl false e
+    abort_goes m (event.Open xid) e = stays m w refl false e
+    abort_goes m (event.Reopen xid) e = stays m w refl false e
+    abort_goes m event.Close e = stays m w refl false e
+    abort_goes m (event.CommitPair xid lsn end) e = stays m w refl false e
+    abort_goes m (event.CommitStream xid lsn end) e = stays m w refl false e
 
     open_goes : (xid : ℕ) (full : Bool) → cond full (Err (breach.Full n)) (Ok (record w { held = w.held + 1 })) ≡ Ok u
         → KnowsCauses u.facts (framed (message.StreamStart xid true) ∷ seen)
-    open_goes xid true e = absurd (cc)
-    open_goes xid false e = alike w.facts u.facts (message.StreamStart xid true) k (ap (watch_facts w.facts) e)
+    open_goes xid full e = stays (message.StreamStart xid true) (record w { held = w.held + 1 }) refl full e
 
-    goes : (m : Message) (event : Event) → meant w n m event ≡ Ok u → KnowsCauses u.facts (framed m ∷ seen)
-    goes (message.Begin lsn time xid) event e =
+    -- a streamed transaction commits
+    read_goes : (m : Message) (lsn end : ℕ) → EndsAt end m → (r : Result Watch Breach)
+        → ((v : Watch) → r ≡ Ok v → KnowsCauses v.facts seen) → then_watch r (λ new. commits new n lsn end) ≡ Ok u
+        → KnowsCauses u.facts (framed m ∷ seen)
+    read_goes m lsn end ends (Err b) knows e = absurd (cc)
+    read_goes m lsn end ends (Ok v) knows e = by_facts v (knows v refl) (commit_judged v.facts n lsn end) refl e
+      where
+        by_facts : (v : Watch) → KnowsCauses v.facts seen → (r : Result Facts Breach) → commit_judged v.facts n lsn end ≡ r
+            → with_facts v r ≡ Ok u → KnowsCauses u.facts (framed m ∷ seen)
+        by_facts v k (Err b) is e = absurd (cc)
+        by_facts v k (Ok g) is e =
+            subst (λ (g : Facts). KnowsCauses g (framed m ∷ seen)) (ap (watch_facts v.facts) e)
+            (commit_known v.facts g m lsn end ends k is)
+
+    stream_goes : (xid lsn end : ℕ) (time : ℤ) → AreNoted w.streams seen → (r : Result Nesting Noted)
+        → nest (at_end xid) (of_xid xid w.streams) ≡ r → nest_judged (closed w xid) n lsn end r ≡ Ok u
+        → KnowsCauses u.facts (framed (message.StreamCommit xid lsn end time) ∷ seen)
+    stream_goes xid lsn end time noted (Err x) is e = absurd (cc)
+    stream_goes xid lsn end time noted (Ok g) is e =
+        let again : Watch = record (closed w xid) { facts = begun w.facts } in
+        read_goes (message.StreamCommit xid lsn end time) lsn end refl (replayed again n g.surviving)
+        (λ v read. replays_known seen n g.surviving
+        (nested_all (IsNoted seen) (of_xid xid w.streams) (at_end xid) g (of_all (IsNoted seen) xid w.streams noted) tt is)
+        again v (record { last = k.last; told = k.told; missing = tt }) read) e
+
+    goes : (m : Message) (event : Event) → AreNoted w.streams seen → meant w n m event ≡ Ok u → KnowsCauses u.facts (framed m ∷ seen)
+    goes (message.Begin lsn time xid) event noted e =
         subst (λ (g : Facts). KnowsCauses g (framed (message.Begin lsn time xid) ∷ seen)) (ap (watch_facts w.facts) e)
         (record {
           last = earlier (framed (message.Begin lsn time xid)) w.facts.last_at (IsCommitAt w.facts.last_end) w.facts.last_end seen k.last;
           told = earlier (framed (message.Begin lsn time xid)) w.facts.told_at (IsKeepaliveAt w.facts.told) w.facts.told seen k.told;
           missing = tt;
         })
-    goes (message.Commit lsn end time) event e = commit_goes lsn end time (commit_judged w.facts n lsn end) refl e
-    goes (message.Origin lsn name) event e = alike w.facts u.facts (message.Origin lsn name) k (ap (watch_facts w.facts) e)
-    goes (message.TypeName xid oid namespace name) event e =
+    goes (message.Commit lsn end time) event noted e =
+        commit_goes (message.Commit lsn end time) lsn end refl (commit_judged w.facts n lsn end) refl e
+    goes (message.Origin lsn name) event noted e = alike w.facts u.facts (message.Origin lsn name) k (ap (watch_facts w.facts) e)
+    goes (message.TypeName xid oid namespace name) event noted e =
         alike w.facts u.facts (message.TypeName xid oid namespace name) k (ap (watch_facts w.facts) e)
-    goes (message.Logical xid transactional lsn prefix content) event e =
+    goes (message.Logical xid transactional lsn prefix content) event noted e =
         alike w.facts u.facts (message.Logical xid transactional lsn prefix content) k (ap (watch_facts w.facts) e)
-    goes (message.Item label i) event e = item_or_block_goes label i (is_in_block w.order.state.context) e
-    goes (message.StreamStart xid true) event e = open_goes xid (nat_le w.limit w.held) e
-    goes (message.StreamStart xid false) event e = alike w.facts u.facts (message.StreamStart xid false) k (ap (watch_facts w.facts) e)
-    goes message.StreamStop event e = alike w.facts u.facts message.StreamStop k (ap (watch_facts w.facts) e)
-    goes (message.StreamCommit xid lsn end time) event e = absurd (cc)
-    goes (message.StreamAbort xid label) event e =
-        alike w.facts u.facts (message.StreamAbort xid label) k (closed_facts w event ∙ ap (watch_facts w.facts) e)
+    goes (message.Item label i) event noted e =
+        item_or_block_goes label i event (is_in_block w.order.state.context) e
+    goes (message.StreamStart xid true) event noted e = open_goes xid (is_full w) e
+    goes (message.StreamStart xid false) event noted e =
+        alike w.facts u.facts (message.StreamStart xid false) k (ap (watch_facts w.facts) e)
+    goes message.StreamStop event noted e = alike w.facts u.facts message.StreamStop k (ap (watch_facts w.facts) e)
+    goes (message.StreamCommit xid lsn end time) event noted e =
+        stream_goes xid lsn end time noted (nest (at_end xid) (of_xid xid w.streams)) refl e
+    goes (message.StreamAbort xid label) event noted e = abort_goes (message.StreamAbort xid label) event e
 
   module _ (w : Watch) (b : Breach) (k : KnowsCauses w.facts seen) where
     here_is : breach.Full n ≡ b → IsCaused b seen n
     here_is e = subst (λ b. IsCaused b seen n) e refl
 
-    commit_breaks : (lsn end : ℕ) (r : Result Facts Breach) → commit_judged w.facts n lsn end ≡ r → with_facts w r ≡ Err b
-        → IsCaused b seen n
-    commit_breaks lsn end (Ok g) is e = absurd (cc)
-    commit_breaks lsn end (Err why) is e =
+    commit_breaks : (v : Watch) → KnowsCauses v.facts seen → (lsn end : ℕ) (r : Result Facts Breach) → commit_judged v.facts n lsn end ≡ r
+        → with_facts v r ≡ Err b → IsCaused b seen n
+    commit_breaks v k lsn end (Ok g) is e = absurd (cc)
+    commit_breaks v k lsn end (Err why) is e =
         subst (λ b. IsCaused b seen n) (ap (watch_breach b) e)
-        (commit_caused w.facts n lsn end seen k why (misplaced w.facts n lsn end) (placed w.facts n lsn end seen k) is)
+        (commit_caused v.facts n lsn end seen k why (misplaced v.facts n lsn end) (placed v.facts n lsn end seen k) is)
 
     relation_breaks : (def : RelationDef) (there full : Bool)
         → cond there (Ok w) (cond full (Err (breach.Full n)) (Ok (record w { known = with_known def.oid w.known; held = w.held + 1 })))
@@ -297,47 +552,264 @@ module _ (n : ℕ) (s e : ℕ) (clock : ℤ) (seen : List Framed) where
     relation_breaks def false false e = absurd (cc)
 
     item_breaks : (i : Item) → item_noted w n i ≡ Err b → IsCaused b seen n
-    item_breaks (item.Relation def) e = relation_breaks def (is_known def.oid w.known) (nat_le w.limit w.held) e
+    item_breaks (item.Relation def) e = relation_breaks def (is_known def.oid w.known) (is_full w) e
     item_breaks (item.Insert oid row) e = absurd (cc)
     item_breaks (item.Update oid prior row) e = absurd (cc)
     item_breaks (item.Delete oid kind row) e = absurd (cc)
     item_breaks (item.Truncate options oids) e = absurd (cc)
 
-    item_or_block_breaks : (i : Item) (block : Bool) → cond block (Ok w) (item_noted w n i) ≡ Err b → IsCaused b seen n
-    item_or_block_breaks i true e = absurd (cc)
-    item_or_block_breaks i false e = item_breaks i e
+    stays_full : (v : Watch) (full : Bool) → cond full (Err (breach.Full n)) (Ok v) ≡ Err b → IsCaused b seen n
+    stays_full v true e = here_is (ap (watch_breach b) e)
+    stays_full v false e = absurd (cc)
 
-    open_breaks : (full : Bool) → cond full (Err (breach.Full n)) (Ok (record w { held = w.held + 1 })) ≡ Err b → IsCaused b seen n
-    open_breaks true e = here_is (ap (watch_breach b) e)
-    open_breaks false e = absurd (cc)
+    block_breaks : (i : Item) (event : Event) → block_noted w n i event ≡ Err b → IsCaused b seen n
+    block_breaks i (event.Hold xid subxid) e =
+        stays_full (record w { streams = w.streams ++ record { xid = xid; subxid = subxid; at = n; what = what_of i } ∷ [] }) (is_full w) e
+    block_breaks i event.Ignore e = absurd (cc)
+    block_breaks i (event.Begin xid) e = absurd (cc)
+    block_breaks i (event.Open xid) e = absurd (cc)
+    block_breaks i (event.Reopen xid) e = absurd (cc)
+    block_breaks i event.Close e = absurd (cc)
+    block_breaks i (event.Cut xid subxid) e = absurd (cc)
+    block_breaks i (event.Drop xid) e = absurd (cc)
+    block_breaks i (event.CommitPair xid lsn end) e = absurd (cc)
+    block_breaks i (event.CommitStream xid lsn end) e = absurd (cc)
 
-    breaks : (m : Message) (event : Event) → meant w n m event ≡ Err b → IsCaused b seen n
-    breaks (message.Begin lsn time xid) event e = absurd (cc)
-    breaks (message.Commit lsn end time) event e = commit_breaks lsn end (commit_judged w.facts n lsn end) refl e
-    breaks (message.Origin lsn name) event e = absurd (cc)
-    breaks (message.TypeName xid oid namespace name) event e = absurd (cc)
-    breaks (message.Logical xid transactional lsn prefix content) event e = absurd (cc)
-    breaks (message.Item label i) event e = item_or_block_breaks i (is_in_block w.order.state.context) e
-    breaks (message.StreamStart xid true) event e = open_breaks (nat_le w.limit w.held) e
-    breaks (message.StreamStart xid false) event e = absurd (cc)
-    breaks message.StreamStop event e = absurd (cc)
-    breaks (message.StreamCommit xid lsn end time) event e =
-        stream_caused w.facts n lsn end seen k b (misplaced w.facts n lsn end) (placed w.facts n lsn end seen k) (ap (watch_breach b) e)
-    breaks (message.StreamAbort xid label) event e = absurd (cc)
+    item_or_block_breaks : (i : Item) (event : Event) (block : Bool)
+        → cond block (block_noted w n i event) (item_noted w n i) ≡ Err b → IsCaused b seen n
+    item_or_block_breaks i event true e = block_breaks i event e
+    item_or_block_breaks i event false e = item_breaks i e
+
+    abort_breaks : (event : Event) → aborted w n event ≡ Err b → IsCaused b seen n
+    abort_breaks (event.Cut xid label) e =
+        stays_full (record w { streams = w.streams ++ record { xid = xid; subxid = label; at = n; what = what.Abort } ∷ [] }) (is_full w) e
+    abort_breaks event.Ignore e = absurd (cc)
+    abort_breaks (event.Begin xid) e = absurd (cc)
+    abort_breaks (event.Hold top label) e = absurd (cc)
+    abort_breaks (event.Open xid) e = absurd (cc)
+    abort_breaks (event.Reopen xid) e = absurd (cc)
+    abort_breaks event.Close e = absurd (cc)
+    abort_breaks (event.Drop xid) e = absurd (cc)
+    abort_breaks (event.CommitPair xid lsn end) e = absurd (cc)
+    abort_breaks (event.CommitStream xid lsn end) e = absurd (cc)
+
+    read_breaks : (noted : List Noted) (again : Watch) → KnowsCauses again.facts seen → AreNoted noted seen → (lsn end : ℕ)
+        → (r : Result Watch Breach) → replayed again n noted ≡ r → then_watch r (λ new. commits new n lsn end) ≡ Err b → IsCaused b seen n
+    read_breaks noted again k came lsn end (Err why) is e = here_is (full_only noted again why n is ∙ ap (watch_breach b) e)
+    read_breaks noted again k came lsn end (Ok v) is e =
+        commit_breaks v (replays_known seen n noted came again v k is) lsn end (commit_judged v.facts n lsn end) refl e
+
+    stream_breaks : (xid lsn end : ℕ) → AreNoted w.streams seen → (r : Result Nesting Noted)
+        → nest (at_end xid) (of_xid xid w.streams) ≡ r → nest_judged (closed w xid) n lsn end r ≡ Err b
+        → IsCaused b seen n
+    stream_breaks xid lsn end noted (Err x) is e =
+        subst (λ b. IsCaused b seen n) (ap (watch_breach b) e) (
+          refl,
+          part_came x seen
+              (misfit_in (IsNoted seen) (of_xid xid w.streams) (at_end xid) x (of_all (IsNoted seen) xid w.streams noted) is),
+        )
+    stream_breaks xid lsn end noted (Ok g) is e =
+        read_breaks g.surviving (record (closed w xid) { facts = begun w.facts })
+        (record { last = k.last; told = k.told; missing = tt })
+        (nested_all (IsNoted seen) (of_xid xid w.streams) (at_end xid) g (of_all (IsNoted seen) xid w.streams noted) tt is) lsn end
+        (replayed (record (closed w xid) { facts = begun w.facts }) n g.surviving) refl e
+
+    breaks : (m : Message) (event : Event) → AreNoted w.streams seen → meant w n m event ≡ Err b → IsCaused b seen n
+    breaks (message.Begin lsn time xid) event noted e = absurd (cc)
+    breaks (message.Commit lsn end time) event noted e = commit_breaks w k lsn end (commit_judged w.facts n lsn end) refl e
+    breaks (message.Origin lsn name) event noted e = absurd (cc)
+    breaks (message.TypeName xid oid namespace name) event noted e = absurd (cc)
+    breaks (message.Logical xid transactional lsn prefix content) event noted e = absurd (cc)
+    breaks (message.Item label i) event noted e =
+        item_or_block_breaks i event (is_in_block w.order.state.context) e
+    breaks (message.StreamStart xid true) event noted e = stays_full (record w { held = w.held + 1 }) (is_full w) e
+    breaks (message.StreamStart xid false) event noted e = absurd (cc)
+    breaks message.StreamStop event noted e = absurd (cc)
+    breaks (message.StreamCommit xid lsn end time) event noted e =
+        stream_breaks xid lsn end noted (nest (at_end xid) (of_xid xid w.streams)) refl e
+    breaks (message.StreamAbort xid label) event noted e = abort_breaks event e
 
 -- ---- one frame after the other
 
-goes_in_order : (n s e : ℕ) (clock : ℤ) (seen : List Framed) (w u : Watch) (m : Message) (r : StepResult) → KnowsCauses w.facts seen
-    → by_order w n m r ≡ Ok u → KnowsCauses u.facts (record { at = n; sent = Data s e clock m } ∷ seen)
-goes_in_order n s e clock seen w u m (Err fault) k h = absurd (cc)
-goes_in_order n s e clock seen w u m (Ok step) k h =
-    goes n s e clock seen (record w { order = record { version = w.order.version; state = step.0 } }) u k m step.1 h
+-- the event of an item has its xid, and that of an abort
+abbrev EventFits : Context → Message → Event → Type 0
+EventFits c (message.Item label i) ev =
+    (xid subxid : ℕ) → ev ≡ event.Hold xid subxid → is_in_block c ≡ true → IsPart subxid (message.Item label i)
+EventFits c (message.StreamAbort x label) ev = (xid subxid : ℕ) → ev ≡ event.Cut xid subxid → label ≡ subxid
+EventFits c m ev = Unit {0}
+
+abbrev event_in : Event → StepResult → Event
+event_in other (Ok step) = step.1
+event_in other (Err why) = other
+
+abbrev context_in : Context → StepResult → Context
+context_in other (Ok step) = step.0.context
+context_in other (Err why) = other
+
+module _ (o : OpenXids) (step : OrderState × Event) where
+  abbrev at_context : Context → OrderState
+  at_context c = record { context = c; open_xids = o }
+
+  item_fits : (c : Context) (label : Option ℕ) (i : Item) → step_item (at_context c) c label ≡ Ok step
+      → EventFits step.0.context (message.Item label i) step.1
+  item_fits Outside label i is = absurd (cc)
+  item_fits (InPair l x) label i is = λ xid subxid e block.
+      absurd (let never : is_in_block (InPair l x) ≡ true =
+      subst (λ c. is_in_block c ≡ true) (sym (ap (context_in Outside) is)) block in cc)
+  item_fits (InBlock x) None i is = λ xid subxid e block. tt
+  item_fits (InBlock x) (Some label) i is = λ xid subxid e block.
+      let held : event.Hold x label ≡ event.Hold xid subxid = ap (event_in event.Ignore) is ∙ e in cc
+
+  abort_fits : (xid label : ℕ) (v : Version) (there same : Bool)
+      → in_version_2 v (cond there (cond same (Ok (record { context = Outside; open_xids = without xid o }, event.Drop xid))
+      (Ok (at_context Outside, event.Cut xid label)))
+      (Ok (at_context Outside, event.Ignore))) ≡ Ok step
+      → (x subxid : ℕ) → step.1 ≡ event.Cut x subxid → label ≡ subxid
+  abort_fits xid label One there same is x subxid e = absurd (cc)
+  abort_fits xid label Two true true is x subxid e =
+      absurd (let never : event.Drop xid ≡ event.Cut x subxid = ap (event_in event.Ignore) is ∙ e in cc)
+  abort_fits xid label Two true false is x subxid e =
+      let same : event.Cut xid label ≡ event.Cut x subxid = ap (event_in event.Ignore) is ∙ e in cc
+  abort_fits xid label Two false same is x subxid e =
+      absurd (let never : event.Ignore ≡ event.Cut x subxid = ap (event_in event.Close) is ∙ e in cc)
+
+-- what is known behind the frames that were seen
+abbrev KnowsAll : Watch → List Framed → Type 0
+KnowsAll w seen = KnowsCauses w.facts seen × AreNoted w.streams seen
+
+module _ (n s e : ℕ) (clock : ℤ) (seen : List Framed) where
+  abbrev came_with : Message → Framed
+  came_with m = record { at = n; sent = Data s e clock m }
+
+  stays_noted : (m : Message) (a b : List Noted) → a ≡ b → AreNoted a seen → AreNoted b (came_with m ∷ seen)
+  stays_noted m a b same noted =
+      subst (λ t. AreNoted t (came_with m ∷ seen)) same
+      (all_weaker (IsNoted seen) (IsNoted (came_with m ∷ seen)) (λ x came. inr came) a noted)
+
+  one_noted : (m : Message) (a : List Noted) (new : Noted) → IsNotedAs new m → new.at ≡ n → AreNoted a seen
+      → AreNoted (a ++ new ∷ []) (came_with m ∷ seen)
+  one_noted m a new is at noted =
+      all_append (IsNoted (came_with m ∷ seen)) a (new ∷ []) (stays_noted m a a refl noted) (inl (sym at, is), tt)
+
+  streams_of : List Noted → Result Watch Breach → List Noted
+  streams_of a (Ok w) = w.streams
+  streams_of a (Err b) = a
+
+  module _ (w u : Watch) (noted : AreNoted w.streams seen) where
+    none_new : (m : Message) (v : Watch) → v.streams ≡ w.streams → (full : Bool) → cond full (Err (breach.Full n)) (Ok v) ≡ Ok u
+        → AreNoted u.streams (came_with m ∷ seen)
+    none_new m v same true e = absurd (cc)
+    none_new m v same false e =
+        let it : v ≡ u = cc in stays_noted m w.streams u.streams (sym same ∙ ap (λ (w : Watch). w.streams) it) noted
+
+    one_new : (m : Message) (new : Noted) → IsNotedAs new m → new.at ≡ n → (full : Bool)
+        → cond full (Err (breach.Full n)) (Ok (record w { streams = w.streams ++ new ∷ [] })) ≡ Ok u
+        → AreNoted u.streams (came_with m ∷ seen)
+    one_new m new is at true e = absurd (cc)
+    one_new m new is at false e =
+        let it : record w { streams = w.streams ++ new ∷ [] } ≡ u = cc in
+        subst (λ (v : Watch). AreNoted v.streams (came_with m ∷ seen)) it (one_noted m w.streams new is at noted)
+
+    block_new : (label : Option ℕ) (i : Item) (ev : Event)
+        → ((xid subxid : ℕ) → ev ≡ event.Hold xid subxid → IsPart subxid (message.Item label i))
+        → block_noted w n i ev ≡ Ok u → AreNoted u.streams (came_with (message.Item label i) ∷ seen)
+    block_new label i (event.Hold xid subxid) fits e =
+        one_new (message.Item label i) (record { xid = xid; subxid = subxid; at = n; what = what_of i }) (refl, fits xid subxid refl) refl
+        (is_full w) e
+    block_new label i event.Ignore fits e = none_new (message.Item label i) w refl false e
+    block_new label i (event.Begin xid) fits e = none_new (message.Item label i) w refl false e
+    block_new label i (event.Open xid) fits e = none_new (message.Item label i) w refl false e
+    block_new label i (event.Reopen xid) fits e = none_new (message.Item label i) w refl false e
+    block_new label i event.Close fits e = none_new (message.Item label i) w refl false e
+    block_new label i (event.Cut xid subxid) fits e = none_new (message.Item label i) w refl false e
+    block_new label i (event.Drop xid) fits e = none_new (message.Item label i) w refl false e
+    block_new label i (event.CommitPair xid lsn end) fits e = none_new (message.Item label i) w refl false e
+    block_new label i (event.CommitStream xid lsn end) fits e = none_new (message.Item label i) w refl false e
+
+    item_new : (label : Option ℕ) (i : Item) (ev : Event) (block : Bool)
+        → ((xid subxid : ℕ) → ev ≡ event.Hold xid subxid → block ≡ true → IsPart subxid (message.Item label i))
+        → cond block (block_noted w n i ev) (item_noted w n i) ≡ Ok u → AreNoted u.streams (came_with (message.Item label i) ∷ seen)
+    item_new label i ev true fits e = block_new label i ev (λ xid subxid is. fits xid subxid is refl) e
+    item_new label i ev false fits e = stays_noted (message.Item label i) w.streams u.streams (item_leaves w u n i e).streams noted
+
+    without_noted : (m : Message) (xid : ℕ) → without_xid xid w.streams ≡ u.streams → AreNoted u.streams (came_with m ∷ seen)
+    without_noted m xid same =
+        stays_noted m (without_xid xid w.streams) u.streams same (without_all (IsNoted seen) xid w.streams noted)
+
+    abort_new : (x l : ℕ) (ev : Event) → ((xid subxid : ℕ) → ev ≡ event.Cut xid subxid → l ≡ subxid) → aborted w n ev ≡ Ok u
+        → AreNoted u.streams (came_with (message.StreamAbort x l) ∷ seen)
+    abort_new x l (event.Cut xid label) fits e =
+        one_new (message.StreamAbort x l) (record { xid = xid; subxid = label; at = n; what = what.Abort }) (refl, fits xid label refl) refl
+        (is_full w) e
+    abort_new x l (event.Drop xid) fits e =
+        let it : closed w xid ≡ u = cc in without_noted (message.StreamAbort x l) xid (ap (λ (w : Watch). w.streams) it)
+    abort_new x l event.Ignore fits e = none_new (message.StreamAbort x l) w refl false e
+    abort_new x l (event.Begin xid) fits e = none_new (message.StreamAbort x l) w refl false e
+    abort_new x l (event.Hold top label) fits e = none_new (message.StreamAbort x l) w refl false e
+    abort_new x l (event.Open xid) fits e = none_new (message.StreamAbort x l) w refl false e
+    abort_new x l (event.Reopen xid) fits e = none_new (message.StreamAbort x l) w refl false e
+    abort_new x l event.Close fits e = none_new (message.StreamAbort x l) w refl false e
+    abort_new x l (event.CommitPair xid lsn end) fits e = none_new (message.StreamAbort x l) w refl false e
+    abort_new x l (event.CommitStream xid lsn end) fits e = none_new (message.StreamAbort x l) w refl false e
+
+    new_noted : (m : Message) (ev : Event) → EventFits w.order.state.context m ev → meant w n m ev ≡ Ok u
+        → AreNoted u.streams (came_with m ∷ seen)
+    new_noted (message.Begin lsn time xid) ev fits e =
+        none_new (message.Begin lsn time xid) (record w { facts = begun w.facts }) refl false e
+    new_noted (message.Commit lsn end time) ev fits e =
+        stays_noted (message.Commit lsn end time) w.streams u.streams (commit_leaves w u (commit_judged w.facts n lsn end) e).streams noted
+    new_noted (message.Origin lsn name) ev fits e = none_new (message.Origin lsn name) w refl false e
+    new_noted (message.TypeName xid oid namespace name) ev fits e = none_new (message.TypeName xid oid namespace name) w refl false e
+    new_noted (message.Logical xid transactional lsn prefix content) ev fits e =
+        none_new (message.Logical xid transactional lsn prefix content) w refl false e
+    new_noted (message.Item label i) ev fits e =
+        item_new label i ev (is_in_block w.order.state.context) fits e
+    new_noted (message.StreamStart xid true) ev fits e =
+        none_new (message.StreamStart xid true) (record w { held = w.held + 1 }) refl (is_full w) e
+    new_noted (message.StreamStart xid false) ev fits e = none_new (message.StreamStart xid false) w refl false e
+    new_noted message.StreamStop ev fits e = none_new message.StreamStop w refl false e
+    new_noted (message.StreamCommit xid lsn end time) ev fits e =
+        without_noted (message.StreamCommit xid lsn end time) xid
+        (judged_leaves (closed w xid) u n lsn end (nest (at_end xid) (of_xid xid w.streams)) e).streams
+    new_noted (message.StreamAbort xid label) ev fits e = abort_new xid label ev fits e
+
+event_fits : (v : Version) (c : Context) (o : OpenXids) (m : Message) (step : OrderState × Event)
+    → order_step v (record { context = c; open_xids = o }) m ≡ Ok step → EventFits step.0.context m step.1
+event_fits v c o (message.Item label i) step is = item_fits o step c label i is
+event_fits v Outside o (message.StreamAbort xid label) step is = abort_fits o step xid label v (is_open xid o) (eqb xid label) is
+event_fits v (InPair l x) o (message.StreamAbort xid label) step is = λ x subxid e. never v is
+  where
+    never : {A : Type 0} (u : Version) → in_version_2 u (Err fault.AbortMisplaced) ≡ Ok step → A
+    never One e = absurd (cc)
+    never Two e = absurd (cc)
+event_fits v (InBlock x) o (message.StreamAbort xid label) step is = λ x subxid e. never v is
+  where
+    never : {A : Type 0} (u : Version) → in_version_2 u (Err fault.AbortMisplaced) ≡ Ok step → A
+    never One e = absurd (cc)
+    never Two e = absurd (cc)
+event_fits v c o (message.Begin lsn time xid) step is = tt
+event_fits v c o (message.Commit lsn end time) step is = tt
+event_fits v c o (message.Origin lsn name) step is = tt
+event_fits v c o (message.TypeName xid oid namespace name) step is = tt
+event_fits v c o (message.Logical xid transactional lsn prefix content) step is = tt
+event_fits v c o (message.StreamStart xid first) step is = tt
+event_fits v c o message.StreamStop step is = tt
+event_fits v c o (message.StreamCommit xid lsn end time) step is = tt
+
+goes_in_order : (n s e : ℕ) (clock : ℤ) (seen : List Framed) (w u : Watch) (m : Message) (r : StepResult)
+    → order_step w.order.version w.order.state m ≡ r → KnowsAll w seen
+    → by_order w n m r ≡ Ok u → KnowsAll u (record { at = n; sent = Data s e clock m } ∷ seen)
+goes_in_order n s e clock seen w u m (Err fault) is k h = absurd (cc)
+goes_in_order n s e clock seen w u m (Ok step) is k h =
+    let v : Watch = record w { order = record { version = w.order.version; state = step.0 } } in
+    let fits = event_fits w.order.version w.order.state.context w.order.state.open_xids m step is in
+    (goes n s e clock seen v u k.0 m step.1 k.1 h, new_noted n s e clock seen v u k.1 m step.1 fits h)
 
 breaks_in_order : (n s e : ℕ) (clock : ℤ) (seen : List Framed) (w : Watch) (b : Breach) (m : Message) (r : StepResult)
-    → KnowsCauses w.facts seen → by_order w n m r ≡ Err b → IsCaused b seen n
+    → KnowsAll w seen → by_order w n m r ≡ Err b → IsCaused b seen n
 breaks_in_order n s e clock seen w b m (Err fault) k h = subst (λ b. IsCaused b seen n) (ap (watch_breach b) h) refl
 breaks_in_order n s e clock seen w b m (Ok step) k h =
-    breaks n s e clock seen (record w { order = record { version = w.order.version; state = step.0 } }) b k m step.1 h
+    breaks n s e clock seen (record w { order = record { version = w.order.version; state = step.0 } }) b k.0 m step.1 k.1 h
 
 keepalive_known : (f : Facts) (n end : ℕ) (clock : ℤ) (reply : Bool) (seen : List Framed) → KnowsCauses f seen → (later : Bool)
     → (let told : Facts = record f { told = end; told_at = n } in
@@ -354,25 +826,30 @@ onto [] seen = seen
 onto (f ∷ fs) seen = onto fs (f ∷ seen)
 
 one_known : (n : ℕ) (s : Sent) (seen : List Framed) (w : Watch) (r : Result Watch Breach) → hear w (heard_of n s) ≡ r
-    → KnowsCauses w.facts seen → (u : Watch) → r ≡ Ok u → KnowsCauses u.facts (record { at = n; sent = s } ∷ seen)
+    → KnowsAll w seen → (u : Watch) → r ≡ Ok u → KnowsAll u (record { at = n; sent = s } ∷ seen)
 one_known n (Data s e clock m) seen w r is k u same =
-    goes_in_order n s e clock seen w u m (order_step w.order.version w.order.state m) k (is ∙ same)
+    goes_in_order n s e clock seen w u m (order_step w.order.version w.order.state m) refl k (is ∙ same)
 one_known n (Keepalive end clock reply) seen w r is k u same =
-    subst (λ (g : Facts). KnowsCauses g (record { at = n; sent = Keepalive end clock reply } ∷ seen))
-    (ap (watch_facts w.facts) (is ∙ same)) (keepalive_known w.facts n end clock reply seen k (nat_lt w.facts.told end))
+    let e : done (record w { facts = keepalive_noted w.facts n end }) ≡ Ok u = is ∙ same in
+    let it : record w { facts = keepalive_noted w.facts n end } ≡ u = cc in
+    let f : Framed = record { at = n; sent = Keepalive end clock reply } in
+    subst (λ (v : Watch). KnowsAll v (f ∷ seen)) it (
+      keepalive_known w.facts n end clock reply seen k.0 (nat_lt w.facts.told end),
+      all_weaker (IsNoted seen) (IsNoted (f ∷ seen)) (λ x came. inr came) w.streams k.1,
+    )
 
-all_known : (fs : List Framed) (w u : Watch) (seen : List Framed) → KnowsCauses w.facts seen → hear_all w fs ≡ Ok u
-    → KnowsCauses u.facts (onto fs seen)
-all_known [] w u seen k e = subst (λ (g : Facts). KnowsCauses g seen) (ap (watch_facts w.facts) e) k
+all_known : (fs : List Framed) (w u : Watch) (seen : List Framed) → KnowsAll w seen → hear_all w fs ≡ Ok u
+    → KnowsAll u (onto fs seen)
+all_known [] w u seen k e = subst (λ (v : Watch). KnowsAll v seen) (let it : w ≡ u = cc in it) k
 all_known (f ∷ fs) w u seen k e = go (hear w (heard_of f.at f.sent)) refl e (λ v known. all_known fs v u (f ∷ seen) known)
   where
     go : (r : Result Watch Breach) → hear w (heard_of f.at f.sent) ≡ r → then_hear r (λ new. hear_all new fs) ≡ Ok u
-        → ((v : Watch) → KnowsCauses v.facts (f ∷ seen) → hear_all v fs ≡ Ok u → KnowsCauses u.facts (onto fs (f ∷ seen)))
-        → KnowsCauses u.facts (onto fs (f ∷ seen))
+        → ((v : Watch) → KnowsAll v (f ∷ seen) → hear_all v fs ≡ Ok u → KnowsAll u (onto fs (f ∷ seen)))
+        → KnowsAll u (onto fs (f ∷ seen))
     go (Err b) is e rest = absurd (cc)
     go (Ok v) is e rest = rest v (one_known f.at f.sent seen w (Ok v) is k v refl) e
 
-one_caused : (n : ℕ) (s : Sent) (seen : List Framed) (w : Watch) (b : Breach) → KnowsCauses w.facts seen
+one_caused : (n : ℕ) (s : Sent) (seen : List Framed) (w : Watch) (b : Breach) → KnowsAll w seen
     → hear w (heard_of n s) ≡ Err b → IsCaused b seen n
 one_caused n (Data s e clock m) seen w b k h = breaks_in_order n s e clock seen w b m (order_step w.order.version w.order.state m) k h
 one_caused n (Keepalive end clock reply) seen w b k h = absurd (cc)
@@ -397,11 +874,11 @@ forwards (breach.BelowStart at end start) before n h = h
 forwards (breach.Undescribed at cause oid) before n h = (h.0, came cause (IsChangeOf oid) before h.1)
 forwards (breach.BelowKeepalive at end cause told) before n h = (h.0, h.1, came cause (IsKeepaliveAt told) before h.2)
 forwards (breach.Full at) before n h = h
-forwards (breach.Streamed at) before n h = h
+forwards (breach.Unnested at cause subxid) before n h = (h.0, came cause (IsPartSent subxid) before h.1)
 forwards (breach.Memory at) before n h = h
 
 pub breaches_are_caused : BreachesAreCaused
 breaches_are_caused v start limit before next w b heard broken =
     forwards b before next.at
     (one_caused next.at next.sent (onto before []) w b
-    (all_known before (at_start v start limit) w [] (record { last = inl refl; told = inl refl; missing = tt }) heard) broken)
+    (all_known before (at_start v start limit) w [] (record { last = inl refl; told = inl refl; missing = tt }, tt) heard) broken)

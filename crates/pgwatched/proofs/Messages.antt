@@ -1,7 +1,7 @@
 -- One message more.
 use Rattle.std.proofs.Common.{◌≡◌, ◌⊎◌, inl, inr, ℕ, ℤ, List, [], ◌∷◌, Bool, true, false, cond}
-use Rattle.std.proofs.Common.{◌==◌, Option, Some, None, Result, Ok, Err, refl, sym, ap, subst, ◌∙◌}
-use Rattle.std.specs.Prelude.{◌+◌, nat_le}
+use Rattle.std.proofs.Common.{◌==◌, Option, Result, Ok, Err, refl, sym, ap, subst, ◌∙◌}
+use Rattle.std.specs.Prelude.{◌+◌, ◌++◌, unwrap_or}
 use Rattle.pglogical.specs.Named.{named}
 use Rattle.pglogical.specs.declared.message.RelationDef.{RelationDef}
 use Rattle.pglogical.specs.declared.message.Item.{Item}
@@ -19,20 +19,27 @@ use Rattle.pgorder.specs.States.{is_in_block}
 use Rattle.pgorder.specs.Steps.{Context, Outside, InPair, InBlock, OrderState, StepResult}
 use Rattle.pgorder.specs.Steps.{order_step, in_version_2, step_stream_start}
 use Rattle.pgsub_core.specs.Server.Described.{relations_after, relation_of, described}
-use Rattle.pgsub_core.specs.Server.Stream.{pair_items, pair_commit, WholeCommit}
-use Rattle.pgsub_core.specs.Server.Stream.{StreamedCommit, commits_of, streamed_since_first_segment}
+use Rattle.pgsub_core.specs.Server.Stream.{pair_items, pair_commit, WholeCommit, commits_of}
+use Rattle.pgsub_core.specs.Server.Work.{surviving_changes, AllDiffer}
 use Rattle.pgwatch.specs.Known.{OidSet, is_known, with_known}
 use Rattle.pgwatch.specs.declared.fault.Breach.{Breach}
 use Rattle.pgwatch.specs.declared.fault.Breach.TheVariants as breach
 use Rattle.pgwatch.specs.declared.facts.Facts.{Facts}
 use Rattle.pgwatch.specs.declared.watch.Watch.{Watch}
+use Rattle.pgwatch.specs.declared.noted.Noted.{Noted}
+use Rattle.pgwatch.specs.declared.noted.What.{What}
+use Rattle.pgwatch.specs.declared.noted.What.TheVariants as what
 use Rattle.pgwatch.specs.Hearing.{by_order, meant, with_facts, commit_judged, item_noted}
-use Rattle.pgwatch.specs.Hearing.{changed_by, closed, misplaced, stream_judged}
+use Rattle.pgwatch.specs.Hearing.{changed_by, closed, is_full, what_of, block_noted, aborted}
+use Rattle.pgwatch.specs.Hearing.{stream_judged}
 use Rattle.pgwatched.specs.Watched.{IsOfRule}
 use Rattle.pgwatched.proofs.Describing.{Knows, any-none, knows_more, knows_again, pair_change}
 use Rattle.pgwatched.proofs.Describing.{pair_relation, relations-push}
-use Rattle.pgwatched.proofs.Steps.{IsAt, IsStep, IsRefusal, missing_none, good}
-use Rattle.pgwatched.proofs.Steps.{bad, away}
+use Rattle.pgwatched.proofs.Steps.{IsAt, IsStep, IsRefusal, missing_none, good, bad}
+use Rattle.pgwatched.proofs.Steps.{refused_for}
+use Rattle.pgwatched.proofs.Works.{work_of}
+use Rattle.pgwatched.proofs.Kept.{IsKept}
+use Rattle.pgwatched.proofs.Streaming.{stream_commit, stream_refused}
 
 abbrev done : Watch → Result Watch Breach
 done w = Ok w
@@ -45,17 +52,22 @@ abbrev of_err : Breach → Result Watch Breach → Breach
 of_err b (Ok x) = b
 of_err b (Err e) = e
 
+abbrev state_in : OrderState → StepResult → OrderState
+state_in old (Ok step) = step.0
+state_in old (Err e) = old
+
 abbrev state_at : Context → OpenXids → OrderState
 state_at c o = record { context = c; open_xids = o }
 
-module _ (v : Version) (known : OidSet) (limit held : ℕ) (f : Facts) (ended : Option Breach) (n : ℕ) (before : List Message)
-    (earlier : List RelationDef) where
+module _ (v : Version) (known : OidSet) (limit held : ℕ) (streams : List Noted) (f : Facts) (ended : Option Breach) (n : ℕ)
+    (before : List Message) (earlier : List RelationDef) where
   abbrev watch_at : OrderState → Watch
   watch_at s = record {
     order = record { version = v; state = s };
     known = known;
     limit = limit;
     held = held;
+    streams = streams;
     facts = f;
     ended = ended;
   }
@@ -77,11 +89,6 @@ module _ (v : Version) (known : OidSet) (limit held : ℕ) (f : Facts) (ended : 
               (subst (λ g. IsAt u.order.state.context known g (m ∷ before) earlier) (sym same_facts) goes);
         }))
 
-    never : (m : Message) (r : StepResult) → ((u : Watch) (event : Event) → meant u n m event ≡ Ok w → ⊥) → (u : Watch)
-        → by_order u n m r ≡ Ok w → IsStep f w before earlier m
-    never m (Ok step) ends u e = absurd (ends _ _ e)
-    never m (Err fault) ends u e = absurd (cc)
-
     no_fault : (m : Message) (s : OrderState) (fault : OrderFault) (u : Version)
         → by_order (watch_at s) n m (in_version_2 u (Err fault)) ≡ Ok w → IsStep f w before earlier m
     no_fault m s fault One e = absurd (cc)
@@ -101,16 +108,28 @@ module _ (v : Version) (known : OidSet) (limit held : ℕ) (f : Facts) (ended : 
         → IsStep f w before earlier (message.Commit lsn end time)
     judged lsn end time l x o place (Err b) is e = absurd (cc)
     judged lsn end time l x o place (Ok g) is e =
+        let items = pair_items before in
         let ok = good f n lsn end g is in
-        let pair = missing_none f.missing f.changes (described earlier (pair_items before)) ok.described place.2 in
+        let pair = missing_none f.missing f.changes (described earlier items) ok.described place.2 in
+        let made = work_of earlier items pair.0 pair.1 in
         subst (λ (w : Watch). IsStep f w before earlier (message.Commit lsn end time)) (ap (of_ok w) e)
         (inr (record {
+          completed = WholeCommit x lsn end items;
           xid = x;
           lsn = lsn;
           end = end;
+          items = items;
           changes = pair.0;
-          one = ap (λ p. pair_commit p lsn end (pair_items before)) place.0;
+          one = ap (λ p. pair_commit p lsn end items) place.0;
           described = pair.1;
+          some = (
+            made.work,
+            made.is,
+            subst (λ xs. AllDiffer (x ∷ xs)) (sym made.plain) (refl, tt),
+            made.makes,
+            (refl, refl, refl, refl),
+          );
+          only = λ t surviving differ h. (h.1, h.2, h.3);
           behind = ok.behind;
           ends = ok.ends;
           after = ok.after;
@@ -188,7 +207,7 @@ module _ (v : Version) (known : OidSet) (limit held : ℕ) (f : Facts) (ended : 
     item_comes : (l x : ℕ) (o : OpenXids) (label : Option ℕ) (i : Item) → IsAt (InPair l x) known f before earlier
         → item_noted (watch_at (state_at (InPair l x) o)) n i ≡ Ok w → IsStep f w before earlier (message.Item label i)
     item_comes l x o label (item.Relation def) place e =
-        relation_comes l x o label def place (is_known def.oid known) (nat_le limit held) refl e
+        relation_comes l x o label def place (is_known def.oid known) (is_full (watch_at (state_at (InPair l x) o))) refl e
     item_comes l x o label (item.Insert oid row) place e = changed l x o label (item.Insert oid row) place refl e
     item_comes l x o label (item.Update oid prior row) place e = changed l x o label (item.Update oid prior row) place refl e
     item_comes l x o label (item.Delete oid kind row) place e = changed l x o label (item.Delete oid kind row) place refl e
@@ -216,7 +235,8 @@ module _ (v : Version) (known : OidSet) (limit held : ℕ) (f : Facts) (ended : 
             (cond b (Err fault.FirstFlagOnOpen) (Ok (state_at (InBlock xid) (with_open xid o), event.Open xid))) ≡ Ok w
             → IsStep f w before earlier (message.StreamStart xid true)
         go true e = absurd (cc)
-        go false e = opens xid o place (state_at (InBlock xid) (with_open xid o)) refl (nat_le limit held) e
+        go false e = opens xid o place (state_at (InBlock xid) (with_open xid o)) refl
+            (is_full (watch_at (state_at (InBlock xid) (with_open xid o)))) e
     starts xid o place Two false there e is =
         go there (subst (λ b. by_order (watch_at (state_at Outside o)) n (message.StreamStart xid false)
         (cond b (Ok (state_at (InBlock xid) o, event.Reopen xid)) (Err fault.LaterFlagOnUnknown)) ≡ Ok w) is e)
@@ -226,6 +246,30 @@ module _ (v : Version) (known : OidSet) (limit held : ℕ) (f : Facts) (ended : 
             → IsStep f w before earlier (message.StreamStart xid false)
         go true e = alike (message.StreamStart xid false) (watch_at (state_at (InBlock xid) o)) refl refl refl place e
         go false e = absurd (cc)
+
+    -- an item or an abort is kept
+    noted : (m : Message) (c : Context) (o : OpenXids) (xid subxid : ℕ) (h : What) → commits_of before m ≡ []
+        → IsAt c known f (m ∷ before) earlier → (full : Bool)
+        → cond full (Err (breach.Full n))
+        (Ok (record (watch_at (state_at c o)) { streams = streams ++ record { xid = xid; subxid = subxid; at = n; what = h } ∷ [] })) ≡ Ok w
+        → IsStep f w before earlier m
+    noted m c o xid subxid h none place true e = absurd (cc)
+    noted m c o xid subxid h none place false e =
+        alike m (record (watch_at (state_at c o)) { streams = streams ++ record { xid = xid; subxid = subxid; at = n; what = h } ∷ [] })
+        refl refl none place e
+
+    -- a streamed transaction commits
+    stream_commits : (xid lsn end : ℕ) (time : ℤ) (o : OpenXids) → IsAt Outside known f before earlier → IsKept Outside o streams before
+        → (u : Version) (there : Bool) → is_open xid o ≡ there
+        → by_order (watch_at (state_at Outside o)) n (message.StreamCommit xid lsn end time)
+        (in_version_2 u (cond there (Ok (state_at Outside (without xid o), event.CommitStream xid lsn end)) (Err fault.CommitOfUnknown)))
+        ≡ Ok w
+        → IsStep f w before earlier (message.StreamCommit xid lsn end time)
+    stream_commits xid lsn end time o place kept One there is e = absurd (cc)
+    stream_commits xid lsn end time o place kept Two false is e = absurd (cc)
+    stream_commits xid lsn end time o place kept Two true is e =
+        inr (stream_commit n before earlier (watch_at (state_at Outside (without xid o))) xid lsn end time refl place.0 place.1
+        (kept.keeps.of_open xid is) w e)
 
     stops : (x : ℕ) (o : OpenXids) → IsAt (InBlock x) known f before earlier → (u : Version)
         → by_order (watch_at (state_at (InBlock x) o)) n message.StreamStop (in_version_2 u (Ok (state_at Outside o, event.Close))) ≡ Ok w
@@ -241,54 +285,59 @@ module _ (v : Version) (known : OidSet) (limit held : ℕ) (f : Facts) (ended : 
         → IsStep f w before earlier (message.StreamAbort xid label)
     aborts xid label o place One there same e = absurd (cc)
     aborts xid label o place Two true true e =
-        alike (message.StreamAbort xid label) (closed (watch_at (state_at Outside (without xid o))) (event.Drop xid)) refl refl refl place e
-    aborts xid label o place Two true false e = alike (message.StreamAbort xid label) (watch_at (state_at Outside o)) refl refl refl place e
+        alike (message.StreamAbort xid label) (closed (watch_at (state_at Outside (without xid o))) xid) refl refl refl place e
+    aborts xid label o place Two true false e =
+        noted (message.StreamAbort xid label) Outside o xid label what.Abort refl place (is_full (watch_at (state_at Outside o))) e
     aborts xid label o place Two false same e = alike (message.StreamAbort xid label) (watch_at (state_at Outside o)) refl refl refl place e
 
-    pub step : (c : Context) (o : OpenXids) (m : Message) → IsAt c known f before earlier
+    pub step : (c : Context) (o : OpenXids) (m : Message) → IsAt c known f before earlier → IsKept c o streams before
         → by_order (watch_at (state_at c o)) n m (order_step v (state_at c o) m) ≡ Ok w → IsStep f w before earlier m
-    step Outside o (message.Begin lsn time xid) place e = begins lsn time xid o place (is_open xid o) e
-    step Outside o (message.Commit lsn end time) place e = absurd (cc)
-    step Outside o (message.Origin lsn name) place e = absurd (cc)
-    step Outside o (message.TypeName xid oid namespace name) place e = absurd (cc)
-    step Outside o (message.Logical xid transactional lsn prefix content) place e =
+    step Outside o (message.Begin lsn time xid) place kept e = begins lsn time xid o place (is_open xid o) e
+    step Outside o (message.Commit lsn end time) place kept e = absurd (cc)
+    step Outside o (message.Origin lsn name) place kept e = absurd (cc)
+    step Outside o (message.TypeName xid oid namespace name) place kept e = absurd (cc)
+    step Outside o (message.Logical xid transactional lsn prefix content) place kept e =
         alike (message.Logical xid transactional lsn prefix content) (watch_at (state_at Outside o)) refl refl refl place e
-    step Outside o (message.Item label i) place e = absurd (cc)
-    step Outside o (message.StreamStart xid first) place e = starts xid o place v first (is_open xid o) e refl
-    step Outside o message.StreamStop place e = no_fault message.StreamStop (state_at Outside o) fault.StopWithoutStart v e
-    step Outside o (message.StreamAbort xid label) place e = aborts xid label o place v (is_open xid o) (xid == label) e
-    step (InPair l x) o (message.Begin lsn time xid) place e = absurd (cc)
-    step (InPair l x) o (message.Commit lsn end time) place e = commits lsn end time l x o place (lsn == l) e
-    step (InPair l x) o (message.Origin lsn name) place e =
+    step Outside o (message.Item label i) place kept e = absurd (cc)
+    step Outside o (message.StreamStart xid first) place kept e = starts xid o place v first (is_open xid o) e refl
+    step Outside o message.StreamStop place kept e = no_fault message.StreamStop (state_at Outside o) fault.StopWithoutStart v e
+    step Outside o (message.StreamCommit xid lsn end time) place kept e =
+        stream_commits xid lsn end time o place kept v (is_open xid o) refl e
+    step Outside o (message.StreamAbort xid label) place kept e = aborts xid label o place v (is_open xid o) (xid == label) e
+    step (InPair l x) o (message.Begin lsn time xid) place kept e = absurd (cc)
+    step (InPair l x) o (message.Commit lsn end time) place kept e = commits lsn end time l x o place (lsn == l) e
+    step (InPair l x) o (message.Origin lsn name) place kept e =
         alike (message.Origin lsn name) (watch_at (state_at (InPair l x) o)) refl refl refl place e
-    step (InPair l x) o (message.TypeName xid oid namespace name) place e =
+    step (InPair l x) o (message.TypeName xid oid namespace name) place kept e =
         alike (message.TypeName xid oid namespace name) (watch_at (state_at (InPair l x) o)) refl refl refl place e
-    step (InPair l x) o (message.Logical xid transactional lsn prefix content) place e =
+    step (InPair l x) o (message.Logical xid transactional lsn prefix content) place kept e =
         alike (message.Logical xid transactional lsn prefix content) (watch_at (state_at (InPair l x) o)) refl refl refl place e
-    step (InPair l x) o (message.Item label i) place e = item_comes l x o label i place e
-    step (InPair l x) o (message.StreamStart xid first) place e =
+    step (InPair l x) o (message.Item label i) place kept e = item_comes l x o label i place e
+    step (InPair l x) o (message.StreamStart xid first) place kept e =
         no_fault (message.StreamStart xid first) (state_at (InPair l x) o) fault.NestedStart v e
-    step (InPair l x) o message.StreamStop place e = no_fault message.StreamStop (state_at (InPair l x) o) fault.StopWithoutStart v e
-    step (InPair l x) o (message.StreamAbort xid label) place e =
+    step (InPair l x) o message.StreamStop place kept e = no_fault message.StreamStop (state_at (InPair l x) o) fault.StopWithoutStart v e
+    step (InPair l x) o (message.StreamCommit xid lsn end time) place kept e =
+        no_fault (message.StreamCommit xid lsn end time) (state_at (InPair l x) o) fault.CommitMisplaced v e
+    step (InPair l x) o (message.StreamAbort xid label) place kept e =
         no_fault (message.StreamAbort xid label) (state_at (InPair l x) o) fault.AbortMisplaced v e
-    step (InBlock x) o (message.Begin lsn time xid) place e = absurd (cc)
-    step (InBlock x) o (message.Commit lsn end time) place e = absurd (cc)
-    step (InBlock x) o (message.Origin lsn name) place e =
+    step (InBlock x) o (message.Begin lsn time xid) place kept e = absurd (cc)
+    step (InBlock x) o (message.Commit lsn end time) place kept e = absurd (cc)
+    step (InBlock x) o (message.Origin lsn name) place kept e =
         alike (message.Origin lsn name) (watch_at (state_at (InBlock x) o)) refl refl refl place e
-    step (InBlock x) o (message.TypeName xid oid namespace name) place e =
+    step (InBlock x) o (message.TypeName xid oid namespace name) place kept e =
         alike (message.TypeName xid oid namespace name) (watch_at (state_at (InBlock x) o)) refl refl refl place e
-    step (InBlock x) o (message.Logical xid transactional lsn prefix content) place e =
+    step (InBlock x) o (message.Logical xid transactional lsn prefix content) place kept e =
         alike (message.Logical xid transactional lsn prefix content) (watch_at (state_at (InBlock x) o)) refl refl refl place e
-    step (InBlock x) o (message.Item label i) place e =
-        alike (message.Item label i) (watch_at (state_at (InBlock x) o)) refl refl refl place e
-    step (InBlock x) o (message.StreamStart xid first) place e =
+    step (InBlock x) o (message.Item label i) place kept e =
+        noted (message.Item label i) (InBlock x) o x (unwrap_or label x) (what_of i) refl place
+        (is_full (watch_at (state_at (InBlock x) o))) e
+    step (InBlock x) o (message.StreamStart xid first) place kept e =
         no_fault (message.StreamStart xid first) (state_at (InBlock x) o) fault.NestedStart v e
-    step (InBlock x) o message.StreamStop place e = stops x o place v e
-    step (InBlock x) o (message.StreamAbort xid label) place e =
+    step (InBlock x) o message.StreamStop place kept e = stops x o place v e
+    step (InBlock x) o (message.StreamCommit xid lsn end time) place kept e =
+        no_fault (message.StreamCommit xid lsn end time) (state_at (InBlock x) o) fault.CommitMisplaced v e
+    step (InBlock x) o (message.StreamAbort xid label) place kept e =
         no_fault (message.StreamAbort xid label) (state_at (InBlock x) o) fault.AbortMisplaced v e
-    step c o (message.StreamCommit xid lsn end time) place e =
-        never (message.StreamCommit xid lsn end time) (order_step v (state_at c o) (message.StreamCommit xid lsn end time))
-        (λ u event ends. cc) (watch_at (state_at c o)) e
 
   -- ---- a message that breaks a rule
 
@@ -300,17 +349,11 @@ module _ (v : Version) (known : OidSet) (limit held : ℕ) (f : Facts) (ended : 
     refused_commit lsn end time l x place s (Err why) is e = record {
       completed = WholeCommit x lsn end (pair_items before);
       one = ap (λ p. pair_commit p lsn end (pair_items before)) place.0;
-      why = bad f n lsn end why (described earlier (pair_items before)) place.2 is;
+      none = λ t surviving differ h behind ends after above made.
+          refused_for f lsn end t.lsn t.end (described earlier (pair_items before)) (surviving_changes t.work) h.1 h.2 behind ends after
+          above (ap (described earlier) (sym h.3) ∙ made)
+          (bad f n lsn end why (described earlier (pair_items before)) place.2 is);
     }
-
-    refused_stream : (xid lsn end : ℕ) (time : ℤ) (o : Option Breach) → misplaced f n lsn end ≡ o → stream_judged n o ≡ b → IsOfRule b
-        → IsRefusal f before earlier (message.StreamCommit xid lsn end time)
-    refused_stream xid lsn end time (Some why) is e rule = record {
-      completed = StreamedCommit xid lsn end (streamed_since_first_segment xid before);
-      one = refl;
-      why = away f n lsn end why is;
-    }
-    refused_stream xid lsn end time None is e rule = absurd (subst IsOfRule (sym e) rule)
 
     refused_relation : (s : OrderState) (def : RelationDef) (there full : Bool)
         → cond there (Ok (watch_at s)) (cond full (Err (breach.Full n))
@@ -321,16 +364,61 @@ module _ (v : Version) (known : OidSet) (limit held : ℕ) (f : Facts) (ended : 
     refused_relation s def false false e rule = absurd (cc)
 
     refused_item : (s : OrderState) (i : Item) → item_noted (watch_at s) n i ≡ Err b → IsOfRule b → ⊥
-    refused_item s (item.Relation def) e rule = refused_relation s def (is_known def.oid known) (nat_le limit held) e rule
+    refused_item s (item.Relation def) e rule = refused_relation s def (is_known def.oid known) (is_full (watch_at s)) e rule
     refused_item s (item.Insert oid row) e rule = absurd (cc)
     refused_item s (item.Update oid prior row) e rule = absurd (cc)
     refused_item s (item.Delete oid kind row) e rule = absurd (cc)
     refused_item s (item.Truncate options oids) e rule = absurd (cc)
 
-    refused_or_block : (s : OrderState) (i : Item) (block : Bool) → cond block (Ok (watch_at s)) (item_noted (watch_at s) n i) ≡ Err b
+    refused_note : (s : OrderState) (xid subxid : ℕ) (h : What) (full : Bool)
+        → cond full (Err (breach.Full n))
+        (Ok (record (watch_at s) { streams = streams ++ record { xid = xid; subxid = subxid; at = n; what = h } ∷ [] })) ≡ Err b
         → IsOfRule b → ⊥
-    refused_or_block s i true e rule = absurd (cc)
-    refused_or_block s i false e rule = refused_item s i e rule
+    refused_note s xid subxid h true e rule = subst IsOfRule (sym (ap (of_err b) e)) rule
+    refused_note s xid subxid h false e rule = absurd (cc)
+
+    refused_block : (s : OrderState) (i : Item) (event : Event) → block_noted (watch_at s) n i event ≡ Err b → IsOfRule b → ⊥
+    refused_block s i (event.Hold xid subxid) e rule = refused_note s xid subxid (what_of i) (is_full (watch_at s)) e rule
+    refused_block s i event.Ignore e rule = absurd (cc)
+    refused_block s i (event.Begin xid) e rule = absurd (cc)
+    refused_block s i (event.Open xid) e rule = absurd (cc)
+    refused_block s i (event.Reopen xid) e rule = absurd (cc)
+    refused_block s i event.Close e rule = absurd (cc)
+    refused_block s i (event.Cut xid label) e rule = absurd (cc)
+    refused_block s i (event.Drop xid) e rule = absurd (cc)
+    refused_block s i (event.CommitPair xid lsn end) e rule = absurd (cc)
+    refused_block s i (event.CommitStream xid lsn end) e rule = absurd (cc)
+
+    refused_abort : (s : OrderState) (event : Event) → aborted (watch_at s) n event ≡ Err b → IsOfRule b → ⊥
+    refused_abort s (event.Cut xid label) e rule = refused_note s xid label what.Abort (is_full (watch_at s)) e rule
+    refused_abort s event.Ignore e rule = absurd (cc)
+    refused_abort s (event.Begin xid) e rule = absurd (cc)
+    refused_abort s (event.Hold top label) e rule = absurd (cc)
+    refused_abort s (event.Open xid) e rule = absurd (cc)
+    refused_abort s (event.Reopen xid) e rule = absurd (cc)
+    refused_abort s event.Close e rule = absurd (cc)
+    refused_abort s (event.Drop xid) e rule = absurd (cc)
+    refused_abort s (event.CommitPair xid lsn end) e rule = absurd (cc)
+    refused_abort s (event.CommitStream xid lsn end) e rule = absurd (cc)
+
+    refused_or_block : (s : OrderState) (i : Item) (event : Event) (block : Bool)
+        → cond block (block_noted (watch_at s) n i event) (item_noted (watch_at s) n i) ≡ Err b
+        → IsOfRule b → ⊥
+    refused_or_block s i event true e rule = refused_block s i event e rule
+    refused_or_block s i event false e rule = refused_item s i e rule
+
+    refused_stream : (xid lsn end : ℕ) (time : ℤ) (o : OpenXids) → IsAt Outside known f before earlier → IsKept Outside o streams before
+        → (u : Version) (there : Bool) → is_open xid o ≡ there → (s : OrderState) (what_it_is : Event)
+        → in_version_2 u (cond there (Ok (state_at Outside (without xid o), event.CommitStream xid lsn end)) (Err fault.CommitOfUnknown))
+        ≡ Ok (s, what_it_is)
+        → stream_judged (watch_at s) n xid lsn end ≡ Err b → IsOfRule b
+        → IsRefusal f before earlier (message.StreamCommit xid lsn end time)
+    refused_stream xid lsn end time o place kept One there is s means stepped e rule = absurd (cc)
+    refused_stream xid lsn end time o place kept Two false is s means stepped e rule = absurd (cc)
+    refused_stream xid lsn end time o place kept Two true is s means stepped e rule =
+        let same : state_at Outside (without xid o) ≡ s = ap (state_in s) stepped in
+        stream_refused n before earlier (watch_at s) xid lsn end time (sym (ap (λ (s : OrderState). s.context) same)) place.0 place.1
+        (kept.keeps.of_open xid is) b rule e
 
     refused_start : (s : OrderState) (full : Bool)
         → cond full (Err (breach.Full n)) (Ok (record (watch_at s) { held = held + 1 })) ≡ Err b → IsOfRule b → ⊥
@@ -338,33 +426,47 @@ module _ (v : Version) (known : OidSet) (limit held : ℕ) (f : Facts) (ended : 
     refused_start s false e rule = absurd (cc)
 
     -- one that comes in order
-    in_order : (c : Context) (o : OpenXids) (m : Message) → IsAt c known f before earlier → (s : OrderState) (event : Event)
+    in_order : (c : Context) (o : OpenXids) (m : Message) → IsAt c known f before earlier → IsKept c o streams before
+        → (s : OrderState) (event : Event)
         → order_step v (state_at c o) m ≡ Ok (s, event) → meant (watch_at s) n m event ≡ Err b → IsOfRule b
         → IsRefusal f before earlier m
-    in_order Outside o (message.Commit lsn end time) place s event step e rule = absurd (cc)
-    in_order (InBlock x) o (message.Commit lsn end time) place s event step e rule = absurd (cc)
-    in_order (InPair l x) o (message.Commit lsn end time) place s event step e rule =
+    in_order Outside o (message.Commit lsn end time) place kept s event step e rule = absurd (cc)
+    in_order (InBlock x) o (message.Commit lsn end time) place kept s event step e rule = absurd (cc)
+    in_order (InPair l x) o (message.Commit lsn end time) place kept s event step e rule =
         refused_commit lsn end time l x place s (commit_judged f n lsn end) refl e
-    in_order c o (message.Begin lsn time xid) place s event step e rule = absurd (cc)
-    in_order c o (message.Origin lsn name) place s event step e rule = absurd (cc)
-    in_order c o (message.TypeName xid oid namespace name) place s event step e rule = absurd (cc)
-    in_order c o (message.Logical xid transactional lsn prefix content) place s event step e rule = absurd (cc)
-    in_order c o (message.Item label i) place s event step e rule = absurd (refused_or_block s i (is_in_block s.context) e rule)
-    in_order c o (message.StreamStart xid true) place s event step e rule = absurd (refused_start s (nat_le limit held) e rule)
-    in_order c o (message.StreamStart xid false) place s event step e rule = absurd (cc)
-    in_order c o message.StreamStop place s event step e rule = absurd (cc)
-    in_order c o (message.StreamCommit xid lsn end time) place s event step e rule =
-        refused_stream xid lsn end time (misplaced f n lsn end) refl (ap (of_err b) e) rule
-    in_order c o (message.StreamAbort xid label) place s event step e rule = absurd (cc)
+    in_order c o (message.Begin lsn time xid) place kept s event step e rule = absurd (cc)
+    in_order c o (message.Origin lsn name) place kept s event step e rule = absurd (cc)
+    in_order c o (message.TypeName xid oid namespace name) place kept s event step e rule = absurd (cc)
+    in_order c o (message.Logical xid transactional lsn prefix content) place kept s event step e rule = absurd (cc)
+    in_order c o (message.Item label i) place kept s event step e rule =
+        absurd (refused_or_block s i event (is_in_block s.context) e rule)
+    in_order c o (message.StreamStart xid true) place kept s event step e rule = absurd (refused_start s (is_full (watch_at s)) e rule)
+    in_order c o (message.StreamStart xid false) place kept s event step e rule = absurd (cc)
+    in_order c o message.StreamStop place kept s event step e rule = absurd (cc)
+    in_order Outside o (message.StreamCommit xid lsn end time) place kept s event step e rule =
+        refused_stream xid lsn end time o place kept v (is_open xid o) refl s event step e rule
+    in_order (InPair l x) o (message.StreamCommit xid lsn end time) place kept s event step e rule =
+        absurd (misplaced v step)
+      where
+        misplaced : (u : Version) → in_version_2 u (Err fault.CommitMisplaced) ≡ Ok (s, event) → ⊥
+        misplaced One e = cc
+        misplaced Two e = cc
+    in_order (InBlock x) o (message.StreamCommit xid lsn end time) place kept s event step e rule =
+        absurd (misplaced v step)
+      where
+        misplaced : (u : Version) → in_version_2 u (Err fault.CommitMisplaced) ≡ Ok (s, event) → ⊥
+        misplaced One e = cc
+        misplaced Two e = cc
+    in_order c o (message.StreamAbort xid label) place kept s event step e rule = absurd (refused_abort s event e rule)
 
-    by_step : (c : Context) (o : OpenXids) (m : Message) → IsAt c known f before earlier → (r : StepResult)
+    by_step : (c : Context) (o : OpenXids) (m : Message) → IsAt c known f before earlier → IsKept c o streams before → (r : StepResult)
         → order_step v (state_at c o) m ≡ r → by_order (watch_at (state_at c o)) n m r ≡ Err b → IsOfRule b
         → ((fault : OrderFault) × (order_step v (state_at c o) m ≡ Err fault)) ⊎ IsRefusal f before earlier m
-    by_step c o m place (Err fault) is e rule = inl (fault, is)
-    by_step c o m place (Ok step) is e rule = inr (in_order c o m place step.0 step.1 is e rule)
+    by_step c o m place kept (Err fault) is e rule = inl (fault, is)
+    by_step c o m place kept (Ok step) is e rule = inr (in_order c o m place kept step.0 step.1 is e rule)
 
     -- it comes out of order, or is a commit that is refused
-    pub refusal : (c : Context) (o : OpenXids) (m : Message) → IsAt c known f before earlier
+    pub refusal : (c : Context) (o : OpenXids) (m : Message) → IsAt c known f before earlier → IsKept c o streams before
         → by_order (watch_at (state_at c o)) n m (order_step v (state_at c o) m) ≡ Err b → IsOfRule b
         → ((fault : OrderFault) × (order_step v (state_at c o) m ≡ Err fault)) ⊎ IsRefusal f before earlier m
-    refusal c o m place e rule = by_step c o m place (order_step v (state_at c o) m) refl e rule
+    refusal c o m place kept e rule = by_step c o m place kept (order_step v (state_at c o) m) refl e rule

@@ -1,10 +1,8 @@
 -- What a watch hears well comes in order.
 use Rattle.std.proofs.Common.{◌≡◌, ℕ, List, [], ◌∷◌, ◌++◌, Bool, true, false, cond}
 use Rattle.std.proofs.Common.{Result, Ok, Err, refl, sym, ap, subst, ◌∙◌}
-use Rattle.std.specs.Prelude.{◌+◌, nat_le}
-use Rattle.pglogical.specs.declared.message.RelationDef.{RelationDef}
+use Rattle.std.specs.Prelude.{◌+◌, ◌++◌}
 use Rattle.pglogical.specs.declared.message.Item.{Item}
-use Rattle.pglogical.specs.declared.message.Item.TheVariants as item
 use Rattle.pglogical.specs.declared.message.Message.{Message}
 use Rattle.pglogical.specs.declared.message.Message.TheVariants as message
 use Rattle.pgorder.specs.declared.Version.{Version}
@@ -13,13 +11,15 @@ use Rattle.pgorder.specs.declared.Event.TheVariants as event
 use Rattle.pgorder.specs.declared.fault.OrderFault.{OrderFault}
 use Rattle.pgorder.specs.States.{StreamOrder, is_in_block}
 use Rattle.pgorder.specs.Steps.{OrderState, StepResult, order_step, order_run, then_order}
-use Rattle.pgwatch.specs.Known.{is_known, with_known}
 use Rattle.pgwatch.specs.declared.fault.Breach.{Breach}
 use Rattle.pgwatch.specs.declared.fault.Breach.TheVariants as breach
 use Rattle.pgwatch.specs.declared.facts.Facts.{Facts}
 use Rattle.pgwatch.specs.declared.watch.Watch.{Watch}
 use Rattle.pgwatch.specs.Hearing.{hear, by_order, meant, with_facts, commit_judged, item_noted}
-use Rattle.pgwatch.specs.Hearing.{closed}
+use Rattle.pgwatch.specs.Hearing.{closed, is_full, what_of, block_noted, aborted}
+use Rattle.pgwatch.specs.Nesting.{at_end, nest, of_xid}
+use Rattle.pgwatch.specs.declared.noted.What.TheVariants as what
+use Rattle.pgwatched.proofs.Kept.{item_leaves, judged_leaves}
 use Rattle.pgwatch.specs.Hearing as hearing
 use Rattle.pgsub_core.specs.Server.Stream.{Sent, Data, Keepalive, messages_in}
 use Rattle.pgwatched.specs.Watched.{Framed, heard_of, sent_of, then_hear, hear_all}
@@ -34,40 +34,42 @@ with_facts_keeps : (w u : Watch) (r : Result Facts Breach) → with_facts w r �
 with_facts_keeps w u (Ok facts) e = ap (order_of w.order) e
 with_facts_keeps w u (Err b) e = absurd (cc)
 
-relation_keeps : (w u : Watch) (n : ℕ) (def : RelationDef) (there full : Bool)
-    → cond there (Ok w) (cond full (Err (breach.Full n)) (Ok (record w { known = with_known def.oid w.known; held = w.held + 1 }))) ≡ Ok u
-    → w.order ≡ u.order
-relation_keeps w u n def true full e = ap (order_of w.order) e
-relation_keeps w u n def false true e = absurd (cc)
-relation_keeps w u n def false false e = ap (order_of w.order) e
+noted_keeps : (w u v : Watch) (n : ℕ) (full : Bool) → w.order ≡ v.order → cond full (Err (breach.Full n)) (Ok v) ≡ Ok u → w.order ≡ u.order
+noted_keeps w u v n true same e = absurd (cc)
+noted_keeps w u v n false same e = same ∙ ap (order_of v.order) e
 
-item_keeps : (w u : Watch) (n : ℕ) (i : Item) → item_noted w n i ≡ Ok u → w.order ≡ u.order
-item_keeps w u n (item.Relation def) e = relation_keeps w u n def (is_known def.oid w.known) (nat_le w.limit w.held) e
-item_keeps w u n (item.Insert oid row) e = ap (order_of w.order) e
-item_keeps w u n (item.Update oid prior row) e = ap (order_of w.order) e
-item_keeps w u n (item.Delete oid kind row) e = ap (order_of w.order) e
-item_keeps w u n (item.Truncate options oids) e = ap (order_of w.order) e
+block_keeps : (w u : Watch) (n : ℕ) (i : Item) (event : Event) → block_noted w n i event ≡ Ok u → w.order ≡ u.order
+block_keeps w u n i (event.Hold xid subxid) e =
+    noted_keeps w u (record w { streams = w.streams ++ record { xid = xid; subxid = subxid; at = n; what = what_of i } ∷ [] }) n (is_full w)
+    refl e
+block_keeps w u n i event.Ignore e = ap (order_of w.order) e
+block_keeps w u n i (event.Begin xid) e = ap (order_of w.order) e
+block_keeps w u n i (event.Open xid) e = ap (order_of w.order) e
+block_keeps w u n i (event.Reopen xid) e = ap (order_of w.order) e
+block_keeps w u n i event.Close e = ap (order_of w.order) e
+block_keeps w u n i (event.Cut xid label) e = ap (order_of w.order) e
+block_keeps w u n i (event.Drop xid) e = ap (order_of w.order) e
+block_keeps w u n i (event.CommitPair xid lsn end) e = ap (order_of w.order) e
+block_keeps w u n i (event.CommitStream xid lsn end) e = ap (order_of w.order) e
 
-or_block_keeps : (w u : Watch) (n : ℕ) (i : Item) (block : Bool) → cond block (Ok w) (item_noted w n i) ≡ Ok u → w.order ≡ u.order
-or_block_keeps w u n i true e = ap (order_of w.order) e
-or_block_keeps w u n i false e = item_keeps w u n i e
+or_block_keeps : (w u : Watch) (n : ℕ) (i : Item) (event : Event) (block : Bool)
+    → cond block (block_noted w n i event) (item_noted w n i) ≡ Ok u → w.order ≡ u.order
+or_block_keeps w u n i event true e = block_keeps w u n i event e
+or_block_keeps w u n i event false e = (item_leaves w u n i e).order
 
-opened_keeps : (w u : Watch) (n : ℕ) (full : Bool) → cond full (Err (breach.Full n)) (Ok (record w { held = w.held + 1 })) ≡ Ok u
-    → w.order ≡ u.order
-opened_keeps w u n true e = absurd (cc)
-opened_keeps w u n false e = ap (order_of w.order) e
-
-closed_keeps : (w : Watch) (event : Event) → w.order ≡ (closed w event).order
-closed_keeps w event.Ignore = refl
-closed_keeps w (event.Begin xid) = refl
-closed_keeps w (event.Hold top label) = refl
-closed_keeps w (event.Open xid) = refl
-closed_keeps w (event.Reopen xid) = refl
-closed_keeps w event.Close = refl
-closed_keeps w (event.Cut xid label) = refl
-closed_keeps w (event.Drop xid) = refl
-closed_keeps w (event.CommitPair xid lsn end) = refl
-closed_keeps w (event.CommitStream xid lsn end) = refl
+abort_keeps : (w u : Watch) (n : ℕ) (event : Event) → aborted w n event ≡ Ok u → w.order ≡ u.order
+abort_keeps w u n (event.Cut xid label) e =
+    noted_keeps w u (record w { streams = w.streams ++ record { xid = xid; subxid = label; at = n; what = what.Abort } ∷ [] }) n (is_full w)
+    refl e
+abort_keeps w u n event.Ignore e = ap (order_of w.order) e
+abort_keeps w u n (event.Begin xid) e = ap (order_of w.order) e
+abort_keeps w u n (event.Hold top label) e = ap (order_of w.order) e
+abort_keeps w u n (event.Open xid) e = ap (order_of w.order) e
+abort_keeps w u n (event.Reopen xid) e = ap (order_of w.order) e
+abort_keeps w u n event.Close e = ap (order_of w.order) e
+abort_keeps w u n (event.Drop xid) e = ap (order_of w.order) e
+abort_keeps w u n (event.CommitPair xid lsn end) e = ap (order_of w.order) e
+abort_keeps w u n (event.CommitStream xid lsn end) e = ap (order_of w.order) e
 
 meant_keeps : (w u : Watch) (n : ℕ) (m : Message) (event : Event) → meant w n m event ≡ Ok u → w.order ≡ u.order
 meant_keeps w u n (message.Begin lsn time xid) event e = ap (order_of w.order) e
@@ -75,12 +77,13 @@ meant_keeps w u n (message.Commit lsn end time) event e = with_facts_keeps w u (
 meant_keeps w u n (message.Origin lsn name) event e = ap (order_of w.order) e
 meant_keeps w u n (message.TypeName xid oid namespace name) event e = ap (order_of w.order) e
 meant_keeps w u n (message.Logical xid transactional lsn prefix content) event e = ap (order_of w.order) e
-meant_keeps w u n (message.Item label i) event e = or_block_keeps w u n i (is_in_block w.order.state.context) e
-meant_keeps w u n (message.StreamStart xid true) event e = opened_keeps w u n (nat_le w.limit w.held) e
+meant_keeps w u n (message.Item label i) event e = or_block_keeps w u n i event (is_in_block w.order.state.context) e
+meant_keeps w u n (message.StreamStart xid true) event e = noted_keeps w u (record w { held = w.held + 1 }) n (is_full w) refl e
 meant_keeps w u n (message.StreamStart xid false) event e = ap (order_of w.order) e
 meant_keeps w u n message.StreamStop event e = ap (order_of w.order) e
-meant_keeps w u n (message.StreamCommit xid lsn end time) event e = absurd (cc)
-meant_keeps w u n (message.StreamAbort xid label) event e = closed_keeps w event ∙ ap (order_of w.order) e
+meant_keeps w u n (message.StreamCommit xid lsn end time) event e =
+    (judged_leaves (closed w xid) u n lsn end (nest (at_end xid) (of_xid xid w.streams)) e).order
+meant_keeps w u n (message.StreamAbort xid label) event e = abort_keeps w u n event e
 
 -- ---- one message after the other
 

@@ -6,21 +6,18 @@ use Rattle.std.specs.List.{AllByRecursion}
 use Rattle.std.specs.Prelude.{is_ok}
 use Rattle.std.proofs.lemmas.Bool.Decides.{nat_tests}
 use Rattle.pglogical.specs.declared.message.RelationDef.{RelationDef}
-use Rattle.pglogical.specs.declared.message.Item.{Item}
 use Rattle.pglogical.specs.declared.message.Message.{Message}
 use Rattle.pgorder.specs.declared.Version.{Version}
 use Rattle.pgorder.specs.declared.fault.OrderFault.{OrderFault}
 use Rattle.pgorder.specs.Steps.{initial_order, order_step}
 use Rattle.pgorder.specs.Shape.{IsShaped}
 use Rattle.pgorder.proofs.ShapeLaws.{shape_is_what_is_taken}
-use Rattle.pgapply.specs.Apply.{Change}
-use Rattle.pgsub_core.specs.Server.Work.{surviving_changes}
-use Rattle.pgsub_core.specs.Server.Described.{relations_after, described}
+use Rattle.pgsub_core.specs.Server.Work.{xids_of, AllDiffer}
+use Rattle.pgsub_core.specs.Server.Described.{relations_after}
 use Rattle.pgsub_core.specs.Server.History.{Transaction, IsHistoryFrom, IsHistory, ChangesRows}
 use Rattle.pgsub_core.specs.Server.History.{ended_by, ended_after}
-use Rattle.pgsub_core.specs.Server.Stream.{Sent, Data, Keepalive, messages_in, pair_items}
-use Rattle.pgsub_core.specs.Server.Stream.{commits_and_keepalives, Completed, Committed}
-use Rattle.pgsub_core.specs.Server.Stream.{WholeCommit, StreamedCommit}
+use Rattle.pgsub_core.specs.Server.Stream.{Sent, Data, Keepalive, messages_in}
+use Rattle.pgsub_core.specs.Server.Stream.{commits_and_keepalives, Committed}
 use Rattle.pgsub_core.specs.Server.Delivers.{Delivers, CommitsFollow}
 use Rattle.pgsub_core.proofs.Changes.{split-at}
 use Rattle.pgsub_core.proofs.Fronts.{delivers_front}
@@ -31,23 +28,24 @@ use Rattle.pgwatch.specs.Hearing.{hear, at_start, keepalive_noted}
 use Rattle.pgwatch.specs.Hearing as hearing
 use Rattle.pgwatched.specs.Watched.{Framed, heard_of, sent_of, then_hear, hear_all, IsOfRule}
 use Rattle.pgwatched.specs.Laws.{BrokenIsNotSent}
-use Rattle.pgwatched.proofs.Describing.{knows_none}
-use Rattle.pgwatched.proofs.Steps.{WatchIsAt, IsQuiet, IsCommit, IsMisplaced, IsWhy, IsWhyOf}
+use Rattle.pgwatched.proofs.Steps.{IsQuiet, IsCommit, IsRefusal}
+use Rattle.pgwatched.proofs.Kept.{WatchKeeps}
 use Rattle.pgwatched.proofs.Messages.{step, refusal}
 use Rattle.pgwatched.proofs.Orders.{runs, pushed, messages-append}
-use Rattle.pgwatched.proofs.Sent.{EndAfter, ChangesEndAfter, told, same_place}
+use Rattle.pgwatched.proofs.Sent.{EndAfter, ChangesEndAfter, told, same_place, Stands, one_kept}
+use Rattle.pgwatched.proofs.Sent.{stands_at_start}
 
 -- ---- a transaction of a history
 
 in_place : (from : ℕ) (xs : List Transaction) (t : Transaction) (later : List Transaction) → IsHistoryFrom from (xs ++ t ∷ later)
-    → (from ≤ t.lsn) × (t.lsn < t.end) × IsHistoryFrom t.end later
-in_place from [] t later h = (h.0, h.1, h.4)
+    → (from ≤ t.lsn) × (t.lsn < t.end) × AllDiffer (t.xid ∷ xids_of t.work) × IsHistoryFrom t.end later
+in_place from [] t later h = (h.0, h.1, h.3, h.4)
 in_place from (x ∷ xs) t later h =
     let rest = in_place x.end xs t later h.4 in
     let first : from ≤ x.lsn = h.0 in
     let ends : x.lsn < x.end = h.1 in
     let next : x.end ≤ t.lsn = rest.0 in
-    (omega arith, rest.1, rest.2)
+    (omega arith, rest.1, rest.2, rest.3)
 
 all_at : (P : Transaction → Type 0) (xs : List Transaction) (t : Transaction) (later : List Transaction)
     → AllByRecursion P (xs ++ t ∷ later) → P t × AllByRecursion P later
@@ -82,43 +80,14 @@ both_told f g end (t ∷ ts) least a b = ((λ changes. least t.end (a.0 changes)
 -- ---- a commit that is refused
 
 module _ (f : Facts) (earlier : List RelationDef) (remaining : List Transaction) where
-  away_from : (lsn end l e : ℕ) → lsn ≡ l → end ≡ e → f.last_end ≤ l → l < e → f.start < e → IsMisplaced f lsn end → ⊥
-  away_from lsn end l e same_lsn same_end place ends after (inl below) = omega arith
-  away_from lsn end l e same_lsn same_end place ends after (inr (inl empty)) = omega arith
-  away_from lsn end l e same_lsn same_end place ends after (inr (inr early)) = omega arith
-
-  whole_refused : (lsn end l e : ℕ) (items : List Item) (changes : List Change) → lsn ≡ l → end ≡ e → f.last_end ≤ l → l < e → f.start < e
-      → ((changes ≡ [] → ⊥) → f.told < e) → described earlier items ≡ Ok changes → IsWhy f lsn end (described earlier items) → ⊥
-  whole_refused lsn end l e items changes same_lsn same_end place ends after tells made (inl away) =
-      away_from lsn end l e same_lsn same_end place ends after away
-  whole_refused lsn end l e items changes same_lsn same_end place ends after tells made (inr (inl missing)) =
-      never changes missing.0 (described earlier items) made missing.1
-    where
-      never : (a : List Change) (oid : ℕ) (r : Result (List Change) ℕ) → r ≡ Ok a → r ≡ Err oid → ⊥
-      never a oid r x y = cc
-  whole_refused lsn end l e items changes same_lsn same_end place ends after tells made (inr (inr kept)) =
-      let both : kept.0 ≡ changes = same_changes kept.0 changes (described earlier items) kept.1 made in
-      let lt : f.told < e = tells (λ none. kept.2 (both ∙ none)) in
-      let le : end ≤ f.told = kept.3 in
-      omega arith
-    where
-      same_changes : (a b : List Change) (r : Result (List Change) ℕ) → r ≡ Ok a → r ≡ Ok b → a ≡ b
-      same_changes a b r x y = cc
-
-  commit_refused : (completed : Completed) → IsWhyOf f earlier completed → IsHistoryFrom f.last_end remaining
-      → EndAfter f.start remaining → ChangesEndAfter f.told remaining → CommitsFollow earlier remaining (Committed completed ∷ []) → ⊥
-  commit_refused (WholeCommit xid lsn end items) why history after above h =
+  commit_refused : (m : Message) (before : List Message) (r : IsRefusal f before earlier m) → IsHistoryFrom f.last_end remaining
+      → EndAfter f.start remaining → ChangesEndAfter f.told remaining → CommitsFollow earlier remaining (Committed r.completed ∷ []) → ⊥
+  commit_refused m before r history after above h =
       let t = h.1 in
       let is = in_place f.last_end h.0 t h.2 (subst (IsHistoryFrom f.last_end) h.4 history) in
       let ends = (all_at (λ (t : Transaction). f.start < t.end) h.0 t h.2 (subst (EndAfter f.start) h.4 after)).0 in
       let tells = (all_at (λ (t : Transaction). ChangesRows t → f.told < t.end) h.0 t h.2 (subst (ChangesEndAfter f.told) h.4 above)).0 in
-      let made : described earlier items ≡ Ok (surviving_changes t.work) = ap (described earlier) (sym h.6.3) ∙ h.7 in
-      whole_refused lsn end t.lsn t.end items (surviving_changes t.work) h.6.1 h.6.2 is.0 is.1 ends tells made why
-  commit_refused (StreamedCommit xid lsn end streamed) why history after above h =
-      let t = h.1 in
-      let is = in_place f.last_end h.0 t h.2 (subst (IsHistoryFrom f.last_end) h.4 history) in
-      let ends = (all_at (λ (t : Transaction). f.start < t.end) h.0 t h.2 (subst (EndAfter f.start) h.4 after)).0 in
-      away_from lsn end t.lsn t.end h.6.1 h.6.2 is.0 is.1 ends why
+      r.none t h.3 is.2 h.6 is.0 is.1 ends tells h.7
 
 -- ---- one message after the other
 
@@ -132,72 +101,77 @@ module _ (u : Watch) (n : ℕ) (m : Message) (b : Breach) (start end : ℕ) (clo
       (remaining : List Transaction) → IsHistoryFrom f.last_end remaining → EndAfter f.start remaining → ChangesEndAfter f.told remaining
       → CommitsFollow earlier remaining (commits_and_keepalives before (sent ++ next)) → ⊥
 
-  last_refused : (w : Watch) (before : List Message) (earlier : List RelationDef) → WatchIsAt w before earlier
+  last_refused : (w : Watch) (before : List Message) (earlier : List RelationDef) → Stands w before earlier
       → hear w (hearing.Message n m) ≡ Err b → IsOfRule b
       → ((fault : OrderFault) → order_step w.order.version w.order.state m ≡ Err fault → ⊥) → HasNone w.facts before earlier []
   last_refused w before earlier place broken rule ordered remaining history after above follow =
-      elim (refusal w.order.version w.known w.limit w.held w.facts w.ended n before earlier b w.order.state.context
-      w.order.state.open_xids m place
-      broken rule) [
+      elim (refusal w.order.version w.known w.limit w.held w.streams w.facts w.ended n before earlier b w.order.state.context
+      w.order.state.open_xids m place.place place.kept broken rule) [
         | inl fault ↦ ordered fault.0 fault.1
-        | inr r ↦ commit_refused w.facts earlier remaining r.completed r.why history after above
+        | inr r ↦ commit_refused w.facts earlier remaining m before r history after above
             (subst (λ ms. CommitsFollow earlier remaining (ms ++ [])) r.one follow)
       ]
 
   module _ (fs : List Framed)
-      (rest : (w : Watch) (before : List Message) (earlier : List RelationDef) → WatchIsAt w before earlier → hear_all w fs ≡ Ok u
+      (rest : (w : Watch) (before : List Message) (earlier : List RelationDef) → Stands w before earlier → hear_all w fs ≡ Ok u
       → HasNone w.facts before earlier (sent_of fs)) (w : Watch) (before : List Message) (earlier : List RelationDef) (k : ℕ) where
-    keepalive_refused : (e : ℕ) (c : ℤ) (reply : Bool) → WatchIsAt w before earlier
+    keepalive_refused : (e : ℕ) (c : ℤ) (reply : Bool) → Stands w before earlier
         → hear_all (record w { facts = keepalive_noted w.facts k e }) fs ≡ Ok u
         → HasNone w.facts before earlier (Keepalive e c reply ∷ sent_of fs)
     keepalive_refused e c reply place heard remaining history after above follow =
         let g = keepalive_noted w.facts k e in
         let t = told w.facts k e in
         rest (record w { facts = g }) before earlier
-        (same_place w.order.state.context w.known w.facts g before earlier t.missing t.changes place) heard remaining
+        (record {
+          place = same_place w.order.state.context w.known w.facts g before earlier t.missing t.changes place.place;
+          kept = place.kept;
+        }) heard remaining
         (subst (λ from. IsHistoryFrom from remaining) (sym t.last) history) (subst (λ p. EndAfter p remaining) (sym t.start) after)
         (both_told w.facts.told g.told e remaining t.least above follow.0) follow.1
 
-    quiet_refused : (s e : ℕ) (c : ℤ) (x : Message) (v : Watch) → IsQuiet w.facts v before earlier x → hear_all v fs ≡ Ok u
-        → HasNone w.facts before earlier (Data s e c x ∷ sent_of fs)
-    quiet_refused s e c x v quiet heard remaining history after above follow =
-        rest v (x ∷ before) earlier quiet.goes heard remaining (subst (λ from. IsHistoryFrom from remaining) (sym quiet.last) history)
+    quiet_refused : (s e : ℕ) (c : ℤ) (x : Message) (v : Watch) → IsQuiet w.facts v before earlier x → WatchKeeps v (x ∷ before)
+        → hear_all v fs ≡ Ok u → HasNone w.facts before earlier (Data s e c x ∷ sent_of fs)
+    quiet_refused s e c x v quiet kept heard remaining history after above follow =
+        rest v (x ∷ before) earlier (record { place = quiet.goes; kept = kept }) heard remaining
+        (subst (λ from. IsHistoryFrom from remaining) (sym quiet.last) history)
         (subst (λ p. EndAfter p remaining) (sym quiet.start) after) (subst (λ p. ChangesEndAfter p remaining) (sym quiet.told) above)
         (subst (λ ms. CommitsFollow earlier remaining (ms ++ commits_and_keepalives (x ∷ before) (sent_of fs ++ next))) quiet.none follow)
 
-    commit_goes : (s e : ℕ) (c : ℤ) (x : Message) (v : Watch) → IsCommit w.facts v before earlier x → hear_all v fs ≡ Ok u
-        → HasNone w.facts before earlier (Data s e c x ∷ sent_of fs)
-    commit_goes s e c x v commit heard remaining history after above follow =
+    commit_goes : (s e : ℕ) (c : ℤ) (x : Message) (v : Watch) → IsCommit w.facts v before earlier x → WatchKeeps v (x ∷ before)
+        → hear_all v fs ≡ Ok u → HasNone w.facts before earlier (Data s e c x ∷ sent_of fs)
+    commit_goes s e c x v commit kept heard remaining history after above follow =
         let rows = commits_and_keepalives (x ∷ before) (sent_of fs ++ next) in
         let h = subst (λ ms. CommitsFollow earlier remaining (ms ++ rows)) commit.one follow in
         let is = in_place w.facts.last_end h.0 h.1 h.2 (subst (IsHistoryFrom w.facts.last_end) h.4 history) in
         let ends = all_at (λ (t : Transaction). w.facts.start < t.end) h.0 h.1 h.2 (subst (EndAfter w.facts.start) h.4 after) in
         let tells = all_at (λ (t : Transaction). ChangesRows t → w.facts.told < t.end) h.0 h.1 h.2
         (subst (ChangesEndAfter w.facts.told) h.4 above) in
-        rest v (x ∷ before) (relations_after earlier (pair_items before)) commit.goes heard h.2
-        (subst (λ from. IsHistoryFrom from h.2) (sym h.6.2 ∙ sym commit.last) is.2)
+        let its = commit.only h.1 h.3 is.2 h.6 in
+        rest v (x ∷ before) (relations_after earlier commit.items) (record { place = commit.goes; kept = kept }) heard h.2
+        (subst (λ from. IsHistoryFrom from h.2) (sym its.1 ∙ sym commit.last) is.3)
         (subst (λ p. EndAfter p h.2) (sym commit.start) ends.1) (subst (λ p. ChangesEndAfter p h.2) (sym commit.told) tells.1)
-        (subst (λ items. CommitsFollow (relations_after earlier items) h.2 rows) h.6.3 h.8)
+        (subst (λ items. CommitsFollow (relations_after earlier items) h.2 rows) its.2 h.8)
 
     message_goes : (s e : ℕ) (c : ℤ) (x : Message) (r : Result Watch Breach) → hear w (hearing.Message k x) ≡ r
-        → WatchIsAt w before earlier → then_hear r (λ new. hear_all new fs) ≡ Ok u
+        → Stands w before earlier → then_hear r (λ new. hear_all new fs) ≡ Ok u
         → HasNone w.facts before earlier (Data s e c x ∷ sent_of fs)
     message_goes s e c x (Err why) is place heard = absurd (cc)
     message_goes s e c x (Ok v) is place heard =
-        elim (step w.order.version w.known w.limit w.held w.facts w.ended k before earlier v w.order.state.context w.order.state.open_xids x
-        place is) [
-          | inl quiet ↦ quiet_refused s e c x v quiet heard
-          | inr commit ↦ commit_goes s e c x v commit heard
+        let kept = one_kept w v k before x place.kept is in
+        elim (step w.order.version w.known w.limit w.held w.streams w.facts w.ended k before earlier v w.order.state.context
+        w.order.state.open_xids x place.place place.kept is) [
+          | inl quiet ↦ quiet_refused s e c x v quiet kept heard
+          | inr commit ↦ commit_goes s e c x v commit kept heard
         ]
 
-    one_goes : (s : Sent) → WatchIsAt w before earlier → then_hear (hear w (heard_of k s)) (λ new. hear_all new fs) ≡ Ok u
+    one_goes : (s : Sent) → Stands w before earlier → then_hear (hear w (heard_of k s)) (λ new. hear_all new fs) ≡ Ok u
         → HasNone w.facts before earlier (s ∷ sent_of fs)
     one_goes (Data s e c x) place heard = message_goes s e c x (hear w (hearing.Message k x)) refl place heard
     one_goes (Keepalive e c reply) place heard = keepalive_refused e c reply place heard
 
   has_none : hear u (hearing.Message n m) ≡ Err b → IsOfRule b
       → ((fault : OrderFault) → order_step u.order.version u.order.state m ≡ Err fault → ⊥) → (fs : List Framed) (w : Watch)
-      (before : List Message) (earlier : List RelationDef) → WatchIsAt w before earlier → hear_all w fs ≡ Ok u
+      (before : List Message) (earlier : List RelationDef) → Stands w before earlier → hear_all w fs ≡ Ok u
       → HasNone w.facts before earlier (sent_of fs)
   has_none broken rule ordered [] w before earlier place heard =
       let same : w ≡ u = cc in
@@ -232,7 +206,7 @@ module _ (v : Version) (start limit : ℕ) (before : List Framed) (w : Watch) (b
       let remaining = ended_after start history in
       let after = all_after start history in
       has_none w n m b s e c broken rule (λ fault is. disordered m fault heard shaped is) before (at_start v start limit) [] []
-      (refl, knows_none) heard remaining
+      (stands_at_start v start limit) heard remaining
       (behind 0 (ended_by start history) remaining (subst IsHistory (sym (split-at 0 start history is)) is)) after
       (none_told start remaining after) h.commits
 

@@ -7,9 +7,10 @@ use Rattle.std.specs.Prelude.{is_ok}
 use Rattle.std.proofs.lemmas.Bool.Decides.{nat_tests}
 use Rattle.pglogical.specs.declared.message.RelationDef.{RelationDef}
 use Rattle.pglogical.specs.declared.message.Message.{Message}
+use Rattle.pgorder.specs.declared.Version.{Version}
+use Rattle.pgorder.specs.OpenXids.{is_open, none_open, is_open-none_open}
 use Rattle.pgorder.specs.Steps.{Context, Outside, InPair, InBlock}
 use Rattle.pgorder.proofs.ShapeLaws.{shape_is_what_is_taken}
-use Rattle.pgsub_core.specs.Server.Work.{AllDiffer}
 use Rattle.pgsub_core.specs.Server.Described.{relations_after, described}
 use Rattle.pgsub_core.specs.Server.History.{Transaction, IsHistoryFrom, ChangesRows, ended_after}
 use Rattle.pgsub_core.specs.Server.Stream.{Sent, Data, Keepalive, messages_in, pair_items}
@@ -24,8 +25,8 @@ use Rattle.pgwatch.specs.Hearing as hearing
 use Rattle.pgwatched.specs.Watched.{Framed, heard_of, sent_of, then_hear, hear_all}
 use Rattle.pgwatched.specs.Laws.{WellMayBeSent}
 use Rattle.pgwatched.proofs.Describing.{IsPair, knows_none}
-use Rattle.pgwatched.proofs.Works.{work_of}
 use Rattle.pgwatched.proofs.Steps.{IsAt, WatchIsAt, IsQuiet, IsCommit}
+use Rattle.pgwatched.proofs.Kept.{WatchKeeps, kept}
 use Rattle.pgwatched.proofs.Messages.{step}
 use Rattle.pgwatched.proofs.Orders.{runs}
 
@@ -87,6 +88,16 @@ fewer : (p q : ℕ) (ts : List Transaction) → p ≤ q → ChangesEndAfter q ts
 fewer p q [] le h = tt
 fewer p q (t ∷ ts) le h = ((λ changes. let lt : q < t.end = h.0 changes in omega arith), fewer p q ts le h.1)
 
+-- what is known, and what is kept of streamed transactions
+pub record Stands (w : Watch) (before : List Message) (earlier : List RelationDef) : Type 0 where
+  pub place : WatchIsAt w before earlier
+  pub kept : WatchKeeps w before
+
+-- one message more
+pub one_kept : (w v : Watch) (n : ℕ) (before : List Message) (m : Message) → WatchKeeps w before → hear w (hearing.Message n m) ≡ Ok v
+    → WatchKeeps v (m ∷ before)
+one_kept w v n before m k e = kept w.order.version n before v w w.order.state.context w.order.state.open_xids m k e
+
 -- the transactions that may follow what is known
 pub record IsSentAt (f : Facts) (before : List Message) (earlier : List RelationDef) (sent : List Sent) : Type 0 where
   pub ts : List Transaction
@@ -96,16 +107,19 @@ pub record IsSentAt (f : Facts) (before : List Message) (earlier : List Relation
   pub follow : CommitsFollow earlier ts (commits_and_keepalives before sent)
 
 module _ (fs : List Framed) (u : Watch)
-    (rest : (w : Watch) (before : List Message) (earlier : List RelationDef) → WatchIsAt w before earlier → hear_all w fs ≡ Ok u
+    (rest : (w : Watch) (before : List Message) (earlier : List RelationDef) → Stands w before earlier → hear_all w fs ≡ Ok u
     → IsSentAt w.facts before earlier (sent_of fs)) (w : Watch) (before : List Message) (earlier : List RelationDef) (n : ℕ) where
-  keepalive_sent : (end : ℕ) (clock : ℤ) (reply : Bool) → WatchIsAt w before earlier
+  keepalive_sent : (end : ℕ) (clock : ℤ) (reply : Bool) → Stands w before earlier
       → hear_all (record w { facts = keepalive_noted w.facts n end }) fs ≡ Ok u
       → IsSentAt w.facts before earlier (Keepalive end clock reply ∷ sent_of fs)
   keepalive_sent end clock reply place e =
       let g = keepalive_noted w.facts n end in
       let t = told w.facts n end in
       let s = rest (record w { facts = g }) before earlier
-      (same_place w.order.state.context w.known w.facts g before earlier t.missing t.changes place) e in
+      (record {
+        place = same_place w.order.state.context w.known w.facts g before earlier t.missing t.changes place.place;
+        kept = place.kept;
+      }) e in
       record {
         ts = s.ts;
         history = subst (λ from. IsHistoryFrom from s.ts) t.last s.history;
@@ -114,10 +128,10 @@ module _ (fs : List Framed) (u : Watch)
         follow = (fewer end g.told s.ts t.enough s.above, s.follow);
       }
 
-  quiet_sent : (start end : ℕ) (clock : ℤ) (m : Message) (v : Watch) → IsQuiet w.facts v before earlier m → hear_all v fs ≡ Ok u
-      → IsSentAt w.facts before earlier (Data start end clock m ∷ sent_of fs)
-  quiet_sent start end clock m v quiet e =
-      let s = rest v (m ∷ before) earlier quiet.goes e in
+  quiet_sent : (start end : ℕ) (clock : ℤ) (m : Message) (v : Watch) → IsQuiet w.facts v before earlier m → WatchKeeps v (m ∷ before)
+      → hear_all v fs ≡ Ok u → IsSentAt w.facts before earlier (Data start end clock m ∷ sent_of fs)
+  quiet_sent start end clock m v quiet kept e =
+      let s = rest v (m ∷ before) earlier (record { place = quiet.goes; kept = kept }) e in
       record {
         ts = s.ts;
         history = subst (λ from. IsHistoryFrom from s.ts) quiet.last s.history;
@@ -127,47 +141,39 @@ module _ (fs : List Framed) (u : Watch)
             s.follow;
       }
 
-  commit_sent : (start end : ℕ) (clock : ℤ) (m : Message) (v : Watch) → IsCommit w.facts v before earlier m → hear_all v fs ≡ Ok u
-      → IsSentAt w.facts before earlier (Data start end clock m ∷ sent_of fs)
-  commit_sent start end clock m v c e =
-      let s = rest v (m ∷ before) (relations_after earlier (pair_items before)) c.goes e in
-      let made = work_of earlier (pair_items before) c.changes c.described in
-      let t : Transaction = record { xid = c.xid; work = made.work; lsn = c.lsn; end = c.end } in
+  commit_sent : (start end : ℕ) (clock : ℤ) (m : Message) (v : Watch) → IsCommit w.facts v before earlier m → WatchKeeps v (m ∷ before)
+      → hear_all v fs ≡ Ok u → IsSentAt w.facts before earlier (Data start end clock m ∷ sent_of fs)
+  commit_sent start end clock m v c kept e =
+      let s = rest v (m ∷ before) (relations_after earlier c.items) (record { place = c.goes; kept = kept }) e in
+      let made = c.some in
+      let t : Transaction = record { xid = c.xid; work = made.0; lsn = c.lsn; end = c.end } in
       record {
         ts = t ∷ s.ts;
-        history = (
-          c.behind,
-          c.ends,
-          made.is,
-          subst (λ xs. AllDiffer (c.xid ∷ xs)) (sym made.plain) (refl, tt),
-          subst (λ from. IsHistoryFrom from s.ts) c.last s.history,
-        );
+        history = (c.behind, c.ends, made.1, made.2, subst (λ from. IsHistoryFrom from s.ts) c.last s.history);
         after = (c.after, subst (λ p. EndAfter p s.ts) c.start s.after);
-        above = (
-          (λ changes. c.above (λ none. changes (made.makes ∙ none))),
-          subst (λ p. ChangesEndAfter p s.ts) c.told s.above,
-        );
+        above = ((λ changes. c.above (λ none. changes (made.3 ∙ none))), subst (λ p. ChangesEndAfter p s.ts) c.told s.above);
         follow = subst (λ ms. CommitsFollow earlier (t ∷ s.ts) (ms ++ commits_and_keepalives (m ∷ before) (sent_of fs))) (sym c.one)
-            ([], t, s.ts, pair_items before, refl, tt, (refl, refl, refl, refl), c.described ∙ ap Ok (sym made.makes), s.follow);
+            ([], t, s.ts, c.items, refl, tt, made.4, c.described ∙ ap Ok (sym made.3), s.follow);
       }
 
   message_sent : (start end : ℕ) (clock : ℤ) (m : Message) (r : Result Watch Breach) → hear w (hearing.Message n m) ≡ r
-      → WatchIsAt w before earlier → then_hear r (λ new. hear_all new fs) ≡ Ok u
+      → Stands w before earlier → then_hear r (λ new. hear_all new fs) ≡ Ok u
       → IsSentAt w.facts before earlier (Data start end clock m ∷ sent_of fs)
   message_sent start end clock m (Err b) is place e = absurd (cc)
   message_sent start end clock m (Ok v) is place e =
-      elim (step w.order.version w.known w.limit w.held w.facts w.ended n before earlier v w.order.state.context w.order.state.open_xids m
-      place is) [
-        | inl quiet ↦ quiet_sent start end clock m v quiet e
-        | inr commit ↦ commit_sent start end clock m v commit e
+      let kept = one_kept w v n before m place.kept is in
+      elim (step w.order.version w.known w.limit w.held w.streams w.facts w.ended n before earlier v w.order.state.context
+      w.order.state.open_xids m place.place place.kept is) [
+        | inl quiet ↦ quiet_sent start end clock m v quiet kept e
+        | inr commit ↦ commit_sent start end clock m v commit kept e
       ]
 
-  one_sent : (s : Sent) → WatchIsAt w before earlier → then_hear (hear w (heard_of n s)) (λ new. hear_all new fs) ≡ Ok u
+  one_sent : (s : Sent) → Stands w before earlier → then_hear (hear w (heard_of n s)) (λ new. hear_all new fs) ≡ Ok u
       → IsSentAt w.facts before earlier (s ∷ sent_of fs)
   one_sent (Data start end clock m) place e = message_sent start end clock m (hear w (hearing.Message n m)) refl place e
   one_sent (Keepalive end clock reply) place e = keepalive_sent end clock reply place e
 
-sent : (fs : List Framed) (u w : Watch) (before : List Message) (earlier : List RelationDef) → WatchIsAt w before earlier
+sent : (fs : List Framed) (u w : Watch) (before : List Message) (earlier : List RelationDef) → Stands w before earlier
     → hear_all w fs ≡ Ok u → IsSentAt w.facts before earlier (sent_of fs)
 sent [] u w before earlier place e = record { ts = []; history = tt; after = tt; above = tt; follow = tt }
 sent (f ∷ fs) u w before earlier place e = one_sent fs u (sent fs u) w before earlier f.at f.sent place e
@@ -180,9 +186,19 @@ all_ended p (t ∷ ts) h =
       | false ↦ λ is. absurd (let lt : p < t.end = h.0 in grind (arith, nat_tests))
     ] refl
 
+pub stands_at_start : (v : Version) (start limit : ℕ) → Stands (at_start v start limit) [] []
+stands_at_start v start limit = record {
+  place = (refl, knows_none);
+  kept = record {
+    keeps = record { of_open = λ x is. absurd (let no : is_open x none_open ≡ false = is_open-none_open x in cc); of_others = λ x e. refl };
+    block = refl;
+    in_it = tt;
+  };
+}
+
 pub well_may_be_sent : WellMayBeSent
 well_may_be_sent v start limit fs w decoded e =
-    let s = sent fs w (at_start v start limit) [] [] (refl, knows_none) e in
+    let s = sent fs w (at_start v start limit) [] [] (stands_at_start v start limit) e in
     let ms = messages_in (sent_of fs) in (
       s.ts,
       s.history,

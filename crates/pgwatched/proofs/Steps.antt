@@ -4,12 +4,16 @@ use Rattle.std.proofs.Common.{false, cond, ◌&&◌, nat_le, nat_lt, Option, Som
 use Rattle.std.proofs.Common.{Ok, Err, refl, sym, ap, subst, ◌∙◌, arith}
 use Rattle.std.proofs.lemmas.Bool.Decides.{nat_tests, leb_tells}
 use Rattle.pglogical.specs.declared.message.RelationDef.{RelationDef}
+use Rattle.pglogical.specs.declared.message.Item.{Item}
 use Rattle.pglogical.specs.declared.message.Message.{Message}
 use Rattle.pgorder.specs.Steps.{Context, Outside, InPair, InBlock}
 use Rattle.pgapply.specs.Apply.{Change}
 use Rattle.pgsub_core.specs.Server.Described.{relations_after, described}
 use Rattle.pgsub_core.specs.Server.Stream.{pair_of, pair_items, Committed}
-use Rattle.pgsub_core.specs.Server.Stream.{Completed, WholeCommit, StreamedCommit, commits_of}
+use Rattle.pgsub_core.specs.Server.Stream.{Completed, commits_of}
+use Rattle.pgsub_core.specs.Server.Work.{Work, IsWork, surviving_changes, xids_of, AllDiffer}
+use Rattle.pgsub_core.specs.Server.History.{Transaction, ChangesRows}
+use Rattle.pgsub_core.specs.Server.Delivers.{IsCommitOf}
 use Rattle.pgwatch.specs.Known.{OidSet}
 use Rattle.pgwatch.specs.declared.fault.Breach.{Breach}
 use Rattle.pgwatch.specs.declared.fault.Breach.TheVariants as breach
@@ -39,14 +43,21 @@ pub record IsQuiet (f : Facts) (w : Watch) (before : List Message) (earlier : Li
   pub told : w.facts.told ≡ f.told
   pub goes : WatchIsAt w (m ∷ before) earlier
 
--- the commit of a pair, in its place
+-- the commit of a pair or of a streamed transaction, in its place
 pub record IsCommit (f : Facts) (w : Watch) (before : List Message) (earlier : List RelationDef) (m : Message) : Type 0 where
+  pub completed : Completed
   pub xid : ℕ
   pub lsn : ℕ
   pub end : ℕ
+  pub items : List Item
   pub changes : List Change
-  pub one : commits_of before m ≡ Committed (WholeCommit xid lsn end (pair_items before)) ∷ []
-  pub described : described earlier (pair_items before) ≡ Ok changes
+  pub one : commits_of before m ≡ Committed completed ∷ []
+  pub described : described earlier items ≡ Ok changes
+  -- it is some transaction's, and of any that it may be of, these items survive
+  pub some : (work : Work) × IsWork work × AllDiffer (xid ∷ xids_of work) × (surviving_changes work ≡ changes)
+      × IsCommitOf (record { xid = xid; work = work; lsn = lsn; end = end }) completed items
+  pub only : (t : Transaction) (surviving : List Item) → AllDiffer (t.xid ∷ xids_of t.work) → IsCommitOf t completed surviving
+      → (lsn ≡ t.lsn) × (end ≡ t.end) × (surviving ≡ items)
   pub behind : f.last_end ≤ lsn
   pub ends : lsn < end
   pub after : f.start < end
@@ -54,7 +65,7 @@ pub record IsCommit (f : Facts) (w : Watch) (before : List Message) (earlier : L
   pub start : w.facts.start ≡ f.start
   pub last : w.facts.last_end ≡ end
   pub told : w.facts.told ≡ f.told
-  pub goes : WatchIsAt w (m ∷ before) (relations_after earlier (pair_items before))
+  pub goes : WatchIsAt w (m ∷ before) (relations_after earlier items)
 
 abbrev pub IsStep : Facts → Watch → List Message → List RelationDef → Message → Type 0
 IsStep f w before earlier m = IsQuiet f w before earlier m ⊎ IsCommit f w before earlier m
@@ -68,14 +79,35 @@ IsWhy f lsn end described =
     IsMisplaced f lsn end ⊎ ((oid : ℕ) × (described ≡ Err oid))
     ⊎ ((changes : List Change) × (described ≡ Ok changes) × (changes ≢ []) × (end ≤ f.told))
 
-abbrev pub IsWhyOf : Facts → List RelationDef → Completed → Type 0
-IsWhyOf f earlier (WholeCommit xid lsn end items) = IsWhy f lsn end (described earlier items)
-IsWhyOf f earlier (StreamedCommit xid lsn end streamed) = IsMisplaced f lsn end
-
+-- It is the commit of no transaction that may come next.
 pub record IsRefusal (f : Facts) (before : List Message) (earlier : List RelationDef) (m : Message) : Type 0 where
   pub completed : Completed
   pub one : commits_of before m ≡ Committed completed ∷ []
-  pub why : IsWhyOf f earlier completed
+  pub none : (t : Transaction) (surviving : List Item) → AllDiffer (t.xid ∷ xids_of t.work) → IsCommitOf t completed surviving
+      → f.last_end ≤ t.lsn → t.lsn < t.end → f.start < t.end → (ChangesRows t → f.told < t.end)
+      → described earlier surviving ≡ Ok (surviving_changes t.work) → ⊥
+
+module _ (f : Facts) where
+  away_from : (lsn end l e : ℕ) → lsn ≡ l → end ≡ e → f.last_end ≤ l → l < e → f.start < e → IsMisplaced f lsn end → ⊥
+  away_from lsn end l e same_lsn same_end place ends after (inl below) = omega arith
+  away_from lsn end l e same_lsn same_end place ends after (inr (inl empty)) = omega arith
+  away_from lsn end l e same_lsn same_end place ends after (inr (inr early)) = omega arith
+
+  pub refused_for : (lsn end l e : ℕ) (r : Result (List Change) ℕ) (changes : List Change) → lsn ≡ l → end ≡ e → f.last_end ≤ l → l < e
+      → f.start < e → ((changes ≡ [] → ⊥) → f.told < e) → r ≡ Ok changes → IsWhy f lsn end r → ⊥
+  refused_for lsn end l e r changes same_lsn same_end place ends after tells made (inl away) =
+      away_from lsn end l e same_lsn same_end place ends after away
+  refused_for lsn end l e r changes same_lsn same_end place ends after tells made (inr (inl missing)) = never missing.1
+    where
+      never : r ≡ Err missing.0 → ⊥
+      never e = cc
+  refused_for lsn end l e r changes same_lsn same_end place ends after tells made (inr (inr kept)) =
+      let lt : f.told < e = tells (λ none. kept.2 (same_changes kept.1 ∙ none)) in
+      let le : end ≤ f.told = kept.3 in
+      omega arith
+    where
+      same_changes : r ≡ Ok kept.0 → kept.0 ≡ changes
+      same_changes e = cc
 
 -- ---- a commit that is judged
 

@@ -2,6 +2,7 @@
 use Rattle.std.proofs.Common.{◌≡◌, ℕ, List, [], ◌∷◌, ◌++◌, true}
 use Rattle.std.proofs.Common.{false, Some, None, Option, Result, Ok, Err}
 use Rattle.std.proofs.Common.{refl, pos}
+use Rattle.std.specs.Prelude.{◌+◌}
 use Rattle.pgtuple.specs.declared.cell.Cell.TheVariants.{Text}
 use Rattle.pglogical.specs.declared.message.Item.TheVariants.{Relation, Insert, Truncate}
 use Rattle.pglogical.specs.declared.message.Message.{Message}
@@ -119,21 +120,64 @@ once_more = simp open_rows
 full : breach_within 1 One (begin 1 200 ∷ relation 2 16 ∷ relation 3 17 ∷ commit 4 200 240 ∷ []) ≡ Some (breach.Full 3)
 full = simp open_rows
 
--- A streamed transaction may be open and be aborted, and its room is free again. Its commit, too,
--- has to be in its place; there it is no longer watched.
-abbrev block : ℕ → List Framed
-block xid = came 1 (message.StreamStart xid true) ∷ came 2 (message.Item (Some xid) (Insert 16 (Text (49 ∷ []) ∷ [])))
-    ∷ came 3 message.StreamStop ∷ []
+-- A streamed transaction may be open and be aborted, and its room is free again. Its commit has to
+-- be in its place, like any other.
+abbrev under : ℕ → ℕ → ℕ → ℕ → Framed
+under at xid subxid oid = came at (message.Item (Some subxid) (Insert oid (Text (49 ∷ []) ∷ [])))
 
-aborted : breach_within 1 Two (block 20 ++ came 4 (message.StreamAbort 20 20) ∷ block 21) ≡ None
+abbrev described_under : ℕ → ℕ → ℕ → Framed
+described_under at subxid oid =
+    came at (message.Item (Some subxid) (Relation (record { oid = oid; namespace = []; name = 116 ∷ []; letter = 100; columns = [] })))
+
+abbrev block : ℕ → List Framed → List Framed
+block xid items = came 1 (message.StreamStart xid true) ∷ (items ++ came 3 message.StreamStop ∷ [])
+
+abbrev stream_commit : ℕ → ℕ → ℕ → ℕ → Framed
+stream_commit at xid lsn end = came at (message.StreamCommit xid lsn end (pos 0))
+
+aborted : breach_within 2 Two (block 20 (under 2 20 20 16 ∷ []) ++ came 4 (message.StreamAbort 20 20) ∷ block 21 (under 2 21 21 16 ∷ []))
+    ≡ None
 aborted = simp open_rows
 
-two_open : breach_within 1 Two (block 20 ++ block 21) ≡ Some (breach.Full 1)
+two_open : breach_within 1 Two (block 20 [] ++ block 21 []) ≡ Some (breach.Full 1)
 two_open = simp open_rows
 
-streamed : breach_in Two (first ++ block 20 ++ came 9 (message.StreamCommit 20 240 280 (pos 0)) ∷ []) ≡ Some (breach.Streamed 9)
+full_block : breach_within 1 Two (block 20 (under 2 20 20 16 ∷ [])) ≡ Some (breach.Full 2)
+full_block = simp open_rows
+
+streamed : breach_in Two (first ++ block 20 (under 2 20 20 16 ∷ []) ++ stream_commit 9 20 240 280 ∷ []) ≡ None
 streamed = simp open_rows
 
-streamed_below : breach_in Two (first ++ block 20 ++ came 9 (message.StreamCommit 20 239 280 (pos 0)) ∷ [])
+streamed_below : breach_in Two (first ++ block 20 (under 2 20 20 16 ∷ []) ++ stream_commit 9 20 239 280 ∷ [])
     ≡ Some (breach.BelowCommit 9 239 4 240)
 streamed_below = simp open_rows
+
+-- A change of a relation that isn't described is told at the commit.
+streamed_undescribed : breach_in Two (block 20 (under 2 20 20 16 ∷ []) ++ stream_commit 9 20 240 280 ∷ [])
+    ≡ Some (breach.Undescribed 9 2 16)
+streamed_undescribed = simp open_rows
+
+-- What a rolled-back subtransaction described, no other change can use.
+described_and_gone : breach_within 9 Two (block 20 (described_under 4 21 16 ∷ under 5 20 21 16 ∷ [])
+    ++ came 6 (message.StreamAbort 20 21) ∷ came 7 (message.StreamStart 20 false) ∷ under 8 20 20 16
+    ∷ came 9 message.StreamStop ∷ stream_commit 10 20 240 280 ∷ [])
+    ≡ Some (breach.Undescribed 10 8 16)
+described_and_gone = simp open_rows
+
+-- A subtransaction with one inside it, and behind both the transaction's own.
+abbrev each : ℕ → List ℕ → List Framed
+each at [] = []
+each at (x ∷ xs) = under at 20 x 16 ∷ each (at + 1) xs
+
+abbrev of_three : List ℕ → Option Breach
+of_three xids = breach_within 20 Two (first ++ block 20 (each 30 xids) ++ stream_commit 50 20 240 280 ∷ [])
+
+nested_inside : of_three (20 ∷ 21 ∷ 22 ∷ 21 ∷ 20 ∷ []) ≡ None
+nested_inside = simp open_rows
+
+-- One that goes on after its transaction did, and two that cross.
+gone_on : of_three (21 ∷ 20 ∷ 21 ∷ []) ≡ Some (breach.Unnested 50 30 21)
+gone_on = simp open_rows
+
+crossed : of_three (21 ∷ 22 ∷ 21 ∷ 22 ∷ []) ≡ Some (breach.Unnested 50 30 21)
+crossed = simp open_rows

@@ -29,11 +29,11 @@ found_first find first finds oid def =
       | false ↦ λ is e. finds oid def e
     ] refl
 
-finds_last : (earlier : List RelationDef) → Finds (λ oid. last_of oid earlier)
+pub finds_last : (earlier : List RelationDef) → Finds (λ oid. last_of oid earlier)
 finds_last [] oid def e = absurd (cc)
 finds_last (first ∷ earlier) oid def e = found_first (λ o. last_of o earlier) first (finds_last earlier) oid def e
 
-finds_behind : (i : Item) (find : ℕ → Option RelationDef) → Finds find → Finds (found_behind i find)
+pub finds_behind : (i : Item) (find : ℕ → Option RelationDef) → Finds find → Finds (found_behind i find)
 finds_behind (Relation first) find finds = found_first find first finds
 finds_behind (Insert oid row) find finds = finds
 finds_behind (Update oid prior row) find finds = finds
@@ -52,7 +52,7 @@ one_defined oid oids (Some def) (Ok more) ds finds others e =
     (ap (λ o. o ∷ map (λ (def : RelationDef). def.oid) more) (finds def refl) ∙ ap (λ os. oid ∷ os) (others more refl))
 
 -- the definitions have the OIDs that are named
-defined_oids : (find : ℕ → Option RelationDef) → Finds find → (oids : List ℕ) (ds : List RelationDef) → definitions_of find oids ≡ Ok ds
+pub defined_oids : (find : ℕ → Option RelationDef) → Finds find → (oids : List ℕ) (ds : List RelationDef) → definitions_of find oids ≡ Ok ds
     → map (λ (def : RelationDef). def.oid) ds ≡ oids
 defined_oids find finds [] ds e =
     let same : [] ≡ ds = cc in subst (λ (l : List RelationDef). map (λ (def : RelationDef). def.oid) l ≡ []) same refl

@@ -1,5 +1,5 @@
 -- What a breach tells: the frame at which it is found, and what came with the frame that caused it.
-use Rattle.std.specs.Prelude.{◌≡◌, ◌<◌, ◌≤◌, ◌⊎◌, ℕ, List, [], ◌∷◌, true, Ok, Err}
+use Rattle.std.specs.Prelude.{◌≡◌, ◌<◌, ◌≤◌, ◌⊎◌, ℕ, List, [], ◌∷◌, true, None, Some, Ok, Err}
 use Rattle.pglogical.specs.Named.{named}
 use Rattle.pglogical.specs.declared.message.Message.{Message}
 use Rattle.pglogical.specs.declared.message.Message.TheVariants as message
@@ -12,15 +12,27 @@ use Rattle.pgsub_core.specs.Server.Work.{is_among}
 use Rattle.pgsub_core.specs.Server.Stream.{Sent, Data, Keepalive}
 use Rattle.pgwatched.specs.Watched.{Framed, heard_of, hear_all}
 
--- the Commit of a pair that ends here
+-- the commit of a pair or of a streamed transaction that ends here
 abbrev pub EndsAt : ℕ → Message → Type 0
 EndsAt end (message.Commit lsn its_end time) = its_end ≡ end
+EndsAt end (message.StreamCommit xid lsn its_end time) = its_end ≡ end
 EndsAt end m = ⊥
 
 -- a change that names this relation
 abbrev pub Names : ℕ → Message → Type 0
 Names oid (message.Item label i) = is_among (named i) oid ≡ true
 Names oid m = ⊥
+
+-- an item or an abort with this xid
+abbrev pub IsPart : ℕ → Message → Type 0
+IsPart subxid (message.Item None i) = Unit {0}
+IsPart subxid (message.Item (Some label) i) = label ≡ subxid
+IsPart subxid (message.StreamAbort xid label) = label ≡ subxid
+IsPart subxid m = ⊥
+
+abbrev pub IsPartSent : ℕ → Sent → Type 0
+IsPartSent subxid (Data s e clock m) = IsPart subxid m
+IsPartSent subxid (Keepalive e clock reply) = ⊥
 
 abbrev pub IsCommitAt : ℕ → Sent → Type 0
 IsCommitAt end (Data s e clock m) = EndsAt end m
@@ -48,7 +60,7 @@ IsCaused (breach.BelowStart at end start) before n = (at ≡ n) × (end ≤ star
 IsCaused (breach.Undescribed at cause oid) before n = (at ≡ n) × Came cause (IsChangeOf oid) before
 IsCaused (breach.BelowKeepalive at end cause told) before n = (at ≡ n) × (end ≤ told) × Came cause (IsKeepaliveAt told) before
 IsCaused (breach.Full at) before n = at ≡ n
-IsCaused (breach.Streamed at) before n = at ≡ n
+IsCaused (breach.Unnested at cause subxid) before n = (at ≡ n) × Came cause (IsPartSent subxid) before
 IsCaused (breach.Memory at) before n = ⊥
 
 -- Each breach is found at the frame that comes next, and its cause came before.

@@ -1,3 +1,4 @@
 pub mod Causes
 pub mod Laws
+pub mod Nested
 pub mod Watched

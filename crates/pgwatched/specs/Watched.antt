@@ -44,6 +44,5 @@ MayBeSent v start sent = (history : List Transaction) × IsHistory history × De
 -- the breach is that of a rule, and doesn't just end the watch
 abbrev pub IsOfRule : Breach → Type 0
 IsOfRule (breach.Full at) = ⊥
-IsOfRule (breach.Streamed at) = ⊥
 IsOfRule (breach.Memory at) = ⊥
 IsOfRule b = Unit {0}

@@ -4,6 +4,7 @@
 ghost use Rattle.pgwatched.specs.Laws.{WellMayBeSent, FramesAreASession, BrokenIsNotSent};
 ghost use Rattle.pgwatched.specs.Laws.{BrokenIsNoSession};
 ghost use Rattle.pgwatched.specs.Causes.{BreachesAreCaused};
+ghost use Rattle.pgwatched.specs.Nested.{NestedIsStreamed, MisfitIsNotStreamed};
 
 /// Where a watch says Ok to each message of a session so far, a well-formed server may have sent
 /// these of some history (`sent`). So their frames are a session of it (`frames`), and what
@@ -26,9 +27,19 @@ pub fn broken_is_not_sent()
 {}
 
 /// What a breach tells: the frame with which it is found, and of the order of commits, of changes
-/// that aren't described and of keepalives the frame that came before it and doesn't fit.
+/// that aren't described, of keepalives and of what isn't nested the frame that came before it and
+/// doesn't fit.
 ///
 /// PostgreSQL documentation, Logical Streaming Replication Protocol.
 pub fn breaches_are_caused()
     ensures { BreachesAreCaused }
+{}
+
+/// Which items and aborts a streamed transaction may have come as: those that are nested are of
+/// some work (`streamed`); where one doesn't fit, they are of none (`misfit`).
+///
+/// PostgreSQL documentation, Logical Streaming Replication Protocol.
+pub fn nested_is_streamed()
+    ensures streamed { NestedIsStreamed }
+    ensures misfit { MisfitIsNotStreamed }
 {}

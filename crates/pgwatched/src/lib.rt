@@ -4,4 +4,4 @@
 
 mod laws;
 
-pub use laws::{breaches_are_caused, broken_is_not_sent, well_may_be_sent};
+pub use laws::{breaches_are_caused, broken_is_not_sent, nested_is_streamed, well_may_be_sent};

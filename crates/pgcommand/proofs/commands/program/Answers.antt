@@ -8,4 +8,5 @@ returns c =
     let follows = c.in_ok-program-4.ensures _ _ dumps c.follow_command.ensures in
     let compares = c.in_ok-program-5.ensures _ _ follows c.same_command.ensures in
     let resumes = c.in_ok-program-6.ensures _ _ compares c.resume_command.ensures in
-    c.with_subcommand-7.ensures _ _ resumes c.lsn_command.ensures
+    let numbers = c.in_ok-program-7.ensures _ _ resumes c.lsn_command.ensures in
+    c.with_subcommand-8.ensures _ _ numbers c.watch_command.ensures

@@ -7,6 +7,7 @@ use Rattle.pgcommand.proofs.task.task_of.Goals.{in-follow+in_ok-task-in-follow}
 use Rattle.pgcommand.proofs.task.task_of.Goals.{in-same+in_ok-left-in-same+in_ok-right-in-same}
 use Rattle.pgcommand.proofs.task.task_of.Goals.{in-resume+in_ok-value_of-in-resume}
 use Rattle.pgcommand.proofs.task.task_of.Goals.{in-lsn+in_ok-value_of-in-lsn}
+use Rattle.pgcommand.proofs.task.task_of.Goals.{in-watch+in_ok-file-in-watch}
 
 pub returns : goal.returns
 returns c =
@@ -18,4 +19,5 @@ returns c =
       | in-same+in_ok-left-in-same+in_ok-right-in-same w ↦ search rules
       | in-resume+in_ok-value_of-in-resume w ↦ search rules
       | in-lsn+in_ok-value_of-in-lsn w ↦ search rules
+      | in-watch+in_ok-file-in-watch w ↦ search rules
     ]

@@ -16,8 +16,9 @@ returns-clause-ends g c =
       e.1,
       along (λ (old new : Recorded g.row.C.Denot g.row.G.Denot).
           AppliesOver (λ r. s.is_honest r.store) (λ r. s.serves r.store)
-          (HoldsBoth s.holds s.place s.reach l.begins l.keeps l.outlasts l.is_stuck) (λ r. s.place r.store)
-          (ReopensBoth s.place s.reopens l.reopens) g.R.Input.gives g.R.Input.begins g.R.Input.failed g.W.Output.takes g.W.Output.failed
+          (HoldsBoth s.holds s.place s.reach g.G.Supposing.supposed l.begins l.keeps l.outlasts l.is_stuck) (λ r. s.place r.store)
+          (ReopensBoth s.place s.reopens g.G.Supposing.supposed l.reopens) g.R.Input.gives g.R.Input.begins g.R.Input.failed
+          g.W.Output.takes g.W.Output.failed
           c.args.limits c.args.input old new e.0 c.args.out.now done.new.out)
           begun.result done.result.1
           (of_parts begun.result c.args.store c.args.ledger begun.ensures.store begun.ensures.ledger)

@@ -20,8 +20,9 @@ returns-clause-ends g c =
       e.4,
       e.5,
       λ honest serves. along (λ (old new : Recorded g.row.C.Denot g.row.G.Denot).
-          FollowsReported (HoldsBoth s.holds s.place s.reach l.begins l.keeps l.outlasts l.is_stuck) (λ r. s.place r.store)
-          (ReopensBoth s.place s.reopens l.reopens) (λ r. s.serves r.store) (λ r. s.missed r.store) g.row.L.Denot
+          FollowsReported (HoldsBoth s.holds s.place s.reach g.G.Supposing.supposed l.begins l.keeps l.outlasts l.is_stuck)
+          (λ r. s.place r.store)
+          (ReopensBoth s.place s.reopens g.G.Supposing.supposed l.reopens) (λ r. s.serves r.store) (λ r. s.missed r.store) g.row.L.Denot
           (g.R.Read.remaining c.args.link.now.reader) (g.R.Read.remaining done.new.link.reader) done.new.link.reads
           (g.W.Write.contents c.args.link.now.writer) (g.W.Write.contents done.new.link.writer) c.args.limits c.args.version old new e.0)
           begun.result done.result.1

@@ -1,0 +1,30 @@
+-- What is found of a session means this of histories.
+use Rattle.std.specs.Prelude.{◌≡◌, ℕ, List, ◌∷◌, ◌++◌}
+use Rattle.pgorder.specs.declared.Version.{Version}
+use Rattle.pgwire.specs.Frames as wire
+use Rattle.pgwatch.specs.declared.fault.Breach.{Breach}
+use Rattle.pgsub_core.specs.Server.History.{Transaction, IsHistory}
+use Rattle.pgsub_core.specs.Server.Stream.{Sent}
+use Rattle.pgsub_core.specs.Server.Sessions.{IsSession, whole_frames}
+use Rattle.pgwatched.specs.Watched.{sent_of, IsOfRule}
+use Rattle.pgrules.specs.declared.findings.End.TheVariants as end
+use Rattle.pgrules.specs.declared.findings.Findings.{Findings}
+use Rattle.pgrules.specs.Watching.{IsFound, frame_of}
+
+abbrev pub HeardIsASession : Type 0
+HeardIsASession =
+    (v : Version) (max limit : ℕ) (bytes : List ℕ) (found : Findings) → (is : IsFound v max limit bytes found)
+    → (history : List Transaction) × IsHistory history
+    × IsSession v history 0 (whole_frames (sent_of is.fs) is.done) (sent_of is.fs)
+
+-- its frame comes next
+abbrev pub ComesNext : Sent → List ℕ → Type 0
+ComesNext next rest = (later : List ℕ) × (rest ≡ wire.frame (frame_of next) ++ later)
+
+abbrev pub BreachIsNoSession : Type 0
+BreachIsNoSession =
+    (v : Version) (max limit : ℕ) (bytes : List ℕ) (found : Findings) (b : Breach) → (is : IsFound v max limit bytes found)
+    → found.end ≡ end.Ended b → IsOfRule b
+    → (next : Sent) × ComesNext next is.rest
+    × ((history : List Transaction) (session : List ℕ) (later : List Sent) → IsHistory history
+    → IsSession v history 0 session (sent_of is.fs ++ next ∷ later) → ⊥)

@@ -1,0 +1,5 @@
+pub mod Seen
+pub mod Hearing
+pub mod Watching
+pub mod Laws
+pub mod Rules
