@@ -1,0 +1,11 @@
+use Rattle.std.proofs.Common.{[]}
+use Rattle.tests_spill.proofs.strands.free_blocks_are_used_again.Goals as goal
+
+pub append-requires : goal.append-requires
+append-requires g c = (c.new-strand.ensures.strand 0 [] []).start
+
+pub spill-requires-clause-strand : goal.spill-requires-clause-strand
+spill-requires-clause-strand g c = c.append.ensures.strand _ _ _ (c.new-strand.ensures.strand _ _ _)
+
+pub spill-requires-2-clause-strand : goal.spill-requires-2-clause-strand
+spill-requires-2-clause-strand g c = c.append-2.ensures.strand _ _ _ c.cut.ensures.strand
