@@ -1,0 +1,9 @@
+pub mod Plain
+pub mod Fields
+pub mod Pushed
+pub mod Cells
+pub mod Lines
+pub mod Runs
+pub mod Sending
+pub mod Whole
+pub mod Examples

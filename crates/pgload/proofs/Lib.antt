@@ -1,0 +1,7 @@
+mod Loads
+pub mod Batches
+pub mod Texts
+pub mod Parts
+pub mod Frames
+pub mod Examples
+mod InputExamples

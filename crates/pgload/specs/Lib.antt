@@ -1,0 +1,5 @@
+pub mod Loads
+pub mod Laws
+pub mod Faults
+pub mod Loading
+pub mod Inputs
