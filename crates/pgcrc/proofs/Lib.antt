@@ -1,0 +1,5 @@
+pub mod Examples
+pub mod Dividing
+pub mod Bytes
+pub mod Bursts
+pub mod Remainder
