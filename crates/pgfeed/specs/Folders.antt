@@ -1,6 +1,16 @@
 -- What calls do to a folder: where its segments begin, and which bytes the file of each has.
 use Rattle.std.specs.Prelude.{◌≡◌, ◌≢◌, ◌⊎◌, ◌<◌, ◌++◌, ℕ, List, [], ◌∷◌}
 use Rattle.std.specs.List.{AllByRecursion}
+use Rattle.pgfeed.specs.declared.fault.FeedFault.{FeedFault}
+use Rattle.pgfeed.specs.declared.fault.FeedFault.TheVariants.{Memory, NotAFeed, Refused}
+
+-- a call of the folder failed, or memory ran out
+abbrev pub IsRefusal : FeedFault → Type 0
+IsRefusal f = (f ≡ Refused) ⊎ (f ≡ Memory)
+
+-- another fault than that the folder or a file is no feed of this store
+abbrev pub IsOther : FeedFault → Type 0
+IsOther f = f ≡ NotAFeed → ⊥
 
 -- all of these begin below it
 abbrev pub AreBelow : ℕ → List ℕ → Type 0

@@ -17,7 +17,7 @@ use crate::folder::{Folder, Names, SegmentLimits};
 use crate::segment::Segment;
 use crate::segments::{begin_segment, close_all};
 use pgapply::{About, Commit, StoreFault};
-use pgledger::{Image, Ledger};
+use pgledger::{Image, Ledger, Supposing};
 use pglsn::Lsn;
 use std::alloc::Global;
 
@@ -116,7 +116,9 @@ impl<F: Folder + Drop> Feed<F> {
 
     /// The folder, which has the files of other segments back, and that of the open one.
     pub fn into_parts(self) -> (F, F::File)
-        ensures { result.1 ≡ self.segment.disk }
+        ensures back { F.is_true result.0 → TakesAllBack F.File.may_leave F.File.is_clean F.is_true
+            F.places F.has self.ended.items self.folder result.0 }
+        ensures file { result.1 ≡ self.segment.disk }
     {
         let mut folder = self.folder;
         close_all(&mut folder, self.ended);
@@ -298,6 +300,11 @@ impl<F: Folder + Drop> Feed<F> {
         self.first = first_time(self.first, commit.about);
         Ok(())
     }
+}
+
+/// What is supposed of its folder.
+impl<F: Folder + Supposing + Drop> Supposing for Feed<F> {
+    ghost supposed = { F.supposed };
 }
 
 impl<F: Folder + Drop> Ledger for Feed<F> {

@@ -36,8 +36,9 @@ pub struct SegmentLimits {
 /// remove no more than a front of those that have ended, between one opening of the feed and the
 /// next.
 pub trait Folder {
-    ghost use Rattle.std.specs.Prelude.{◌≡◌, ◌⊎◌, ◌++◌, ◌∷◌, [], ℕ, List, OnOk};
-    ghost use Rattle.pgfeed.specs.Folders.{AreBelow, HasNoMore, HasNoMoreElse, Stays, TakesBack};
+    ghost use Rattle.std.specs.Prelude.{◌≡◌, ◌⊎◌, ◌++◌, ◌∷◌, [], ℕ, List, OnOk, IfErr};
+    ghost use Rattle.pgfeed.specs.Folders.{AreBelow, HasNoMore, HasNoMoreElse, IsRefusal, Stays};
+    ghost use Rattle.pgfeed.specs.Folders.{TakesBack};
 
     /// The file of a segment.
     type File: Disk + Drop;
@@ -59,7 +60,8 @@ pub trait Folder {
     fn bases(&mut self) -> Result<Vec<Lsn>, FeedFault>
         ensures found { is_true self.new →
             IfOk result (λ bases. bases.items ≡ places self.old) }
-        ensures stays { is_true self.new → Stays has is_true places self.old self.new };
+        ensures stays { is_true self.new → Stays has is_true places self.old self.new }
+        ensures fault { is_true self.new → IfErr result IsRefusal };
 
     /// The file of a segment that is there.
     ///
@@ -70,7 +72,8 @@ pub trait Folder {
         ensures usable { IfOk result (λ file. IsTrue (Self.File.is_usable file)) }
         ensures text { is_true self.new → IfOk result (λ file. (text : List ℕ) →
             Self.File.may_leave file text → has self.old base text) }
-        ensures stays { is_true self.new → Stays has is_true places self.old self.new };
+        ensures stays { is_true self.new → Stays has is_true places self.old self.new }
+        ensures fault { is_true self.new → IfErr result IsRefusal };
 
     /// The file of a segment that begins here. Its name outlasts a crash. Where a file has that
     /// name already, it is that one.
@@ -86,7 +89,8 @@ pub trait Folder {
             (places self.new ≡ places self.old)
             ⊎ (places self.new ≡ places self.old ++ base ∷ []) }
         ensures others { is_true self.new → HasNoMoreElse has base self.old self.new }
-        ensures was_true { is_true self.new → is_true self.old };
+        ensures was_true { is_true self.new → is_true self.old }
+        ensures fault { is_true self.new → IfErr result IsRefusal };
 
     /// Removes the segment that begins here, the last one.
     ///
@@ -97,7 +101,8 @@ pub trait Folder {
         ensures gone { is_true self.new → OnOk result ((low : List ℕ) →
             places self.old ≡ low ++ base ∷ [] → places self.new ≡ low) }
         ensures others { is_true self.new → HasNoMore has self.old self.new }
-        ensures was_true { is_true self.new → is_true self.old };
+        ensures was_true { is_true self.new → is_true self.old }
+        ensures fault { is_true self.new → IfErr result IsRefusal };
 
     /// Takes back the file of a segment that the feed writes no more.
     fn close(&mut self, base: Lsn, file: Self::File)

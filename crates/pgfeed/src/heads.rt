@@ -1,6 +1,6 @@
 //! The lines that tell what follows: the head of a segment, and the line of a commit.
 
-ghost use Rattle.std.specs.Prelude.{◌≡◌, ◌⊎◌, ◌<◌, ◌≤◌, IfErr, IfOk, length, string_bytes};
+ghost use Rattle.std.specs.Prelude.{◌≡◌, ◌⊎◌, ◌<◌, ◌≤◌, IfErr, IfOk, OnOk, length, string_bytes};
 ghost use Rattle.std.specs.Fmt.{signed_decimal};
 ghost use Rattle.pgfeed.specs.declared.fault.FeedFault.TheVariants.{Memory, TooLong};
 ghost use Rattle.pgfeed.specs.Fits.{FitsLine};
@@ -75,6 +75,8 @@ pub(crate) fn segment_head(
     ensures head { IfOk result (λ line. string_bytes line
         ≡ segment_head base system.now database.now slot.now) }
     ensures size { IfOk result (λ line. length (string_bytes line) ≡ 1024) }
+    ensures fits { OnOk result
+        (length (segment_object base system.now database.now slot.now) < 1024) }
     ensures fault { IfErr result (λ fault. (fault ≡ Memory) ⊎ ((fault ≡ TooLong)
         × (1024 ≤ length (segment_object base system.now database.now slot.now)))) }
 {

@@ -4,6 +4,7 @@ ghost use Rattle.std.specs.Prelude.{◌≡◌, ◌++◌, ◌+◌, ◌<◌, ◌�
 ghost use Rattle.std.specs.Prelude.{length, take, drop, false, IsTrue, IfOk, OnOk, IfErr};
 ghost use Rattle.sqlite_disk.specs.Disk.{Only};
 ghost use Rattle.pgfeed.specs.declared.fault.FeedFault.TheVariants.{NotAFeed, Refused};
+ghost use Rattle.pgfeed.specs.Folders.{IsOther};
 ghost use Rattle.pgfeed.specs.Reading.{BeginsWith};
 ghost use Rattle.pgfeed.specs.Segments.{IsCut, IsFound, KeepsEntries, Lasts, Reopens};
 ghost use Rattle.pgfeed.specs.Texts.{segment_front, segment_head};
@@ -136,8 +137,9 @@ fn cut<D: Disk>(disk: &mut D, size: usize) -> Result<(), FeedFault>
 /// Writes a head over whatever the file has, and syncs it.
 fn put_head<D: Disk>(disk: &mut D, head: &str) -> Result<(), FeedFault>
     requires { IsTrue (D.is_usable disk.old) }
-    ensures { OnOk result (0 < length head.now → (D.seen disk.new ≡ head.now)
+    ensures put { OnOk result (0 < length head.now → (D.seen disk.new ≡ head.now)
         × Only head.now (D.may_leave disk.new)) }
+    ensures fault { IfErr result (λ fault. fault ≡ Refused) }
 {
     let Ok(()) = disk.set_len(0) else {
         return Err(FeedFault::Refused);
@@ -173,6 +175,7 @@ impl<D: Disk + Drop> Segment<D> {
         ensures told { IfOk result (λ s. D.seen s.disk
             ≡ segment_head base system.now database.now slot.now) }
         ensures begins { IfOk result (λ s. (s.base ≡ base) × (s.is_stuck ≡ false)) }
+        ensures fault { IfErr result (λ e. IsOther e.0) }
     {
         let head = match segment_head(alloc, base, system, database, slot) {
             Ok(head) => head,

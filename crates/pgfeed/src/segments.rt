@@ -1,11 +1,15 @@
 //! Opening a feed: its last segment is opened, and those above the position go.
 
-ghost use Rattle.std.specs.Prelude.{◌≡◌, ◌<◌, ◌++◌, ◌∷◌, [], false, IsTrue, IfOk, OnOk};
+ghost use Rattle.std.specs.Prelude.{◌≡◌, ◌<◌, ◌-◌, ◌^◌, ◌++◌, ◌∷◌, [], false, length, IsTrue};
+ghost use Rattle.std.specs.Prelude.{IfErr, IfOk, OnOk};
 ghost use Rattle.std.specs.Bool.{OnTrue};
 ghost use Rattle.std.specs.List.{AllByRecursion};
-ghost use Rattle.pgfeed.specs.Folders.{AreBelow, MakesAtMost, RemovesAll, StaysElse};
+ghost use Rattle.pgfeed.specs.declared.fault.FeedFault.TheVariants.{NotAFeed};
+ghost use Rattle.pgfeed.specs.Folders.{AreBelow, IsOther, IsRefusal, MakesAtMost, RemovesAll};
+ghost use Rattle.pgfeed.specs.Folders.{Stays, StaysElse};
 ghost use Rattle.pgfeed.specs.Feeds.{CutsIn, IsFresh, OpenedFrom, OpensIn, TakesAllBack};
 ghost use Rattle.pgfeed.specs.Naming.{IsOf, head_of};
+ghost use Rattle.pgfeed.specs.Texts.{segment_object};
 
 use crate::fault::FeedFault;
 use crate::feed::Feed;
@@ -33,6 +37,7 @@ fn create_in<F: Folder>(
     ensures same { OnOk result (folder.new ≡ folder.old) }
     ensures stays { F.is_true folder.new →
         StaysElse F.has F.is_true F.places base folder.old folder.new }
+    ensures fault { IfErr result IsOther }
 {
     let system = names.system.as_str();
     let database = names.database.as_str();
@@ -61,6 +66,7 @@ pub(crate) fn begin_segment<F: Folder>(
         OnOk result (F.places folder.new ≡ F.places folder.old ++ base ∷ []) }
     ensures at_most { F.is_true folder.new →
         MakesAtMost F.has F.is_true F.places base folder.old folder.new }
+    ensures fault { F.is_true folder.new → IfErr result IsOther }
 {
     let file = folder.create(base)?;
     create_in(alloc, folder, file, names, base)
@@ -82,6 +88,8 @@ fn segment_at<F: Folder>(
     ensures free { IfOk result (λ s. s.is_stuck ≡ false) }
     ensures stays { F.is_true folder.new →
         StaysElse F.has F.is_true F.places base folder.old folder.new }
+    ensures untouched { IfErr result (λ fault. fault ≡ NotAFeed → F.is_true folder.new →
+        Stays F.has F.is_true F.places folder.old folder.new) }
 {
     let file = folder.open(base)?;
     if base == position {
@@ -98,8 +106,9 @@ fn segment_at<F: Folder>(
 
 /// Removes segments, the last of them first.
 fn remove_all<F: Folder>(folder: &mut F, bases: &[Lsn]) -> Result<(), FeedFault>
-    ensures { F.is_true folder.new → OnOk result
+    ensures removed { F.is_true folder.new → OnOk result
         (RemovesAll F.has F.is_true F.places bases.now folder.old folder.new) }
+    ensures fault { F.is_true folder.new → IfErr result IsRefusal }
 {
     let mut left = bases.len();
     'removed: while left > 0 {
@@ -128,6 +137,8 @@ fn last_segment<F: Folder>(
         F.File.is_clean F.is_true F.places F.has folder.old position folder.new found.1 found.0) }
     ensures last { IfOk result (λ found. found.0.last ≡ position) }
     ensures free { IfOk result (λ found. found.0.is_stuck ≡ false) }
+    ensures untouched { IfErr result (λ fault. fault ≡ NotAFeed → F.is_true folder.new →
+        Stays F.has F.is_true F.places folder.old folder.new) }
 {
     let bases = folder.bases()?;
     if bases.is_empty() {
@@ -183,6 +194,10 @@ impl<F: Folder + Drop> Feed<F> {
         ensures told { IfOk result (λ f. IsOf f.names origin.now.system.now
             origin.now.database.now origin.now.slot.now) }
         ensures limits { IfOk result (λ f. f.limits ≡ limits) }
+        ensures untouched { IfErr result (λ e. e.0 ≡ NotAFeed → F.is_true e.1 →
+            Stays F.has F.is_true F.places folder e.1) }
+        ensures room { OnOk result (length (segment_object (2 ^ 64 - 1) origin.now.system.now
+            origin.now.database.now origin.now.slot.now) < 1024) }
     {
         match open_in(alloc, &mut folder, origin, position) {
             Ok((segment, begins, names)) => {
@@ -207,6 +222,10 @@ fn open_in<F: Folder>(
     ensures free { IfOk result (λ found. found.0.is_stuck ≡ false) }
     ensures told { IfOk result (λ found. IsOf found.2 origin.now.system.now
         origin.now.database.now origin.now.slot.now) }
+    ensures untouched { IfErr result (λ fault. fault ≡ NotAFeed → F.is_true folder.new →
+        Stays F.has F.is_true F.places folder.old folder.new) }
+    ensures room { OnOk result (length (segment_object (2 ^ 64 - 1) origin.now.system.now
+        origin.now.database.now origin.now.slot.now) < 1024) }
 {
     let names = Names::of(alloc, origin)?;
     // the head of a segment has room for the names wherever it begins

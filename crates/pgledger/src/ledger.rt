@@ -90,6 +90,15 @@ pub trait Ledger {
     ghost unasked: { UnaskedKeeps keeps is_wanting };
 }
 
+/// What is supposed of the ledgers of a type, so that something is said of their entries beside
+/// what is said of a store alone: any statement. Where it is true, the entries have to lead to the
+/// store's rows as a run begins, and do so as it ends. Where it is false, nothing is asked or said
+/// of entries, and all that is said of a store without a ledger is said of this one.
+pub trait Supposing {
+    /// The statement.
+    ghost supposed: { Type 0 };
+}
+
 /// The ledger of a store that has none: it keeps nothing, and no row is read for it.
 #[derive(Debug, Drop)]
 pub struct NoLedger {
@@ -103,6 +112,12 @@ impl NoLedger {
     {
         NoLedger { is_stuck: false }
     }
+}
+
+impl Supposing for NoLedger {
+    ghost use Rattle.std.specs.Prelude.{⊤};
+
+    ghost supposed = { ⊤ };
 }
 
 impl Ledger for NoLedger {

@@ -5,7 +5,8 @@
 //! each change: the whole row before it and the whole row after it, also where the server sent
 //! neither. [`Recorded`] is a store with its ledger, and a `ReplicaStore` itself: whatever a
 //! subscriber returns, and whatever a crash leaves when both are opened again, the entries of its
-//! ledger lead commit by commit to exactly the rows that it holds.
+//! ledger lead commit by commit to exactly the rows that it holds, if they did at the start. What
+//! is said of the rows doesn't rest on that ([`Supposing`]).
 //!
 //! ```text
 //! let mut store = Recorded::new(store, ledger);
@@ -24,6 +25,6 @@ mod recorded;
 
 pub use image::Image;
 pub use laws::lines_lead;
-pub use ledger::{Ledger, NoLedger};
+pub use ledger::{Ledger, NoLedger, Supposing};
 pub use ledger_store::LedgerStore;
 pub use recorded::Recorded;

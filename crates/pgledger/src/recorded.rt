@@ -5,24 +5,25 @@ ghost use Rattle.pgapply.specs.Value.{Tables};
 ghost use Rattle.pgledger.specs.Ledgers.{Keeps, Rests};
 ghost use Rattle.pgledger.specs.Records.{Plans, Records};
 
-use crate::ledger::Ledger;
+use crate::ledger::{Ledger, Supposing};
 use crate::ledger_store::LedgerStore;
 use pgapply::{Commit, DumpRow, DumpSink, Misses, ReplicaStore, StoreFault};
 use pglsn::Lsn;
 
-/// A store with a ledger of its commits. It holds tables only where the entries of the ledger lead
-/// to them commit by commit, from some tables where the ledger begins, with nothing after them but
-/// commits that are staged, or that were when the ledger got stuck. A crash keeps that where both
-/// are opened again: first the store, and then the ledger at its position.
+/// A store with a ledger of its commits. It holds what the store holds; and where that is so which
+/// is supposed of the ledger, the entries of that lead there commit by commit, from some tables
+/// where it begins, with nothing after them but commits that are staged, or that were when the
+/// ledger got stuck. A crash keeps that where both are opened again: first the store, and then the
+/// ledger at its position.
 ///
 /// Once the ledger is stuck, each commit is rejected.
 #[derive(Drop)]
-pub struct Recorded<S: LedgerStore + Drop, L: Ledger + Drop> {
+pub struct Recorded<S: LedgerStore + Drop, L: Ledger + Supposing + Drop> {
     store: S,
     ledger: L,
 }
 
-impl<S: LedgerStore + Drop, L: Ledger + Drop> Recorded<S, L> {
+impl<S: LedgerStore + Drop, L: Ledger + Supposing + Drop> Recorded<S, L> {
     /// A store with this ledger, which was opened at its position. A new ledger begins there.
     pub fn new(store: S, ledger: L) -> Recorded<S, L>
         ensures store { result.store ≡ store }
@@ -67,20 +68,20 @@ impl<S: LedgerStore + Drop, L: Ledger + Drop> Recorded<S, L> {
     }
 }
 
-impl<S: LedgerStore + Drop, L: Ledger + Drop> ReplicaStore for Recorded<S, L> {
+impl<S: LedgerStore + Drop, L: Ledger + Supposing + Drop> ReplicaStore for Recorded<S, L> {
     ghost serves = { λ s. S.serves s.store };
 
     ghost is_honest = { λ s. S.is_honest s.store };
 
-    ghost holds = { λ s tables. S.holds s.store tables
-        × Records L.begins L.keeps L.outlasts L.is_stuck s.ledger tables (S.place s.store)
-        (S.reach s.store) };
+    ghost holds = { λ s tables. S.holds s.store tables × (L.supposed →
+        Records L.begins L.keeps L.outlasts L.is_stuck s.ledger tables (S.place s.store)
+        (S.reach s.store)) };
 
     ghost place = { λ s. S.place s.store };
 
-    ghost stages = { λ s tables. S.stages s.store tables
-        × Plans L.begins L.keeps L.outlasts L.is_stuck s.ledger tables (S.place s.store)
-        (S.reach s.store) };
+    ghost stages = { λ s tables. S.stages s.store tables × (L.supposed →
+        Plans L.begins L.keeps L.outlasts L.is_stuck s.ledger tables (S.place s.store)
+        (S.reach s.store)) };
 
     ghost reach = { λ s. S.reach s.store };
 
@@ -89,7 +90,7 @@ impl<S: LedgerStore + Drop, L: Ledger + Drop> ReplicaStore for Recorded<S, L> {
     ghost stages_missed = { λ s. S.stages_missed s.store };
 
     ghost reopens = { λ s other. S.reopens s.store other.store
-        × L.reopens s.ledger (S.place other.store) other.ledger };
+        × (L.supposed → L.reopens s.ledger (S.place other.store) other.ledger) };
 
     fn position(&self) -> Lsn {
         self.store.position()

@@ -31,9 +31,9 @@ use Rattle.pgrecovery.specs.FedLife.{holds_fed}
 use Rattle.pgrecovery.proofs.Life.{all_up, nothing_yet, stored_both, stored_none, stored_up}
 
 module _ {D F E : Type 0} (g : disk.Ghosts D) (shows : E → List ℕ) (may_leave : E → List ℕ → Type 0) (is_clean : E → Bool)
-    (is_true : F → Type 0) (places : F → List ℕ) (has : F → ℕ → List ℕ → Type 0) where
+    (is_true : F → Type 0) (places : F → List ℕ) (has : F → ℕ → List ℕ → Type 0) (supposed : Type 0) where
   abbrev Holds_fed : FedStore g F E → Tables → Type 0
-  Holds_fed = holds_fed g shows may_leave is_clean is_true places has
+  Holds_fed = holds_fed g shows may_leave is_clean is_true places has supposed
 
   abbrev Fed : Feed F E → Tables → ℕ → ℕ → Type 0
   Fed = RecordsRest shows may_leave is_clean is_true places has
@@ -65,7 +65,7 @@ module _ {D F E : Type 0} (g : disk.Ghosts D) (shows : E → List ℕ) (may_leav
   Ready history position confirmed content is_left =
       (s : FedStore g F E) (folder : F) → HoldsContent over_files content s.store
       → OpensIn shows may_leave is_clean is_true places has folder s.store.position s.ledger
-      → IsHonestFeed shows may_leave is_clean is_true places has s.ledger → is_left s.store.position folder
+      → (supposed → IsHonestFeed shows may_leave is_clean is_true places has s.ledger) → (supposed → is_left s.store.position folder)
       → ∥ Recovers history position confirmed s ∥₁
 
   -- the store holds the history's rows, and its feed leads to them
@@ -76,18 +76,19 @@ module _ {D F E : Type 0} (g : disk.Ghosts D) (shows : E → List ℕ) (may_leav
     pub stored : NothingBetween history (fed_place s) confirmed
 
   told : (history : List Transaction) (confirmed : ℕ) (s : SubscriberValue (FedStore g F E)) → Stands history confirmed s
-      → HoldsFed g shows may_leave is_clean is_true places has history confirmed s
+      → HoldsFed g shows may_leave is_clean is_true places has supposed history confirmed s
   told history confirmed s stands = record {
     tables = stands.tables;
     held = stands.held.0;
     same = stands.same;
     stored = stands.stored;
-    leads = beside.rests_lead shows may_leave is_clean is_true places has s.applied.store.ledger stands.tables (fed_place s)
-        s.applied.store.store.group.reach stands.held.1;
+    leads = λ so.
+        beside.rests_lead shows may_leave is_clean is_true places has s.applied.store.ledger stands.tables (fed_place s)
+        s.applied.store.store.group.reach (stands.held.1 so);
   }
 
   -- the feed is opened on what is left of it
-  again : (l other : Feed F E) (place : ℕ) (folder : F) → IsLeftBy g shows may_leave is_clean is_true places has l place folder
+  again : (l other : Feed F E) (place : ℕ) (folder : F) → IsLeftBy g shows may_leave is_clean is_true places has supposed l place folder
       → OpensIn shows may_leave is_clean is_true places has folder place other
       → IsHonestFeed shows may_leave is_clean is_true places has other
       → ReopensAt shows may_leave is_clean is_true places has l place other
@@ -101,25 +102,27 @@ module _ {D F E : Type 0} (g : disk.Ghosts D) (shows : E → List ℕ) (may_leav
     pub before : Stands history confirmed r.begun
     pub later : Serves over_files r.ended.applied.store.store → Stands history (max confirmed r.ended.applied.confirmed) r.ended
     pub next : Ready history (fed_place r.ended) (max confirmed r.ended.applied.confirmed) r.after
-        (IsLeftBy g shows may_leave is_clean is_true places has r.ended.applied.store.ledger)
+        (IsLeftBy g shows may_leave is_clean is_true places has supposed r.ended.applied.store.ledger)
 
   module _ (may_stay : (d : E) → may_leave d (shows d)) where
     closed : (history : List Transaction) (confirmed : ℕ) (r : FedRun g F E) (content : Image) → IsHistory history
         → Stands history confirmed r.ended → ClosedAs r.ended.applied.store.store content
         → Ready history (fed_place r.ended) confirmed content
-        (IsLeftBy g shows may_leave is_clean is_true places has r.ended.applied.store.ledger)
+        (IsLeftBy g shows may_leave is_clean is_true places has supposed r.ended.applied.store.ledger)
     closed history confirmed r content is holds c s folder found opens honest left =
         let old : FedStore g F E = r.ended.applied.store in
         let v : Stored = record { tables = holds.tables; position = fed_place r.ended } in
         let was : Holds over_files old.store v = record { stored = holds.held.0; position = refl } in
         ∥∥₁_map (reopened.closed_is_reopened g over_files old.store s.store c.0 c.2.0 content c.1 c.2.1 c.2.2 found v was) (λ now.
         let at : fed_place r.ended ≡ s.store.position = now.position in
-        let leads : Fed old.ledger holds.tables s.store.position old.store.group.reach =
-        subst (λ p. Fed old.ledger holds.tables p old.store.group.reach) at holds.held.1 in
+        let leads : supposed → Fed old.ledger holds.tables s.store.position old.store.group.reach =
+        λ so. subst (λ p. Fed old.ledger holds.tables p old.store.group.reach) at (holds.held.1 so) in
         recovers history (fed_place r.ended) confirmed s holds.tables is (
           now.stored,
-          beside.goes_on shows may_leave is_clean is_true places has may_stay old.ledger s.ledger holds.tables s.store.position
-              old.store.group.reach s.store.group.reach (again old.ledger s.ledger s.store.position folder left opens honest) leads,
+          λ so.
+              beside.goes_on shows may_leave is_clean is_true places has may_stay old.ledger s.ledger holds.tables s.store.position
+              old.store.group.reach s.store.group.reach
+              (again old.ledger s.ledger s.store.position folder (left so) opens (honest so)) (leads so),
         )
         (subst (λ p. tables_as_of history p ≡ Ok holds.tables) at holds.same) (omega (arith, at))
         (subst (λ p. NothingBetween history p confirmed) at holds.stored))
@@ -129,13 +132,13 @@ module _ {D F E : Type 0} (g : disk.Ghosts D) (shows : E → List ℕ) (may_leav
         → (Serves over_files r.ended.applied.store.store → Stands history (max confirmed r.ended.applied.confirmed) r.ended)
         → ((tables : Tables) → Holds_fed r.begun.applied.store tables
         → IsSent history (seen fed_position r.begun tables) r.sessions r.all_complete
-        → IsFedRun g shows may_leave is_clean is_true places has history confirmed r
+        → IsFedRun g shows may_leave is_clean is_true places has supposed history confirmed r
         → Ready history (fed_place r.ended) (max confirmed r.ended.applied.confirmed) r.after
-        (IsLeftBy g shows may_leave is_clean is_true places has r.ended.applied.store.ledger))
+        (IsLeftBy g shows may_leave is_clean is_true places has supposed r.ended.applied.store.ledger))
     crashed history confirmed r is stored holds tables held sent run s folder found opens honest left = elim run.left [
       | inl crash ↦ ∥∥₁_map (reopened.left_is_reopened g over_files r.ended.applied.store.store s.store r.after crash found) (λ there.
           let it = run.crash history r.all_complete tables held sent s
-          (there, again r.ended.applied.store.ledger s.ledger s.store.position folder left opens honest) in
+          (there, λ so. again r.ended.applied.store.ledger s.ledger s.store.position folder (left so) opens (honest so)) in
           recovers history (fed_place r.ended) (max confirmed r.ended.applied.confirmed) s it.tables is it.held it.same it.position
           (stored_both history s.store.position confirmed r.ended.applied.confirmed
           (stored_up history (fed_place r.ended) s.store.position confirmed it.position stored) it.stored))
@@ -144,7 +147,7 @@ module _ {D F E : Type 0} (g : disk.Ghosts D) (shows : E → List ℕ) (may_leav
     ]
 
     went : (history : List Transaction) (position confirmed : ℕ) (r : FedRun g F E) → IsHistory history
-        → IsFedRun g shows may_leave is_clean is_true places has history confirmed r
+        → IsFedRun g shows may_leave is_clean is_true places has supposed history confirmed r
         → Recovers history position confirmed r.begun.applied.store → Went history position confirmed r
     went history position confirmed r is run once =
         let tables = once.tables in
@@ -181,8 +184,8 @@ module _ {D F E : Type 0} (g : disk.Ghosts D) (shows : E → List ℕ) (may_leav
 
     through : (history : List Transaction) → IsHistory history → (position confirmed : ℕ) (content : Image) (is_left : ℕ → F → Type 0)
         (runs : List (FedRun g F E)) → Ready history position confirmed content is_left
-        → AreFedRuns g shows may_leave is_clean is_true places has history content is_left confirmed runs
-        → ∥ HoldFedThrough g shows may_leave is_clean is_true places has history position confirmed runs ∥₁
+        → AreFedRuns g shows may_leave is_clean is_true places has supposed history content is_left confirmed runs
+        → ∥ HoldFedThrough g shows may_leave is_clean is_true places has supposed history position confirmed runs ∥₁
     through history is position confirmed content is_left [] ready are = ∣ tt ∣₁
     through history is position confirmed content is_left (r ∷ runs) ready are =
         let run = are.2 in
@@ -191,7 +194,7 @@ module _ {D F E : Type 0} (g : disk.Ghosts D) (shows : E → List ℕ) (may_leav
         let w = went history position confirmed r is run once in
         let now = max confirmed r.ended.applied.confirmed in
         ∥∥₁_map (through history is (fed_place r.ended) now r.after
-        (IsLeftBy g shows may_leave is_clean is_true places has r.ended.applied.store.ledger) runs w.next are.3)
+        (IsLeftBy g shows may_leave is_clean is_true places has supposed r.ended.applied.store.ledger) runs w.next are.3)
         (λ more. (w.low, w.up, told history confirmed r.begun w.before, λ serves. told history now r.ended (w.later serves), more)))
 
     begins : (history : List Transaction) (content : Image) → IsHistory history → IsEmptyContent content
@@ -201,12 +204,13 @@ module _ {D F E : Type 0} (g : disk.Ghosts D) (shows : E → List ℕ) (may_leav
         let at : 0 ≡ s.store.position = nothing.position in
         ∣ recovers history 0 0 s map.empty is (
           nothing.stored,
-          beside.begins_with shows may_leave is_clean is_true places has folder s.ledger map.empty s.store.position
-              s.store.group.reach opens honest none,
+          λ so.
+              beside.begins_with shows may_leave is_clean is_true places has folder s.ledger map.empty s.store.position
+              s.store.group.reach opens (honest so) (none so),
         )
         (subst (λ p. tables_as_of history p ≡ Ok map.empty) at (nothing_yet history is)) (omega arith)
         (stored_none history s.store.position) ∣₁
 
-    pub one_fed_life : OneFedLife g shows may_leave is_clean is_true places has
+    pub one_fed_life : OneFedLife g shows may_leave is_clean is_true places has supposed
     one_fed_life history content runs is empty are =
         through history is 0 0 content (λ p folder. places folder ≡ []) runs (begins history content is empty) are

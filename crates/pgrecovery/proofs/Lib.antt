@@ -1,3 +1,10 @@
 mod Recovered
 mod Life
 mod FedLife
+mod StoredOnce
+mod LifeSessions
+mod LifeFeeds
+mod LifeTakes
+mod LifeFed
+mod LifeRows
+mod LifeAlone

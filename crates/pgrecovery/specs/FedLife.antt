@@ -54,27 +54,31 @@ abbrev pub fed_place : {D F E : Type 0} {g : disk.Ghosts D} → SubscriberValue 
 fed_place s = s.applied.store.store.position
 
 module _ {D F E : Type 0} (g : disk.Ghosts D) (shows : E → List ℕ) (may_leave : E → List ℕ → Type 0) (is_clean : E → Bool)
-    (is_true : F → Type 0) (places : F → List ℕ) (has : F → ℕ → List ℕ → Type 0) where
-  -- the store holds these tables, and the entries of its feed lead to them
+    (is_true : F → Type 0) (places : F → List ℕ) (has : F → ℕ → List ℕ → Type 0) (supposed : Type 0) where
+  -- The store holds these tables. Where that is so which is supposed of the folder, the entries of
+  -- its feed lead to them.
   abbrev pub holds_fed : FedStore g F E → Tables → Type 0
   holds_fed r tables =
       holds_tables over_files r.store tables
-      × RecordsRest shows may_leave is_clean is_true places has r.ledger tables r.store.position r.store.group.reach
+      × (supposed
+      → RecordsRest shows may_leave is_clean is_true places has r.ledger tables r.store.position r.store.group.reach)
 
-  -- a crash leaves this one: the store is opened again, and then the feed at its position
+  -- A crash leaves this one: the store is opened again, and then the feed at its position. Of the
+  -- feed that is asked where that is so which is supposed of the folder.
   abbrev pub reopens_fed : FedStore g F E → FedStore g F E → Type 0
   reopens_fed r other =
       Reopens over_files over_files r.store other.store
-      × ReopensAt shows may_leave is_clean is_true places has r.ledger other.store.position other.ledger
+      × (supposed → ReopensAt shows may_leave is_clean is_true places has r.ledger other.store.position other.ledger)
 
   -- A run of this history. The store was opened on the content, the feed at its position in the
-  -- folder, whose answers were true, and the subscriber over them is new. Its sessions start at
+  -- folder, whose answers were true, if that is so which is supposed of it, and the subscriber over
+  -- them is new. Its sessions start at
   -- most at what was ever confirmed. It followed them, whatever was returned, as `follow` says
   -- (`why`, `crash`), and then it was closed or a crash came, at the end of any call.
   pub record IsFedRun (history : List Transaction) (confirmed : ℕ) (r : FedRun g F E) : Type 0 where
     pub found : HoldsContent over_files r.content r.begun.applied.store.store
     pub opened : OpensIn shows may_leave is_clean is_true places has r.folder (fed_place r.begun) r.begun.applied.store.ledger
-    pub honest : IsHonestFeed shows may_leave is_clean is_true places has r.begun.applied.store.ledger
+    pub honest : supposed → IsHonestFeed shows may_leave is_clean is_true places has r.begun.applied.store.ledger
     pub new : (tables : Tables)
         → seen fed_position r.begun tables ≡ newly tables (fed_place r.begun) r.version r.max_frame r.limit
     pub sent : (tables : Tables)
@@ -95,23 +99,23 @@ module _ {D F E : Type 0} (g : disk.Ghosts D) (shows : E → List ℕ) (may_leav
   abbrev pub IsLeftBy : Feed F E → ℕ → F → Type 0
   IsLeftBy l p folder = (gone : List ℕ) × IsLeftOf shows may_leave is_clean is_true places has l p gone folder
 
-  -- Each run is over what the one before left of files and folder. This much was ever confirmed
-  -- before.
+  -- Each run is over what the one before left of the files; and of the folder, where that is so
+  -- which is supposed of it. This much was ever confirmed before.
   abbrev pub AreFedRuns : List Transaction → Image → (ℕ → F → Type 0) → ℕ → List (FedRun g F E) → Type 0
   AreFedRuns history content is_left confirmed [] = ⊤
   AreFedRuns history content is_left confirmed (r ∷ runs) =
-      (r.content ≡ content) × is_left (fed_place r.begun) r.folder × IsFedRun history confirmed r
+      (r.content ≡ content) × (supposed → is_left (fed_place r.begun) r.folder) × IsFedRun history confirmed r
       × AreFedRuns history r.after (IsLeftBy r.ended.applied.store.ledger) (max confirmed r.ended.applied.confirmed) runs
 
   -- The store holds exactly the history's rows up to its position, with all that was confirmed up
-  -- to that LSN and changes rows. The entries that its feed keeps lead there, from some tables
-  -- where it begins.
+  -- to that LSN and changes rows. Where that is so which is supposed of the folder, the entries
+  -- that its feed keeps lead there, from some tables where it begins.
   pub record HoldsFed (history : List Transaction) (confirmed : ℕ) (s : SubscriberValue (FedStore g F E)) : Type 0 where
     pub tables : Tables
     pub held : holds_tables over_files s.applied.store.store tables
     pub same : tables_as_of history (fed_place s) ≡ Ok tables
     pub stored : NothingBetween history (fed_place s) confirmed
-    pub leads : LeadsFrom shows may_leave is_clean is_true places has s.applied.store.ledger tables (fed_place s)
+    pub leads : supposed → LeadsFrom shows may_leave is_clean is_true places has s.applied.store.ledger tables (fed_place s)
 
   -- So it is in each run, as it begins and, while the store serves, as it ends. Positions never
   -- fall, and what was confirmed in any run is in each later one.
@@ -123,7 +127,8 @@ module _ {D F E : Type 0} (g : disk.Ghosts D) (shows : E → List ℕ) (may_leav
       × HoldFedThrough history (fed_place r.ended) (max confirmed r.ended.applied.confirmed) runs
 
   -- Of any list of runs of one history, the first over files without a store and a folder without
-  -- segments.
+  -- segments. What is supposed of the folder is any statement. With one that is true the law says
+  -- all of store and feed; with one that is false, all of the store, whatever became of the folder.
   abbrev pub OneFedLife : Type 0
   OneFedLife =
       (history : List Transaction) (content : Image) (runs : List (FedRun g F E)) → IsHistory history → IsEmptyContent content

@@ -6,6 +6,7 @@ ghost use Rattle.pgrecovery.specs.FedLife.{OneFedLife};
 ghost use Rattle.pgrecovery.specs.Life.{OneLife};
 
 use pgfeed::Folder;
+use pgledger::Supposing;
 use sqlite::Alter;
 use sqlite_disk::Disk;
 
@@ -43,14 +44,15 @@ pub fn one_life_holds_one_history<D: Disk>()
 {}
 
 /// One life of a store in two files with a feed in a folder: the same, of runs that open both, of
-/// which the first has an empty folder too. Between two runs others may remove any front of ended
-/// segments that lies below the position, and let the folder's answers be true.
+/// which the first has an empty folder too.
 ///
-/// Then what `one_life_holds_one_history` says is so, and the entries that the feed keeps lead,
-/// commit by commit, from some tables where it begins to those that the store holds.
+/// Then what `one_life_holds_one_history` says is so, whatever becomes of the folder. Let its
+/// answers be true as well, and let others remove between two runs any front of ended segments that
+/// lies below the position, and nothing else: then the entries that the feed keeps lead, commit by
+/// commit, from some tables where it begins to those that the store holds.
 ///
 /// PostgreSQL documentation, Logical Replication, Subscription.
-pub fn one_fed_life_holds_one_history<D: Disk, F: Folder + Drop>()
+pub fn one_fed_life_holds_one_history<D: Disk, F: Folder + Supposing + Drop>()
     ensures life { OneFedLife D.Disk F.File.seen F.File.may_leave F.File.is_clean F.is_true
-        F.places F.has }
+        F.places F.has F.supposed }
 {}

@@ -71,9 +71,10 @@ module _ {F D : Type 0} (seen : D → List ℕ) (may_leave : D → List ℕ → 
     pub told : IsOf l.names plan.origin.system.now plan.origin.database.now plan.origin.slot.now
     pub limited : l.limits ≡ plan.limits
 
-  module _ {P S : Type 0} (opens : P → ℕ → Feed F D → Type 0) (g : Ghosts S) where
+  module _ {P S : Type 0} (supposed : Type 0) (opens : P → ℕ → Feed F D → Type 0) (g : Ghosts S) where
     -- A server was followed over the opened store: where no feed was asked for, over that alone,
-    -- and else with the feed that was opened beside it, as `opens` says.
+    -- and else with the feed that was opened beside it, as `opens` says. Then the same is said of
+    -- the store; and of the feed's entries where that is so which is supposed of its folder.
     abbrev pub FollowsBeside : (L : Type 0) → Option (List ℕ) → Option (List ℕ) → ℕ → Option (List ℕ) → Option (List ℕ) → Limits → Version
         → Option FollowFault → StoreValue S → StoreValue S → Option P → Option (Feed F D) → Type 0
     FollowsBeside L unread rest reads wrote wrote' limits version why opened ended None kept =
@@ -81,7 +82,7 @@ module _ {F D : Type 0} (seen : D → List ℕ) (may_leave : D → List ℕ → 
     FollowsBeside L unread rest reads wrote wrote' limits version why opened ended (Some plan) None = ⊥
     FollowsBeside L unread rest reads wrote wrote' limits version why opened ended (Some plan) (Some feed) =
         (begun : Feed F D) × opens plan opened.position begun
-        × (IsHonest g ended → FollowsRecorded g told_from (KeepsRest seen may_leave is_clean is_true places has)
+        × (IsHonest g ended → FollowsRecorded g supposed told_from (KeepsRest seen may_leave is_clean is_true places has)
         (LastsFrom seen may_leave is_clean is_true places has) is_stuck_feed (ReopensAt seen may_leave is_clean is_true places has) L
         unread rest reads wrote wrote' limits version opened begun ended feed why)
 
@@ -98,7 +99,7 @@ module _ {F D : Type 0} (seen : D → List ℕ) (may_leave : D → List ℕ → 
       AppliesBeside limits input why out out' opened ended (Some plan) (Some feed) =
           (begun : Feed F D) × opens plan opened.position begun
           × Applies {C = Recorded (StoreValue S) (Feed F D)} (λ r. IsHonest g r.store) (λ r. Serves g r.store)
-          (HoldsRecorded g told_from (KeepsRest seen may_leave is_clean is_true places has)
+          (HoldsRecorded g supposed told_from (KeepsRest seen may_leave is_clean is_true places has)
           (LastsFrom seen may_leave is_clean is_true places has) is_stuck_feed) (λ r. r.store.position)
-          (ReopensRecorded g (ReopensAt seen may_leave is_clean is_true places has)) gives starts unread takes failed limits input
+          (ReopensRecorded g supposed (ReopensAt seen may_leave is_clean is_true places has)) gives starts unread takes failed limits input
           (record { store = opened; ledger = begun }) (record { store = ended; ledger = feed }) why out out'

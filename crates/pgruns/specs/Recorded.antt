@@ -20,15 +20,19 @@ use Rattle.pgsub_cli.specs.StoreAfter.{HoldsAfter, LosesNothing, MayBeLeft}
 use Rattle.pgsub_cli.specs.Storing.{PrintsOver}
 
 module _ {S G : Type 0} (g : Ghosts S) where
-  -- a crash leaves this one, where the store is opened again, and then the ledger at its position
-  abbrev pub ReopensRecorded : (G → ℕ → G → Type 0) → Recorded (StoreValue S) G → Recorded (StoreValue S) G → Type 0
-  ReopensRecorded reopens r other = Reopens g g r.store other.store × reopens r.ledger other.store.position other.ledger
+  -- A crash leaves this one, where the store is opened again, and then the ledger at its position.
+  -- Of the ledger that is asked where that is so which is supposed of it.
+  abbrev pub ReopensRecorded : Type 0 → (G → ℕ → G → Type 0) → Recorded (StoreValue S) G → Recorded (StoreValue S) G → Type 0
+  ReopensRecorded supposed reopens r other =
+      Reopens g g r.store other.store × (supposed → reopens r.ledger other.store.position other.ledger)
 
-  module _ (begins : G → ℕ) (keeps : G → List Entry → Type 0) (outlasts : G → ℕ → Type 0) (is_stuck : G → Bool) where
-    -- the store holds these tables, and the entries of the ledger lead to them
+  module _ (supposed : Type 0) (begins : G → ℕ) (keeps : G → List Entry → Type 0) (outlasts : G → ℕ → Type 0) (is_stuck : G → Bool) where
+    -- The store holds these tables. Where that is so which is supposed of the ledger, its entries
+    -- lead to them.
     abbrev pub HoldsRecorded : Recorded (StoreValue S) G → Tables → Type 0
     HoldsRecorded r tables =
-        HasTables g r.store tables × Records begins keeps outlasts is_stuck r.ledger tables r.store.position r.store.group.reach
+        HasTables g r.store tables
+        × (supposed → Records begins keeps outlasts is_stuck r.ledger tables r.store.position r.store.group.reach)
 
     -- `FollowsOver`, of a store with its ledger that tells a listener of each settling
     abbrev pub FollowsRecorded : (G → ℕ → G → Type 0) → (L : Type 0) → Option (List ℕ) → Option (List ℕ) → ℕ → Option (List ℕ)
@@ -37,7 +41,7 @@ module _ {S G : Type 0} (g : Ghosts S) where
         (told : Reported (Recorded (StoreValue S) G) L) × (last : Reported (Recorded (StoreValue S) G) L)
         × (told.store.store ≡ opened) × (told.store.ledger ≡ begun) × (last.store.store ≡ ended) × (last.store.ledger ≡ left)
         × FollowsOver {C = Reported (Recorded (StoreValue S) G) L} (λ r. HoldsRecorded r.store) (λ r. r.store.store.position)
-        (λ r other. ReopensRecorded reopens r.store other.store)
+        (λ r other. ReopensRecorded supposed reopens r.store other.store)
         (λ r. Serves g r.store.store) (λ r. r.store.store.group.missed) unread rest reads wrote wrote' limits version told last why
 
 -- What came was applied to the one, which led to the other: its lines were printed, and what it

@@ -23,6 +23,7 @@ use crate::opening::FeedOpening;
 use crate::telling::{tell_unapplied, tell_unfed};
 use pgfeed::{Feed, FeedFault, Folder, Origin, SegmentLimits};
 use pgfollow::{Clock, Link};
+use pgledger::Supposing;
 use pglsn::Lsn;
 use pgorder::Version;
 use pgstore::Store;
@@ -105,7 +106,7 @@ impl<D: Folder + Drop> FeedOpening<D> for FeedPlan<'_, D> {
 /// standard error gets why, and nothing is followed.
 pub(crate) fn follow_over<
     S: Alter + Drop,
-    D: Folder + Drop,
+    D: Folder + Supposing + Drop,
     B: FeedOpening<D> + Drop,
     L: Listener + Drop,
     R: Read + Drop,
@@ -131,7 +132,7 @@ pub(crate) fn follow_over<
         × ((why ≡ Some fault.Write) ↔ (io.new.link.write_failed ≡ true))
         × IfSome why IsOfFollowing
         × ((IsHonest S.Store result.1 → Serves S.Store store) → FollowsBeside D.File.seen
-        D.File.may_leave D.File.is_clean D.is_true D.places D.has B.opens S.Store L
+        D.File.may_leave D.File.is_clean D.is_true D.places D.has D.supposed B.opens S.Store L
         (R.remaining io.old.link.reader) (R.remaining io.new.link.reader) io.new.link.reads
         (W.contents io.old.link.writer) (W.contents io.new.link.writer) plan.limits
         plan.version why store result.1 plan.feed result.2) }
@@ -182,7 +183,7 @@ pub(crate) fn follow_over<
 /// and prints what the store holds then. Returns what `follow_over` does.
 pub(crate) fn apply_over<
     S: Alter + Drop,
-    D: Folder + Drop,
+    D: Folder + Supposing + Drop,
     B: FeedOpening<D> + Drop,
     R: Input + Drop,
     K: Ticks + Drop,
@@ -204,9 +205,9 @@ pub(crate) fn apply_over<
         × (result.0 ≡ status_of why)
         × Tells E.takes E.failed [] [] why err.old err.new
         × ((IsHonest S.Store result.1 → Serves S.Store store) → AppliesBeside D.File.seen
-        D.File.may_leave D.File.is_clean D.is_true D.places D.has B.opens S.Store R.gives R.begins
-        R.failed W.takes W.failed plan.entry.limits plan.entry.input why out.old out.new store
-        result.1 plan.entry.feed result.2) }
+        D.File.may_leave D.File.is_clean D.is_true D.places D.has D.supposed B.opens S.Store
+        R.gives R.begins R.failed W.takes W.failed plan.entry.limits plan.entry.input why out.old
+        out.new store result.1 plan.entry.feed result.2) }
     ensures honest { IsHonest S.Store result.1 → IsHonest S.Store store }
 {
     let ApplyPlan {

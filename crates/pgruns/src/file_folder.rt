@@ -3,6 +3,7 @@
 ghost use Rattle.std.specs.Prelude.{◌≡◌, None, IfOk, IsTrue};
 
 use pgfeed::{FeedFault, Folder};
+use pgledger::Supposing;
 use pglsn::Lsn;
 use sqlite::{FileFrom, Unknown};
 use sqlite_disk::Disk;
@@ -148,6 +149,12 @@ impl<'r> FileFolder<'r> {
         fs::remove_file(self.rt, log.as_str()).map_err(io_fault)?;
         Ok(files.db)
     }
+}
+
+/// Of a feed in this folder no clause is said, as of its answers. So what is said of a run with one
+/// is said of the store alone.
+impl Supposing for FileFolder<'_> {
+    ghost supposed = { ⊥ };
 }
 
 /// What files hold as they are opened is named by `Unknown`, which says nothing of one that isn't

@@ -36,6 +36,7 @@ use crate::fed::{ApplyPlan, FollowPlan, LiveIo, apply_over, follow_over};
 use crate::opening::{FeedOpening, Opening};
 use pgfeed::{Feed, Folder};
 use pgfollow::Clock;
+use pgledger::Supposing;
 use pgstore::Store;
 use pgsub_cli::files::{Input, Output};
 use pgsub_cli::following::tell_unfollowed;
@@ -88,7 +89,7 @@ fn dump_store<S: Alter + Drop, W: Output + Drop, E: Output>(
 pub fn follow<
     F: Start,
     O: Opening<F>,
-    D: Folder + Drop,
+    D: Folder + Supposing + Drop,
     B: FeedOpening<D> + Drop,
     L: Listener + Drop,
     R: Read + Drop,
@@ -124,7 +125,7 @@ pub fn follow<
         × RunsInFiles (image_at F.Start) (λ opened ended.
         (result.0 ≡ status_closed status_of_unclosed (status_of_follow ended.group.missed.count why)
         (fault_of_closing closing)) × FollowsBeside D.File.seen D.File.may_leave D.File.is_clean
-        D.is_true D.places D.has B.opens over_files L (R.remaining io.old.link.reader)
+        D.is_true D.places D.has D.supposed B.opens over_files L (R.remaining io.old.link.reader)
         (R.remaining io.new.link.reader) io.new.link.reads (W.contents io.old.link.writer)
         (W.contents io.new.link.writer) plan.limits plan.version why opened ended
         plan.feed result.2) closing) }
@@ -155,7 +156,7 @@ pub fn follow<
 pub fn apply<
     F: Start,
     O: Opening<F>,
-    D: Folder + Drop,
+    D: Folder + Supposing + Drop,
     B: FeedOpening<D> + Drop,
     R: Input + Drop,
     K: Ticks + Drop,
@@ -186,9 +187,9 @@ pub fn apply<
         × TellsBoth E.takes E.failed (Tells E.takes E.failed [] [] why)
         (fault_of_closing closing) err.old err.new
         × RunsInFiles (image_at F.Start) (λ opened ended. AppliesBeside D.File.seen
-        D.File.may_leave D.File.is_clean D.is_true D.places D.has B.opens over_files R.gives
-        R.begins R.failed W.takes W.failed plan.entry.limits plan.entry.input why out.old out.new
-        opened ended plan.entry.feed result.2) closing) }
+        D.File.may_leave D.File.is_clean D.is_true D.places D.has D.supposed B.opens over_files
+        R.gives R.begins R.failed W.takes W.failed plan.entry.limits plan.entry.input why out.old
+        out.new opened ended plan.entry.feed result.2) closing) }
 {
     match opening.open(alloc) {
         Ok(store) => {

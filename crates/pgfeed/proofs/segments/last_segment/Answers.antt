@@ -17,7 +17,7 @@ returns-then-is_empty-clause-cuts g c = λ honest clean.
 
 pub returns-clause-cuts : goal.returns-clause-cuts
 returns-clause-cuts g c = λ honest clean.
-    let gone = c.in_ok-remove_all.ensures honest in
+    let gone = c.in_ok-remove_all.ensures.removed honest in
     let away = c.segment_at.ensures.stays gone.was_true in
     let stays = c.bases.ensures.stays away.was_true in
     let split : g.F.Folder.places c.args.folder.now ≡ c.split_at.result.0.now ++ c.split_at.result.1.now =

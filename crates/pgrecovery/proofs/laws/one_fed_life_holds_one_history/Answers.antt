@@ -4,5 +4,5 @@ use Rattle.pgrecovery.proofs.laws.one_fed_life_holds_one_history.Goals as goal
 pub returns : goal.returns
 returns g c = record {
   life = one_fed_life g.D.Disk g.F.File.Disk.seen g.F.File.Disk.may_leave g.F.File.Disk.is_clean g.F.Folder.is_true g.F.Folder.places
-      g.F.Folder.has g.met.F.File.Disk.seen_may_stay;
+      g.F.Folder.has g.F.Supposing.supposed g.met.F.File.Disk.seen_may_stay;
 }

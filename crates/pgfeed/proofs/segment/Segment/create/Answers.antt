@@ -10,7 +10,7 @@ returns-in-Ok-put_head-clause-keeps g c =
     let is : c.as_str.result.now ≡ head = c.as_str.ensures.value in
     let size : length head ≡ 1024 = c.in-Ok.ensures.size in
     let some : 0 < length c.as_str.result.now = omega (arith, ap length is) in
-    let put = c.in-Ok-put_head.ensures some in
+    let put = c.in-Ok-put_head.ensures.put some in
     let file : g.D.Disk.seen c.of.result.disk ≡ head = ap g.D.Disk.seen c.of.ensures.disk ∙ put.0 ∙ is in
     head_keeps c.args.base _ _ _ head _ _ _ _ c.in-Ok.ensures.head size (search rules) c.of.ensures.base c.of.ensures.last c.of.ensures.size
     file
@@ -21,7 +21,7 @@ returns-in-Ok-put_head-clause-lasts g c =
     let is : c.as_str.result.now ≡ head = c.as_str.ensures.value in
     let size : length head ≡ 1024 = c.in-Ok.ensures.size in
     let some : 0 < length c.as_str.result.now = omega (arith, ap length is) in
-    let put = c.in-Ok-put_head.ensures some in
+    let put = c.in-Ok-put_head.ensures.put some in
     let only : Only head (g.D.Disk.may_leave c.of.result.disk) =
     subst (λ d. Only head (g.D.Disk.may_leave d)) (sym c.of.ensures.disk)
     (subst (λ text. Only text (g.D.Disk.may_leave c.put_head.new.disk)) is put.1) in
@@ -32,5 +32,5 @@ returns-in-Ok-put_head-clause-told g c =
     let head : List ℕ = string_bytes c.in-Ok.head in
     let is : c.as_str.result.now ≡ head = c.as_str.ensures.value in
     let some : 0 < length c.as_str.result.now = omega (arith, ap length is, c.in-Ok.ensures.size) in
-    let put = c.in-Ok-put_head.ensures some in
+    let put = c.in-Ok-put_head.ensures.put some in
     ap g.D.Disk.seen c.of.ensures.disk ∙ put.0 ∙ is ∙ c.in-Ok.ensures.head

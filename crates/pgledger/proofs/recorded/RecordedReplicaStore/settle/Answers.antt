@@ -20,11 +20,11 @@ returns-clause-settled g c serves =
     c.settle_with.ensures.end
     (λ settles both is tables h. (
       settles tables h.0,
-      subst (λ p. Records l.begins l.keeps l.outlasts l.is_stuck c.settle_with.new.ledger tables p (s.reach c.settle_with.new.self))
+      λ so. subst (λ p. Records l.begins l.keeps l.outlasts l.is_stuck c.settle_with.new.ledger tables p (s.reach c.settle_with.new.self))
           (sym is)
           (settled_records l.begins l.keeps l.outlasts l.is_stuck l.is_wanting l.reopens old.ledger c.settle_with.new.ledger
           c.settle_with.ensures.rests tables (s.reach old.store) (s.reach c.settle_with.new.self)
-          c.settle_with.ensures.kept both.0 (h.1.staged both.1)),
+          c.settle_with.ensures.kept both.0 ((h.1 so).staged both.1)),
     ))
 
 pub returns-clause-unchanged : goal.returns-clause-unchanged
@@ -35,11 +35,11 @@ returns-clause-unchanged g c serves =
     of_err c.settle_with.result (c.settle_with.ensures.unchanged serves) c.settle_with.ensures.position c.settle_with.ensures.stuck
     (λ stays is stuck tables h. (
       stays tables h.0,
-      subst (λ p. Records l.begins l.keeps l.outlasts l.is_stuck c.settle_with.new.ledger tables p (s.reach c.settle_with.new.self))
+      λ so. subst (λ p. Records l.begins l.keeps l.outlasts l.is_stuck c.settle_with.new.ledger tables p (s.reach c.settle_with.new.self))
           (sym is)
           (kept_records l.begins l.keeps l.outlasts l.is_stuck l.is_wanting l.reopens old.ledger c.settle_with.new.ledger
           c.settle_with.ensures.rests tables (s.place old.store) (s.reach old.store) (s.reach c.settle_with.new.self)
-          c.settle_with.ensures.kept (λ stands _. absurd (let never : ⊥ = cc in never)) h.1),
+          c.settle_with.ensures.kept (λ stands _. absurd (let never : ⊥ = cc in never)) (h.1 so)),
     ))
 
 pub returns-clause-crash : goal.returns-clause-crash
@@ -48,17 +48,17 @@ returns-clause-crash g c honest other r =
     let s = g.S.ReplicaStore in
     let old = c.args.self.now in
     elim (c.settle_with.ensures.crash honest other.store r.0) [
-      | inl was ↦ inl (was, c.settle_with.ensures.rests.reopens_less _ other.ledger r.1)
+      | inl was ↦ inl (was, λ so. c.settle_with.ensures.rests.reopens_less _ other.ledger (r.1 so))
       | inr all ↦ inr (
         all.0,
         (
           λ tables h. (
             all.1.0 tables h.0,
-            same_records l.begins l.keeps l.outlasts l.is_stuck l.is_wanting l.reopens g.met.L.Ledger.cuts c.settle_with.new.ledger
-                other.ledger tables (s.reach old.store) (s.reach old.store) _ _ all.1.1 r.1
+            λ so. same_records l.begins l.keeps l.outlasts l.is_stuck l.is_wanting l.reopens g.met.L.Ledger.cuts c.settle_with.new.ledger
+                other.ledger tables (s.reach old.store) (s.reach old.store) _ _ all.1.1 (r.1 so)
                 (settled_records l.begins l.keeps l.outlasts l.is_stuck l.is_wanting l.reopens old.ledger c.settle_with.new.ledger
                 c.settle_with.ensures.rests tables (s.reach old.store) (s.reach old.store) c.settle_with.ensures.kept all.3
-                (h.1.staged all.2)),
+                ((h.1 so).staged all.2)),
           ),
           all.1.1,
         ),

@@ -19,14 +19,14 @@ returns-clause-staged g c serves =
       n.1,
       (
         n.2,
-        record {
+        λ so. record {
           held = λ here. absurd (let order = c.reached-reached.ensures.order in let later = c.requires in
               let place = c.stage_with.ensures.position in let never : ⊥ = omega (arith, order, later, place, is, here) in never);
           staged = λ stands.
               subst (λ p. Stages l.begins l.keeps l.outlasts l.is_stuck ledger n.0 p) (sym is)
               (more_staged l.begins l.keeps l.outlasts l.is_stuck l.is_wanting l.reopens old.ledger ledger c.stage_with.ensures.rests tables
               (s.reach old.store) end c.args.commit.now.about
-              c.args.commit.now.work.now.changes n.0 c.requires n.1 (told tables h.0) (h.1.staged free));
+              c.args.commit.now.work.now.changes n.0 c.requires n.1 (told tables h.0) ((h.1 so).staged free));
         },
       ),
     ))
@@ -42,11 +42,11 @@ returns-clause-undone g c serves =
     of_err c.stage_with.result (c.stage_with.ensures.undone serves) c.stage_with.ensures.reach c.stage_with.ensures.untold
     (λ stays is untold tables h. (
       stays tables h.0,
-      subst (λ p. Plans l.begins l.keeps l.outlasts l.is_stuck ledger tables p (s.reach c.stage_with.new.self))
+      λ so. subst (λ p. Plans l.begins l.keeps l.outlasts l.is_stuck ledger tables p (s.reach c.stage_with.new.self))
           (sym c.stage_with.ensures.position)
           (subst (λ r. Plans l.begins l.keeps l.outlasts l.is_stuck ledger tables (s.place old.store) r) (sym is)
           (refused_plans l.begins l.keeps l.outlasts l.is_stuck l.is_wanting l.reopens old.ledger ledger c.stage_with.ensures.rests tables
-          (s.place old.store) c.args.commit.now.end later c.stage_with.ensures.at_most untold (s.reach old.store) h.1)),
+          (s.place old.store) c.args.commit.now.end later c.stage_with.ensures.at_most untold (s.reach old.store) (h.1 so))),
     ))
 
 pub returns-clause-unchanged : goal.returns-clause-unchanged
@@ -59,13 +59,13 @@ returns-clause-unchanged g c serves tables h =
     let later : s.place old.store < end = let order = c.reached-reached.ensures.order in let more = c.requires in
     omega (arith, order, more) in (
       c.stage_with.ensures.unchanged serves tables h.0,
-      subst (λ p. Records l.begins l.keeps l.outlasts l.is_stuck ledger tables p (s.reach c.stage_with.new.self))
+      λ so. subst (λ p. Records l.begins l.keeps l.outlasts l.is_stuck ledger tables p (s.reach c.stage_with.new.self))
           (sym c.stage_with.ensures.position)
           (of_both c.stage_with.result c.stage_with.ensures.end c.stage_with.ensures.reach c.stage_with.ensures.untold
           (λ is. more_records l.begins l.keeps l.outlasts l.is_stuck l.is_wanting l.reopens old.ledger ledger c.stage_with.ensures.rests
           tables (s.place old.store) (s.reach old.store) (s.reach c.stage_with.new.self) end later
-          c.stage_with.ensures.at_most (λ _ here. let never : ⊥ = omega (arith, later, is, here) in never) h.1)
+          c.stage_with.ensures.at_most (λ _ here. let never : ⊥ = omega (arith, later, is, here) in never) (h.1 so))
           (λ is untold. subst (λ r. Records l.begins l.keeps l.outlasts l.is_stuck ledger tables (s.place old.store) r) (sym is)
           (refused_records l.begins l.keeps l.outlasts l.is_stuck l.is_wanting l.reopens old.ledger ledger c.stage_with.ensures.rests tables
-          (s.place old.store) end later c.stage_with.ensures.at_most untold (s.reach old.store) h.1))),
+          (s.place old.store) end later c.stage_with.ensures.at_most untold (s.reach old.store) (h.1 so)))),
     )

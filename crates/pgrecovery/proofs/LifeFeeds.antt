@@ -1,0 +1,663 @@
+-- A folder in memory, and the feed of the worked life in it: as it is opened in each run, as each
+-- run leaves it, and the folder then, once after a crash and once after others removed a segment.
+use Rattle.std.proofs.Common.{◌≡◌, ◌≢◌, ◌<◌, ◌+◌, ◌++◌, ◌⊎◌, [], ◌∷◌, List, ℕ, Bool, true, false}
+use Rattle.std.proofs.Common.{Some}
+use Rattle.std.proofs.Common.{None, Option, Ok, refl, sym, ap, ◌∙◌, subst, pos, arith, inl, inr}
+use Rattle.std.proofs.Common.{length}
+use Rattle.std.proofs.Common.{append-nil, append_assoc, length-append}
+use Rattle.std.specs.Prelude.{⊤, IsTrue, ◌^◌, take, drop, codes, FitsSigned, map as mapped}
+use Rattle.std.specs.Int.{w64}
+use Rattle.std.proofs.lemmas.Int.{fits_signed_from_abs}
+use Rattle.std.specs.List.{AllByRecursion}
+use Rattle.std.specs.Fmt.{digits}
+use Rattle.std.specs.FinMap as map
+use Rattle.json.specs.Print.{escape_byte}
+use Rattle.pglsn.specs.Texts.{lsn_text, half_text}
+use Rattle.pgtuple.specs.Cells.{tuple_spelling}
+use Rattle.pgapply.specs.declared.commit.About.{About}
+use Rattle.pgapply.specs.Apply.{Change, apply, fold_changes, rows_after}
+use Rattle.pgapply.specs.Value.{Tables}
+use Rattle.pgledger.specs.declared.image.Image.{Image}
+use Rattle.pgledger.specs.declared.image.Image.TheVariants.{Inserted, Updated, Deleted}
+use Rattle.pgledger.specs.Images.{image_of, images}
+use Rattle.pgledger.specs.Entries.{Entry, LeadTo, entry_of, last_end}
+use Rattle.pgfeed.specs.declared.feed.Feed.{Feed}
+use Rattle.pgfeed.specs.declared.segment.Segment.{Segment}
+use Rattle.pgfeed.specs.Texts.{body_text, closing_line, entries_text, key_data}
+use Rattle.pgfeed.specs.Texts.{segment_front, segment_head, segment_object, segment_rest}
+use Rattle.pgfeed.specs.Texts.{table_front}
+use Rattle.pgfeed.specs.Texts.{table_rest}
+use Rattle.pgfeed.specs.Fits.{FitsEntry}
+use Rattle.pgfeed.specs.Reading.{AreEntries, Walks, mark_of}
+use Rattle.pgfeed.specs.Segments.{IsCut, IsEnded, IsFound, IsHead, KeepsEntries}
+use Rattle.pgfeed.specs.Segments.{Lasts}
+use Rattle.pgfeed.specs.Feeds.{IsHonestFeed, KeepsAll, LeavesAt, OpensIn, SomeLeaves}
+use Rattle.pgfeed.specs.Lasting.{IsLeftOf}
+use Rattle.pgfeed.specs.Beside.{LeadsFrom, RecordsRest}
+use Rattle.pgfeed.specs.Cutting.Walking.{drop_front, over_entries, take_front}
+use Rattle.pgfeed.specs.Cutting.Kept.{text_append}
+use Rattle.pgfeed.specs.Cutting.Widths.{padded_length}
+use Rattle.pgsub_core.specs.Server.Work.{surviving_changes}
+use Rattle.pgsub_core.proofs.Samples.{lookups, t, text}
+use Rattle.pgrecovery.proofs.LifeSessions.{tables_304, tables_448, tables_560, tables_672}
+use Rattle.pgrecovery.proofs.LifeSessions.{tables_816}
+use Rattle.pgrecovery.proofs.LifeSessions.{tx_10, tx_11, tx_12, tx_13, tx_14}
+
+-- ---- a folder in memory: its files, each with the LSN that names it, and their texts
+
+abbrev pub Folder : Type 0
+Folder = List (ℕ × List ℕ)
+
+abbrev pub places : Folder → List ℕ
+places [] = []
+places (file ∷ folder) = file.0 ∷ places folder
+
+abbrev pub has : Folder → ℕ → List ℕ → Type 0
+has [] b text = ⊥
+has (file ∷ folder) b text = ((file.0 ≡ b) × (file.1 ≡ text)) ⊎ has folder b text
+
+-- an open file is its text; a crash leaves this very text, and all that is returned is true
+abbrev pub shows : List ℕ → List ℕ
+shows file = file
+
+abbrev pub may_leave : List ℕ → List ℕ → Type 0
+may_leave file left = left ≡ file
+
+abbrev pub is_clean : List ℕ → Bool
+is_clean file = true
+
+abbrev pub is_true : Folder → Type 0
+is_true folder = ⊤
+
+abbrev pub MemoryFeed : Type 0
+MemoryFeed = Feed Folder (List ℕ)
+
+-- ---- the entries
+
+abbrev about : ℕ → ℕ → Option About
+about lsn xid = Some (record { final_lsn = lsn; xid = xid; time = pos 0 })
+
+abbrev told : ℕ → ℕ → ℕ → Image → Entry
+told lsn xid end image = record { end = end; about = about lsn xid; lines = record { definition = t; image = image } ∷ [] }
+
+abbrev pub entry_10 : Entry
+entry_10 = told 256 10 304 (Inserted (text 49 ∷ text 97 ∷ []))
+
+abbrev pub entry_11 : Entry
+entry_11 = told 400 11 448 (Inserted (text 50 ∷ text 98 ∷ []))
+
+-- whole rows: the one that was there, and the one that replaces it
+abbrev pub entry_12 : Entry
+entry_12 = told 512 12 560 (Updated (text 49 ∷ text 97 ∷ []) (text 49 ∷ text 99 ∷ []))
+
+abbrev pub entry_13 : Entry
+entry_13 = told 624 13 672 (Deleted (text 50 ∷ text 98 ∷ []))
+
+abbrev pub entry_14 : Entry
+entry_14 = told 768 14 816 (Inserted (text 51 ∷ text 100 ∷ []))
+
+-- what was there is computed from the rows: only the key of the one that goes was sent
+image_12 : images tables_448 (surviving_changes tx_12.work) ≡ Updated (text 49 ∷ text 97 ∷ []) (text 49 ∷ text 99 ∷ []) ∷ []
+unfolding images image_of apply rows_after tuple_spelling
+image_12 = simp lookups
+
+image_13 : images tables_560 (surviving_changes tx_13.work) ≡ Deleted (text 50 ∷ text 98 ∷ []) ∷ []
+unfolding images image_of apply rows_after tuple_spelling
+image_13 = simp lookups
+
+clock_fits : FitsSigned w64 (pos 0)
+clock_fits = fits_signed_from_abs w64 (pos 0) (omega arith)
+
+fits_10 : (prev : ℕ) → prev < 2 ^ 64 → FitsEntry prev entry_10
+unfolding body_text lsn_text half_text digits escape_byte table_front table_rest key_data lib.Utf8.encode
+fits_10 prev low = record {
+  end_fits = omega arith;
+  prev_fits = low;
+  bytes_fit = omega arith;
+  changes_fit = omega arith;
+  about_fits = record { final_lsn = omega arith; xid = omega arith; time = clock_fits };
+}
+
+fits_11 : (prev : ℕ) → prev < 2 ^ 64 → FitsEntry prev entry_11
+unfolding body_text lsn_text half_text digits escape_byte table_front table_rest key_data lib.Utf8.encode
+fits_11 prev low = record {
+  end_fits = omega arith;
+  prev_fits = low;
+  bytes_fit = omega arith;
+  changes_fit = omega arith;
+  about_fits = record { final_lsn = omega arith; xid = omega arith; time = clock_fits };
+}
+
+fits_12 : (prev : ℕ) → prev < 2 ^ 64 → FitsEntry prev entry_12
+unfolding body_text lsn_text half_text digits escape_byte table_front table_rest key_data lib.Utf8.encode
+fits_12 prev low = record {
+  end_fits = omega arith;
+  prev_fits = low;
+  bytes_fit = omega arith;
+  changes_fit = omega arith;
+  about_fits = record { final_lsn = omega arith; xid = omega arith; time = clock_fits };
+}
+
+fits_13 : (prev : ℕ) → prev < 2 ^ 64 → FitsEntry prev entry_13
+unfolding body_text lsn_text half_text digits escape_byte table_front table_rest key_data lib.Utf8.encode
+fits_13 prev low = record {
+  end_fits = omega arith;
+  prev_fits = low;
+  bytes_fit = omega arith;
+  changes_fit = omega arith;
+  about_fits = record { final_lsn = omega arith; xid = omega arith; time = clock_fits };
+}
+
+fits_14 : (prev : ℕ) → prev < 2 ^ 64 → FitsEntry prev entry_14
+unfolding body_text lsn_text half_text digits escape_byte table_front table_rest key_data lib.Utf8.encode
+fits_14 prev low = record {
+  end_fits = omega arith;
+  prev_fits = low;
+  bytes_fit = omega arith;
+  changes_fit = omega arith;
+  about_fits = record { final_lsn = omega arith; xid = omega arith; time = clock_fits };
+}
+
+abbrev pub first_three : List Entry
+first_three = entry_10 ∷ entry_11 ∷ entry_12 ∷ []
+
+are_10 : AreEntries 0 (entry_10 ∷ [])
+are_10 = (omega arith, fits_10 0 (omega arith), tt)
+
+are_three : AreEntries 0 first_three
+are_three = (
+  omega arith,
+  fits_10 0 (omega arith),
+  (omega arith, fits_11 304 (omega arith), (omega arith, fits_12 448 (omega arith), tt)),
+)
+
+are_13 : AreEntries 560 (entry_13 ∷ [])
+are_13 = (omega arith, fits_13 560 (omega arith), tt)
+
+are_14 : AreEntries 560 (entry_13 ∷ entry_14 ∷ [])
+are_14 = (omega arith, fits_13 560 (omega arith), (omega arith, fits_14 672 (omega arith), tt))
+
+-- ---- where they lead: each entry has the images of its transaction's changes over the rows before
+-- it, and these changes give the rows after it
+
+one_entry : (tables mid : Tables) (at : ℕ) (e : Entry) (changes : List Change) (is : List Image) (es : List Entry) (tables' : Tables)
+    (at' : ℕ)
+    → at < e.end → images tables changes ≡ is → e ≡ entry_of e.end e.about changes is → fold_changes tables changes ≡ Ok mid
+    → LeadTo mid e.end es tables' at'
+    → LeadTo tables at (e ∷ es) tables' at'
+one_entry tables mid at e changes is es tables' at' up are entry folds more =
+    (up, (changes, entry ∙ ap (λ is. entry_of e.end e.about changes is) (sym are), (mid, folds, more)))
+
+image_10 : images map.empty (surviving_changes tx_10.work) ≡ Inserted (text 49 ∷ text 97 ∷ []) ∷ []
+unfolding images image_of apply rows_after tuple_spelling
+image_10 = simp lookups
+
+image_11 : images tables_304 (surviving_changes tx_11.work) ≡ Inserted (text 50 ∷ text 98 ∷ []) ∷ []
+unfolding images image_of apply rows_after tuple_spelling
+image_11 = simp lookups
+
+image_14 : images tables_672 (surviving_changes tx_14.work) ≡ Inserted (text 51 ∷ text 100 ∷ []) ∷ []
+unfolding images image_of apply rows_after tuple_spelling
+image_14 = simp lookups
+
+pub folds_10 : fold_changes map.empty (surviving_changes tx_10.work) ≡ Ok tables_304
+unfolding fold_changes apply rows_after tuple_spelling
+folds_10 = simp lookups
+
+pub folds_11 : fold_changes tables_304 (surviving_changes tx_11.work) ≡ Ok tables_448
+unfolding fold_changes apply rows_after tuple_spelling
+folds_11 = simp lookups
+
+pub folds_12 : fold_changes tables_448 (surviving_changes tx_12.work) ≡ Ok tables_560
+unfolding fold_changes apply rows_after tuple_spelling
+folds_12 = simp lookups
+
+pub folds_13 : fold_changes tables_560 (surviving_changes tx_13.work) ≡ Ok tables_672
+unfolding fold_changes apply rows_after tuple_spelling
+folds_13 = simp lookups
+
+pub folds_14 : fold_changes tables_672 (surviving_changes tx_14.work) ≡ Ok tables_816
+unfolding fold_changes apply rows_after tuple_spelling
+folds_14 = simp lookups
+
+lead_10 : (es : List Entry) (tables : Tables) (place : ℕ) → LeadTo tables_304 304 es tables place
+    → LeadTo map.empty 0 (entry_10 ∷ es) tables place
+lead_10 es tables place more =
+    one_entry map.empty tables_304 0 entry_10 (surviving_changes tx_10.work) _ es tables place (omega arith) image_10 refl folds_10 more
+
+lead_12 : (es : List Entry) (tables : Tables) (place : ℕ) → LeadTo tables_560 560 es tables place
+    → LeadTo tables_304 304 (entry_11 ∷ entry_12 ∷ es) tables place
+lead_12 es tables place more =
+    one_entry tables_304 tables_448 304 entry_11 (surviving_changes tx_11.work) _ (entry_12 ∷ es) tables place (omega arith) image_11
+    refl folds_11
+    (one_entry tables_448 tables_560 448 entry_12 (surviving_changes tx_12.work) _ es tables place (omega arith) image_12 refl folds_12
+    more)
+
+lead_13 : (es : List Entry) (tables : Tables) (place : ℕ) → LeadTo tables_672 672 es tables place
+    → LeadTo tables_560 560 (entry_13 ∷ es) tables place
+lead_13 es tables place more =
+    one_entry tables_560 tables_672 560 entry_13 (surviving_changes tx_13.work) _ es tables place (omega arith) image_13 refl folds_13 more
+
+lead_14 : LeadTo tables_672 672 (entry_14 ∷ []) tables_816 816
+lead_14 =
+    one_entry tables_672 tables_816 672 entry_14 (surviving_changes tx_14.work) _ [] tables_816 816 (omega arith) image_14 refl folds_14
+    (refl, refl)
+
+-- what run three's feed keeps leads from the rows at the segment that is left to the last ones
+pub leads_560 : LeadTo tables_560 560 (entry_13 ∷ entry_14 ∷ []) tables_816 816
+leads_560 = lead_13 (entry_14 ∷ []) tables_816 816 lead_14
+
+-- ---- segments: a head, and entries
+
+unfoldable pub head : ℕ → List ℕ
+head base = segment_head base (codes "7231") (codes "shop") (codes "copy")
+
+abbrev pub file : ℕ → List Entry → List ℕ
+file base es = head base ++ entries_text base es
+
+abbrev pub size_of : ℕ → List Entry → ℕ
+size_of base es = 1024 + length (entries_text base es)
+
+object_0 : length (segment_object 0 (codes "7231") (codes "shop") (codes "copy")) < 1024
+unfolding lsn_text half_text digits escape_byte
+object_0 = omega arith
+
+object_560 : length (segment_object 560 (codes "7231") (codes "shop") (codes "copy")) < 1024
+unfolding lsn_text half_text digits escape_byte
+object_560 = omega arith
+
+head_of : (base : ℕ) → base < 2 ^ 64 → length (segment_object base (codes "7231") (codes "shop") (codes "copy")) < 1024 → IsHead base (head base)
+unfolding head
+head_of base fits short = record {
+  system = codes "7231";
+  database = codes "shop";
+  slot = codes "copy";
+  head_is = refl;
+  size = padded_length 1024 (segment_object base (codes "7231") (codes "shop") (codes "copy")) short;
+  base_fits = fits;
+}
+
+head_0 : IsHead 0 (head 0)
+head_0 = head_of 0 (omega arith) object_0
+
+head_560 : IsHead 560 (head 560)
+head_560 = head_of 560 (omega arith) object_560
+
+-- the head begins with the LSN
+abbrev Begins : ℕ → Type 0
+Begins base = (more : List ℕ) × (head base ≡ segment_front base ++ more)
+
+head_begins : (base : ℕ) → Begins base
+unfolding head
+head_begins base = (_, append_assoc (segment_front base) (segment_rest (codes "7231") (codes "shop") (codes "copy")) _)
+
+split : (base : ℕ) (told later : List Entry)
+    → file base (told ++ later) ≡ file base told ++ entries_text (last_end base told) later
+split base told later = ap (λ xs. head base ++ xs) (text_append base told later)
+    ∙ sym (append_assoc (head base) (entries_text base told) (entries_text (last_end base told) later))
+
+long : (base : ℕ) (es : List Entry) → IsHead base (head base) → length (file base es) ≡ size_of base es
+long base es is = omega (arith, is.size, length-append (head base) (entries_text base es))
+
+keeps : (base : ℕ) (es : List Entry) → IsHead base (head base) → AreEntries base es
+    → KeepsEntries base (last_end base es) (size_of base es) (file base es) es
+keeps base es is are = record {
+  head = head base;
+  rest = [];
+  is_head = is;
+  file_is = ap (λ xs. head base ++ xs) (sym (append-nil (entries_text base es)));
+  size_is = refl;
+  entries = are;
+  last_is = refl;
+}
+
+lasts : (base : ℕ) (told later : List Entry) → IsHead base (head base) → AreEntries base told
+    → Lasts base (size_of base (told ++ later)) (may_leave (file base (told ++ later))) (last_end base told)
+lasts base told later is are = (
+  file base told,
+  record {
+    is_front = record { head = head base; told = told; is_head = is; entries = are; ends = refl; front_is = refl };
+    within = omega (
+      arith,
+      long base told is,
+      long base (told ++ later) is,
+      ap length (split base told later),
+      length-append (file base told) (entries_text (last_end base told) later),
+    );
+    each = λ left is_all. (entries_text (last_end base told) later, is_all ∙ split base told later);
+  },
+)
+
+found : (base : ℕ) (told later : List Entry) → IsHead base (head base) → AreEntries base told
+    → IsFound base (last_end base told) (file base (told ++ later)) (size_of base told)
+found base told later is are =
+    let begins : Begins base = head_begins base in
+    let all = file base (told ++ later) in
+    let rest = entries_text (last_end base told) later in
+    let behind : drop 1024 all ≡ entries_text base told ++ rest =
+    drop_front 1024 (head base) (entries_text base (told ++ later)) is.size ∙ text_append base told later in
+    record {
+      marks = mapped mark_of told;
+      entries_size = length (entries_text base told);
+      more = begins.0;
+      head = take_front 1024 (head base) (entries_text base (told ++ later)) is.size ∙ begins.1;
+      head_within = omega (arith, long base (told ++ later) is);
+      walk = subst (λ xs. Walks base (mapped mark_of told) xs (last_end base told) (length (entries_text base told))) (sym behind)
+          (over_entries base told rest are);
+      size_is = refl;
+    }
+
+-- what follows is cut off
+cut : (base : ℕ) (told later : List Entry) → IsHead base (head base)
+    → IsCut (file base (told ++ later)) (size_of base told) (file base told) (may_leave (file base told))
+cut base told later is = record {
+  file_is = sym (ap (take (size_of base told)) (split base told later)
+      ∙ take_front (size_of base told) (file base told) (entries_text (last_end base told) later) (long base told is));
+  synced = λ left is_all. is_all;
+}
+
+-- the folder has this file alone
+alone_in : (base b : ℕ) (there left : List ℕ) (other : Folder) → base ≢ b → has ((base, there) ∷ []) b left → has other b left
+alone_in base b there left other away (inl at) = absurd (away at.0)
+alone_in base b there left other away (inr none) = absurd none
+
+-- ---- the feeds: any feed's allocator, names and limits, without a segment that has ended and is
+-- still held
+
+module _ (any : MemoryFeed) (alone : any.ended.items ≡ []) where
+  abbrev pub feed_in : Folder → ℕ → ℕ → List Entry → MemoryFeed
+  feed_in folder begins base es = record any {
+    folder = folder;
+    begins = begins;
+    synced = last_end base es;
+    first = None;
+    segment = record any.segment { base = base; last = last_end base es; size = size_of base es; disk = file base es; is_stuck = false };
+  }
+
+  pub honest : (folder : Folder) (begins base : ℕ) (es : List Entry)
+      → IsHonestFeed shows may_leave is_clean is_true places has (feed_in folder begins base es)
+  honest folder begins base es = record {
+    folder = tt;
+    ended = subst (AllByRecursion (λ (s : Segment (List ℕ)). IsTrue (is_clean s.disk))) (sym alone) tt;
+    file = refl;
+  }
+
+  -- run one: a new feed in an empty folder
+  abbrev pub feed_1 : MemoryFeed
+  feed_1 = feed_in ((0, file 0 []) ∷ []) 0 0 []
+
+  pub opened_1 : OpensIn shows may_leave is_clean is_true places has [] 0 feed_1
+  opened_1 = record {
+    alone = alone;
+    last = refl;
+    free = refl;
+    synced = refl;
+    untimed = refl;
+    cuts = λ _. record {
+      bases = [];
+      above = [];
+      there = inr (refl, refl, refl);
+      removed = tt;
+      stay = refl;
+      first = refl;
+      same = λ b left away at. alone_in 0 b (file 0 []) left [] away at;
+      opened = inl (refl, (keeps 0 [] head_0 tt, lasts 0 [] [] head_0 tt));
+    };
+  }
+
+  -- it has xid 10, which is stored, and xids 11 and 12, which the store failed to settle
+  abbrev pub folder_1 : Folder
+  folder_1 = (0, file 0 first_three) ∷ []
+
+  abbrev pub feed_1_ended : MemoryFeed
+  feed_1_ended = feed_in folder_1 0 0 first_three
+
+  -- a crash leaves all of it
+  pub left_1 : IsLeftOf shows may_leave is_clean is_true places has feed_1_ended 304 [] folder_1
+  left_1 = record {
+    honest = honest folder_1 0 0 first_three;
+    rest = refl;
+    ended = tt;
+    front = inl refl;
+    each = λ b left at. open_one b left at;
+  }
+    where
+      open_one : (b : ℕ) (left : List ℕ) → has folder_1 b left → LeavesAt may_leave has feed_1_ended b left
+      open_one b left (inl at) = inl (at.0, sym at.1)
+      open_one b left (inr none) = absurd none
+
+  -- run two: it is opened at the store's position, and what the store lacks is cut off
+  abbrev pub feed_2 : MemoryFeed
+  feed_2 = feed_in ((0, file 0 (entry_10 ∷ [])) ∷ []) 0 0 (entry_10 ∷ [])
+
+  pub opened_2 : OpensIn shows may_leave is_clean is_true places has folder_1 304 feed_2
+  opened_2 = record {
+    alone = alone;
+    last = refl;
+    free = refl;
+    synced = refl;
+    untimed = refl;
+    cuts = λ _. record {
+      bases = [];
+      above = [];
+      there = inl refl;
+      removed = tt;
+      stay = refl;
+      first = refl;
+      same = λ b left away at. alone_in 0 b (file 0 (entry_10 ∷ [])) left folder_1 away at;
+      opened = inr (
+        file 0 first_three,
+        inl (refl, refl),
+        record {
+          above = omega arith;
+          found = found 0 (entry_10 ∷ []) (entry_11 ∷ entry_12 ∷ []) head_0 are_10;
+          cut = cut 0 (entry_10 ∷ []) (entry_11 ∷ entry_12 ∷ []) head_0;
+        },
+      );
+    };
+  }
+
+  -- xids 11 and 12 are appended again, the segment ends, and the next one gets xid 13
+  abbrev pub ended_file : List ℕ
+  ended_file = head 0 ++ (entries_text 0 first_three ++ closing_line 560)
+
+  abbrev pub folder_2 : Folder
+  folder_2 = (0, ended_file) ∷ (560, file 560 (entry_13 ∷ [])) ∷ []
+
+  abbrev pub feed_2_ended : MemoryFeed
+  feed_2_ended = feed_in folder_2 0 560 (entry_13 ∷ [])
+
+  -- others remove the segment that has ended
+  abbrev pub folder_3 : Folder
+  folder_3 = (560, file 560 (entry_13 ∷ [])) ∷ []
+
+  pub left_2 : IsLeftOf shows may_leave is_clean is_true places has feed_2_ended 672 (0 ∷ []) folder_3
+  left_2 = record {
+    honest = honest folder_2 0 560 (entry_13 ∷ []);
+    rest = refl;
+    ended = (omega arith, tt);
+    front = inr (omega arith);
+    each = λ b left at. open_one b left at;
+  }
+    where
+      open_one : (b : ℕ) (left : List ℕ) → has folder_3 b left → LeavesAt may_leave has feed_2_ended b left
+      open_one b left (inl at) = inl (at.0, sym at.1)
+      open_one b left (inr none) = absurd none
+
+  -- run three: the feed begins at the segment that is left
+  abbrev pub feed_3 : MemoryFeed
+  feed_3 = feed_in folder_3 560 560 (entry_13 ∷ [])
+
+  pub opened_3 : OpensIn shows may_leave is_clean is_true places has folder_3 672 feed_3
+  opened_3 = record {
+    alone = alone;
+    last = refl;
+    free = refl;
+    synced = refl;
+    untimed = refl;
+    cuts = λ _. record {
+      bases = [];
+      above = [];
+      there = inl refl;
+      removed = tt;
+      stay = refl;
+      first = refl;
+      same = λ b left away at. at;
+      opened = inr (
+        file 560 (entry_13 ∷ []),
+        inl (refl, refl),
+        record {
+          above = omega arith;
+          found = found 560 (entry_13 ∷ []) [] head_560 are_13;
+          cut = cut 560 (entry_13 ∷ []) [] head_560;
+        },
+      );
+    };
+  }
+
+  abbrev pub feed_3_ended : MemoryFeed
+  feed_3_ended = feed_in ((560, file 560 (entry_13 ∷ entry_14 ∷ [])) ∷ []) 560 560 (entry_13 ∷ entry_14 ∷ [])
+
+  -- ---- what each of them keeps
+
+  abbrev Keeps : MemoryFeed → List Entry → Type 0
+  Keeps = KeepsAll shows may_leave is_clean is_true places has
+
+  one_segment : (base : ℕ) (es : List Entry) → IsHead base (head base) → AreEntries base es
+      → Keeps (feed_in ((base, file base es) ∷ []) base base es) es
+  one_segment base es is are = record {
+    before = [];
+    now = es;
+    is = refl;
+    entries = tt;
+    ends = refl;
+    kept = keeps base es is are;
+    whole = λ _. record {
+      bases = [];
+      above = [];
+      there = refl;
+      below = subst (AllByRecursion (λ (e : Segment (List ℕ)). e.base < base)) (sym alone) tt;
+      ended = (refl, refl);
+      over = inl refl;
+      free = λ _. refl;
+    };
+  }
+
+  -- whatever a crash leaves of the segment that has ended is what was written
+  only_ended : (left : List ℕ) → LeavesAt may_leave has feed_2_ended 0 left → left ≡ ended_file
+  only_ended left (inl is_open) = absurd (omega (arith, is_open.0))
+  only_ended left (inr (other, inl held)) = absurd (none_held any.ended.items alone held)
+    where
+      none_held : (ended : List (Segment (List ℕ))) → ended ≡ [] → SomeLeaves may_leave ended 0 left → ⊥
+      none_held [] e none = none
+      none_held (s ∷ ended) e some = absurd (cc)
+  only_ended left (inr (other, inr (away, inl at))) = sym at.1
+  only_ended left (inr (other, inr (away, inr (inl at)))) = absurd (omega (arith, at.0))
+  only_ended left (inr (other, inr (away, inr (inr none)))) = absurd none
+
+  is_ended : IsEnded 0 560 first_three (LeavesAt may_leave has feed_2_ended 0)
+  is_ended = record {
+    rises = omega arith;
+    text = ended_file;
+    finished = record {
+      head = head 0;
+      is_head = head_0;
+      file_is = refl;
+      entries = are_three;
+      last_is = refl;
+      synced = only_ended;
+    };
+  }
+
+  two_segments : Keeps feed_2_ended (first_three ++ entry_13 ∷ [])
+  two_segments = record {
+    before = first_three;
+    now = entry_13 ∷ [];
+    is = refl;
+    entries = are_three;
+    ends = refl;
+    kept = keeps 560 (entry_13 ∷ []) head_560 are_13;
+    whole = λ _. record {
+      bases = 0 ∷ [];
+      above = [];
+      there = refl;
+      below = subst (AllByRecursion (λ (e : Segment (List ℕ)). e.base < 560)) (sym alone) tt;
+      ended = (560, first_three, [], refl, refl, is_ended, (refl, refl));
+      over = inl refl;
+      free = λ _. refl;
+    };
+  }
+
+  -- ---- what each of them records: as it is opened and as its run leaves it
+
+  abbrev Records : MemoryFeed → Tables → ℕ → ℕ → Type 0
+  Records = RecordsRest shows may_leave is_clean is_true places has
+
+  -- amid a group: of what the feed tells, the store has xid 10 alone
+  pub recorded_1 : Records feed_1_ended tables_304 304 560
+  recorded_1 = record {
+    base = map.empty;
+    told = entry_10 ∷ [];
+    later = entry_11 ∷ entry_12 ∷ [];
+    kept = record { gone = []; stay = first_three; is = refl; begins_is = refl; kept = one_segment 0 first_three head_0 are_three };
+    leads = lead_10 [] tables_304 304 (refl, refl);
+    lasting = (omega arith, (omega arith, λ _. lasts 0 (entry_10 ∷ []) (entry_11 ∷ entry_12 ∷ []) head_0 are_10));
+    above = (omega arith, (omega arith, tt));
+    none = λ free same. absurd (omega (arith, same));
+  }
+
+  -- and if the store had all of them
+  pub recorded_1_all : Records feed_1_ended tables_560 560 560
+  recorded_1_all = record {
+    base = map.empty;
+    told = first_three;
+    later = [];
+    kept = record { gone = []; stay = first_three; is = refl; begins_is = refl; kept = one_segment 0 first_three head_0 are_three };
+    leads = lead_10 (entry_11 ∷ entry_12 ∷ []) tables_560 560 (lead_12 [] tables_560 560 (refl, refl));
+    lasting = (omega arith, (omega arith, λ _. lasts 0 first_three [] head_0 are_three));
+    above = tt;
+    none = λ _ _. refl;
+  }
+
+  pub recorded_2 : Records feed_2_ended tables_672 672 672
+  recorded_2 = record {
+    base = map.empty;
+    told = first_three ++ entry_13 ∷ [];
+    later = [];
+    kept = record { gone = []; stay = first_three ++ entry_13 ∷ []; is = refl; begins_is = refl; kept = two_segments };
+    leads = lead_10 (entry_11 ∷ entry_12 ∷ entry_13 ∷ []) tables_672 672
+        (lead_12 (entry_13 ∷ []) tables_672 672 (lead_13 [] tables_672 672 (refl, refl)));
+    lasting = (omega arith, (omega arith, λ _. lasts 560 (entry_13 ∷ []) [] head_560 are_13));
+    above = tt;
+    none = λ _ _. refl;
+  }
+
+  -- of the entries of the segment that has gone nothing is kept
+  pub recorded_3 : Records feed_3_ended tables_816 816 816
+  recorded_3 = record {
+    base = map.empty;
+    told = first_three ++ entry_13 ∷ entry_14 ∷ [];
+    later = [];
+    kept = record {
+      gone = first_three;
+      stay = entry_13 ∷ entry_14 ∷ [];
+      is = refl;
+      begins_is = refl;
+      kept = one_segment 560 (entry_13 ∷ entry_14 ∷ []) head_560 are_14;
+    };
+    leads = lead_10 (entry_11 ∷ entry_12 ∷ entry_13 ∷ entry_14 ∷ []) tables_816 816
+        (lead_12 (entry_13 ∷ entry_14 ∷ []) tables_816 816 leads_560);
+    lasting = (omega arith, (omega arith, λ _. lasts 560 (entry_13 ∷ entry_14 ∷ []) [] head_560 are_14));
+    above = tt;
+    none = λ _ _. refl;
+  }
+
+  -- from the segment that is left its entries lead to the last rows
+  pub led_3 : LeadsFrom shows may_leave is_clean is_true places has feed_3_ended tables_816 816
+  led_3 = record {
+    base = tables_560;
+    told = entry_13 ∷ entry_14 ∷ [];
+    later = [];
+    kept = one_segment 560 (entry_13 ∷ entry_14 ∷ []) head_560 are_14;
+    leads = leads_560;
+  }
