@@ -1,8 +1,9 @@
 """Reads a feed of commits: `read` gives them to a program of one's own, with what is in `changes`.
 
 `reader` has a feed's folder, lines and commits, `relation` and `python_values` what is in them;
-`tables` keeps tables of SQLite that follow a feed, `sinks` Redis and NATS, and `formats` and `undo`
-are texts of commits, which `command` prints. `errors` says why something ends.
+`pipe` carries it to other hosts, `tables` keeps tables of SQLite that follow a feed, `sinks` Redis,
+NATS and Kafka, and `formats`, `debezium` and `undo` are texts of commits, which `command` prints.
+`errors` says why something ends.
 """
 
 import importlib

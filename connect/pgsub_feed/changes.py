@@ -87,7 +87,10 @@ Change = Insert | Update | Delete | Truncate | Missed
 class Commit:
     """A commit. `lsn` is where it ends: who has made its changes is there. `prev` is where the
     commit before it ends. `tables` are the definitions of what it changes: rows from before that
-    have another shape keep their values by the names of the columns, and a new one is null."""
+    have another shape keep their values by the names of the columns, and a new one is null.
+
+    `is_base`: it has rows from before the first commit, each table truncated before its first ones.
+    They are complete with the last such commit: those before it have the LSN 0."""
 
     lsn: int
     prev: int
@@ -95,6 +98,7 @@ class Commit:
     time: datetime.datetime | None
     tables: tuple[Relation, ...]
     changes: tuple[Change, ...]
+    is_base: bool = False
 
     def text(self) -> str:
         return lsn_text(self.lsn)

@@ -8,22 +8,31 @@ import sys
 from collections.abc import Callable, Iterator, Sequence
 
 from . import log
-from .arguments import add_version, lsn
-from .errors import Stopped
+from .arguments import add_version, lsn, plain_name
+from .debezium.envelopes import Envelopes
+from .debezium.printing import Debezium
+from .debezium.settings import DEBEZIUM, SCHEMAS, Settings, read_settings
+from .errors import Stopped, UsageError
 from .formats.bulk import Bulk
-from .formats.lines import FORMATS, Format
+from .formats.lines import ByName, Lines
+from .formats.on_truncate import Command
 from .help_form import Parser
 from .interruption import Check
 from .known_tables import known_beside
 from .options import add_fields, option
+from .pipe.pipes import Pipes
+from .pipe.serving import serve
 from .program import Worker, guarded, stop_by_signals
 from .reader.commits import Commit
 from .reader.polling import Poll
 from .reader.segments import Reader
 from .reader.selection import Chosen
+from .reader.whole import Whole
 from .relation import Relation
+from .sinks.first_rows import exported
 from .undo.transaction import undo
 
+Format = Lines | ByName | Debezium | Bulk
 # Control characters that JSON leaves as they are: terminals take them for commands.
 CONTROLS = re.compile(b"\x7f|\xc2[\x80-\x9f]")
 ABOUT = """\
@@ -31,17 +40,23 @@ Prints the commits of a feed.
 
   pgsub-feed --feed copy.feed --from 0/25504168 --follow                    those after an LSN, and the ones that come
   pgsub-feed --feed copy.feed --undo 0/25504168 0/25504300 --table stock    SQL that takes commits back at the publisher
+  pgsub-feed --feed copy.feed --pipe --follow --reader mirror               for a reader on another host, as ssh runs it
 """
 FORMATS_ABOUT = """\
 formats: `lines` are the feed's own, whole commits. `objects` has an object for each change: its id, made of the LSN at which the commit
-ends and the number of the change, xid and time, op (c, u, d or t; x of one that found no row), schema, table, and the row before and
-after it by the names of the columns. `debezium` has the fields of its envelope. Values are numbers, true and false, or as the server
-prints them. `bulk` has the lines of a bulk request of Elasticsearch and OpenSearch: what each commit leaves of each row that it changes,
-as a document that is indexed or deleted with the commit's LSN as its external version, so the lines can be sent again: what a document has
-already is rejected with 409. Tables without a key are left out, and a TRUNCATE ends it with 5. Of a table that is dropped, or gets another
-name or shape, documents stay as they are until their rows change. Of a table with REPLICA IDENTITY FULL, or another index, the key is the
-primary key that the follower of the store has seen. One that gets another is left out, seconds later, until its rows come anew; started
-anew, this names documents by the other one.
+ends and the number of the change, xid and time, op (c, u, d or t; r of a row from before; x of one that found no row), schema, table, and the row before and after
+it by the names of the columns. Values are numbers, true and false, or as the server prints them. `debezium` has the envelope of Debezium's
+connector for PostgreSQL (FEED.md says what differs), for an update of a key a delete and an insert; with --keys the key and a tab before
+each, and a tombstone after a delete, which is a key and a tab alone.
+
+`bulk` has the lines of a bulk request of Elasticsearch and OpenSearch: what each commit leaves of each row that it changes, as a document
+that is indexed or deleted with the commit's LSN as its external version, so the lines can be sent again: what a document has already is
+rejected with 409. Tables without a key are left out. A TRUNCATE ends it with 5, unless --on-truncate names a command: that is run once the
+lines before are written, and has to wait until whoever reads them has sent them; then it makes the index anew, since a deleted document
+keeps its version for a while. Where it fails this ends with 7, before the lines of that commit. Of a table that is dropped, or gets another
+name or shape, documents stay as they are until their rows change. Of a table with REPLICA IDENTITY FULL, or another index, the key is the primary
+key that the follower of the store has seen. One that gets another is left out, seconds later, until its rows come anew; started anew, this
+names documents by the other one.
 
 exit status: 0 ended as asked; 2 usage error; 3 a file can't be used; 5 the feed lacks commits after that LSN; 6 a bug; 7 something is in
 the way only for now
@@ -55,14 +70,37 @@ class Options:
     feed: str = option("--feed FOLDER", "the feed", required=True)
     begin: int | None = option(
         "--from LSN",
-        "commits after this one, which must be the end of one (default: all)",
+        "commits after this one, which must be the end of one (default: all, behind the rows from before the first)",
         type=lsn,
     )
     end: int | None = option(
         "--to LSN", "end before the first commit that ends above this LSN", type=lsn
     )
     follow: bool = option("--follow", "go on with the commits that come", False)
-    format: str = option("--format", "default: objects", "objects", choices=[*FORMATS, "bulk"])
+    format: str = option(
+        "--format",
+        "default: objects",
+        "objects",
+        choices=["lines", "objects", "debezium", "bulk"],
+    )
+    debezium: Sequence[str] = option(
+        "--debezium NAME=VALUE", f"with --format debezium: {DEBEZIUM}", ()
+    )
+    schemas: bool = option("--schemas", f"with --format debezium: {SCHEMAS}", False)
+    keys: bool = option(
+        "--keys",
+        "with --format debezium: before each value its key and a tab; tombstones, too",
+        False,
+    )
+    base: str | None = option(
+        "--base FILE",
+        "begin with the rows of this export, made with --text (default: with those beside the feed)",
+    )
+    on_truncate: str = option(
+        "--on-truncate COMMAND",
+        "with --format bulk: run this for each TRUNCATE, with the table, the LSN and the index behind it, to delete all its documents",
+        "",
+    )
     truncated: int | None = option(
         "--truncated LSN",
         "with --format bulk: all documents were deleted of the tables that the commit which ends there truncates",
@@ -70,13 +108,23 @@ class Options:
     )
     store: str = option(
         "--store FILE",
-        "with --format bulk: the store of the feed, whose follower knows primary keys that no message tells (default: the one beside the feed)",
+        "with --format bulk or debezium: the store of the feed, whose follower knows primary keys that no message tells (default: the one beside the feed)",
         "",
     )
     table: Sequence[str] = option(
         "--table",
         "changes of this table, may be repeated (default: of all): t, or s.t of another schema than public; quoted as in SQL or not",
         (),
+    )
+    pipe: bool = option(
+        "--pipe",
+        "give commits to a reader elsewhere, which writes its LSN to standard input, and again what it has",
+        False,
+    )
+    reader: str | None = option(
+        "--reader NAME",
+        "with --pipe: keep that LSN as FOLDER/readers/NAME, so that the feed keeps what it lacks",
+        type=plain_name,
     )
     undo: Sequence[int] | None = option(
         "--undo FROM TO",
@@ -93,30 +141,65 @@ def arguments(words: Sequence[str]) -> Options:
     options = Options(**vars(parser.parse_args(words)))
     if options.undo and (options.follow or options.begin is not None or options.end is not None):
         parser.error("--undo has its own LSNs, and doesn't follow")
+    check_pipe(parser, options)
     if options.table and options.format == "lines" and not options.undo:
         parser.error("the lines of a commit are printed whole: --table needs another format")
-    if options.truncated is not None and options.format != "bulk":
-        parser.error("--truncated is for --format bulk")
-    if options.store and options.format != "bulk":
-        parser.error("--store is for --format bulk")
+    if (options.truncated is not None or options.on_truncate) and options.format != "bulk":
+        parser.error("--truncated and --on-truncate are for --format bulk")
+    if options.base and (options.begin or options.pipe or options.undo):
+        parser.error("--base is for who has no rows: without --from, --pipe and --undo")
+    if options.store and options.format not in ("bulk", "debezium"):
+        parser.error("--store is for --format bulk and debezium")
+    if (options.debezium or options.schemas or options.keys) and options.format != "debezium":
+        parser.error("--debezium, --schemas and --keys are for --format debezium")
+    try:
+        settings_of(options)
+    except UsageError as error:
+        parser.error(f"--debezium {error}")
     return options
 
 
-def form_of(options: Options, is_chosen: Callable[[Relation], bool], check: Check) -> Format | Bulk:
-    if options.format != "bulk":
-        return FORMATS[options.format](is_chosen)
-    return Bulk(is_chosen, options.truncated, known_beside(options.feed, options.store), check)
+def check_pipe(parser: Parser, options: Options) -> None:
+    if options.reader and not options.pipe:
+        parser.error("--reader is for --pipe")
+    asked = options.undo, options.begin, options.end, options.table, options.truncated
+    if options.pipe and any(asked):
+        parser.error("--pipe gives whole commits, from the LSN on that its reader says")
+
+
+def settings_of(options: Options) -> Settings:
+    return read_settings(options.debezium, options.schemas)
+
+
+def form_of(options: Options, is_chosen: Callable[[Relation], bool], check: Check) -> Format:
+    if options.format == "lines":
+        return Lines()
+    if options.format == "objects":
+        return ByName(is_chosen)
+    known = known_beside(options.feed, options.store)
+    if options.format == "debezium":
+        return Debezium(is_chosen, Envelopes(settings_of(options), known, check), options.keys)
+    command = Command(options.on_truncate, check) if options.on_truncate else None
+    return Bulk(is_chosen, options.truncated, known, check, command)
 
 
 def run(options: Options, check: Check) -> int:
-    reader = Reader(options.feed, options.undo[0] if options.undo else options.begin)
+    if options.pipe:
+        with contextlib.suppress(Stopped):
+            signal.signal(signal.SIGPIPE, signal.SIG_IGN)
+            serve(options.feed, Pipes(0, 1, check), options.follow, options.reader, check)
+        return 0
     chosen = Chosen(options.table)
-    with contextlib.closing(reader), contextlib.suppress(Stopped):
+    with contextlib.ExitStack() as opened, contextlib.suppress(Stopped):
         if options.undo:
+            reader = opened.enter_context(contextlib.closing(Reader(options.feed, options.undo[0])))
             undo(reader, options.undo[1], chosen, check, put)
-        else:
-            form = form_of(options, chosen, check)
-            print_commits(Poll(reader, options.follow, check), options, form, chosen)
+            return 0
+        names = tuple(options.table)
+        rows = opened.enter_context(exported(options.base, names)) if options.base else None
+        whole = opened.enter_context(contextlib.closing(Whole(options.feed, options.begin, rows)))
+        form = form_of(options, chosen, check)
+        print_commits(Poll(whole, options.follow, check), options, form, chosen)
     return 0
 
 
@@ -145,8 +228,11 @@ def commits(poll: Poll, chosen: Chosen) -> Iterator[Commit]:
             poll.rest()
 
 
-def print_commits(poll: Poll, options: Options, form: Format | Bulk, chosen: Chosen) -> None:
+def print_commits(poll: Poll, options: Options, form: Format, chosen: Chosen) -> None:
     for commit in commits(poll, chosen):
+        if commit.base is not None and options.format != "lines":
+            # (a row from before is one of their LSN, also where others follow)
+            commit = commit._replace(end=commit.lsn or 0)
         if options.end is not None and commit.end > options.end:
             break
         poll.check()

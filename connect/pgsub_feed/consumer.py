@@ -1,19 +1,24 @@
 """What a program of one's own reads a feed with."""
 
+from __future__ import annotations
+
 import contextlib
 import datetime
 import os
 from collections.abc import Iterable, Iterator
 
-from .changes import Change, Commit, change_of
+from .changes import Change, Commit, Truncate, change_of
+from .errors import UsageError
 from .faults import Damaged
 from .interruption import Check, never
+from .pipe.following import SCHEME, Remote
 from .reader import commits
 from .reader.polling import Poll
-from .reader.positions import Noted
-from .reader.segments import Reader, segments
+from .reader.positions import noted_of
 from .reader.selection import Chosen
+from .reader.whole import Whole
 from .relation import Relation
+from .sinks.first_rows import exported
 
 EPOCH = datetime.datetime(1970, 1, 1, tzinfo=datetime.timezone.utc)
 
@@ -24,12 +29,18 @@ def read(
     *,
     follow: bool = False,
     tables: Iterable[str] = (),
+    base: str | os.PathLike[str] | None = None,
     reader: str | None = None,
     mode: int = 0o600,
     check: Check = never,
 ) -> Iterator[Commit]:
-    """The commits of a feed that end after an LSN, each whole, in their order; None: all that are
-    there. `follow`: it goes on with those that come.
+    """The commits of a feed that end after an LSN, each whole, in their order. `follow`: it goes on
+    with those that come. `ssh://USER@HOST:PORT/PATH` is the feed of another host, whose
+    `pgsub-feed` gives them; where the way there is cut another one is made.
+
+    After 0, of who has no rows, it begins with those from before the first commit: of a `base`, an
+    export with texts, or beside the feed. So it does after None, or with all commits that are there
+    where it has no such rows.
 
     `tables`: only changes of these, named as for `--table`. With a `reader`'s name the feed keeps
     what this one hasn't done: a commit is done once the next one is asked for, so what came of it
@@ -38,12 +49,32 @@ def read(
     An Unfit says that the feed lacks commits after the LSN, or has others there: begin anew. A
     Damaged says that the feed can't be read. Without `follow` a feed without segments has none.
     """
-    feed = os.fspath(folder)
+    feed, build = os.fspath(folder), Build(tables)
+    if not feed.startswith(SCHEME):
+        return read_here(feed, after, follow, build, base, reader, mode, check)
+    if base:
+        raise UsageError(f"{feed}: its host has its base")
+    return Remote(feed, after, follow, reader, check, build).commits()
+
+
+def read_here(
+    feed: str,
+    after: int | None,
+    follow: bool,
+    build: Build,
+    base: str | os.PathLike[str] | None,
+    reader: str | None,
+    mode: int,
+    check: Check,
+) -> Iterator[Commit]:
+    """The same of a folder."""
     noted = noted_of(feed, after, reader, mode) if reader else None
-    chosen, done = Chosen(tables), after
+    done = after
     try:
-        with contextlib.closing(Reader(feed, after)) as found:
-            for commit in whole(Poll(found, follow, check), chosen):
+        with contextlib.ExitStack() as opened:
+            rows = opened.enter_context(exported(os.fspath(base), build.names)) if base else None
+            found = opened.enter_context(contextlib.closing(Whole(feed, after, rows)))
+            for commit in whole(Poll(found, follow, check), build):
                 yield commit
                 done = commit.lsn
                 if noted:
@@ -53,41 +84,50 @@ def read(
             noted.note(done, is_last=True)
 
 
-def noted_of(feed: str, after: int | None, name: str, mode: int) -> Noted:
-    """Where a reader's LSN is noted; it is so at once, so that what it needs stays."""
-    noted = Noted(feed, name, None, mode)
-    first = [base for base, _ in segments(feed)[:1]]
-    if (at := first[0] if after is None and first else after) is not None:
-        noted.note(at, is_last=True)
-    return noted
+class Build:
+    """Makes commits of parts. Of rows from before each table is truncated first, since those of an
+    earlier run may be there."""
+
+    def __init__(self, tables: Iterable[str]) -> None:
+        self.names = tuple(tables)
+        self.chosen, self.cleared = Chosen(self.names), set[int]()
+
+    def __call__(self, commit: commits.Commit, parts: Iterable[commits.Part]) -> Commit:
+        tables, changes = dict[Relation, None](), list[Change]()
+        for part in parts:
+            if not self.chosen(part.relation):
+                continue
+            if isinstance(part, commits.TableLine):
+                tables[part.relation] = None
+                changes += self.clear(commit, part.relation)
+            else:
+                changes.append(change_of(part))
+        time = None
+        if commit.ts_us is not None:
+            time = EPOCH + datetime.timedelta(microseconds=commit.ts_us)
+        told, is_base = (tuple(tables), tuple(changes)), commit.base is not None
+        return Commit(commit.end, commit.prev, commit.xid, time, *told, is_base)
+
+    def clear(self, commit: commits.Commit, relation: Relation) -> list[Truncate]:
+        if commit.base == 0:
+            self.cleared.clear()
+        if commit.base is None or relation.oid in self.cleared:
+            return []
+        self.cleared.add(relation.oid)
+        return [Truncate(relation)]
 
 
-def whole(poll: Poll, chosen: Chosen) -> Iterator[Commit]:
+def whole(poll: Poll, build: Build) -> Iterator[Commit]:
     """Commit after commit. One whose lines can't be read may be what is about to be cut off."""
     while (commit := poll.next()) or poll.is_following:
         if commit is None:
             poll.rest()
             continue
         try:
-            found = read_commit(poll.reader, commit, chosen)
+            found = build(commit, poll.reader.parts(commit))
         except Damaged as damaged:
             poll.bear(damaged, commit.end)
             poll.reader.go_back(commit.prev)
             poll.rest()
             continue
         yield found
-
-
-def read_commit(reader: Reader, commit: commits.Commit, chosen: Chosen) -> Commit:
-    tables, changes = dict[Relation, None](), list[Change]()
-    for part in reader.parts(commit):
-        if not chosen(part.relation):
-            continue
-        if isinstance(part, commits.TableLine):
-            tables[part.relation] = None
-        else:
-            changes.append(change_of(part))
-    time = None
-    if commit.ts_us is not None:
-        time = EPOCH + datetime.timedelta(microseconds=commit.ts_us)
-    return Commit(commit.end, commit.prev, commit.xid, time, tuple(tables), tuple(changes))

@@ -32,6 +32,10 @@ class FileError(Failure):
     STATUS = FILE
 
 
+class NoFeed(FileError):
+    """There is no such folder: who keeps the feed may not have begun."""
+
+
 class Passing(Failure):
     """Something is in the way only for now: a later start may do."""
 

@@ -3,7 +3,10 @@ name somebody may have meant by another one."""
 
 import argparse
 import difflib
+import re
+import shutil
 import sys
+import textwrap
 from collections.abc import Iterable, Sequence
 
 from . import log
@@ -13,6 +16,37 @@ COMMON = (
     *("--store", "--dsn", "--create", "--table", "--all-tables", "--tables", "--feed", "--into"),
     *("--repair", "--status-file", "--watch", "--until", "--once", "--record", "--yes"),
 )
+# How many columns a help has at most.
+WIDEST = 100
+# How the paragraph on exit statuses begins, and one of these: a number, or several, and a text.
+ENDS = "exit status"
+STATUS = re.compile(r"(\d(?: to \d)?) (.*)")
+
+
+def paragraph(text: str, width: int) -> str:
+    """A paragraph so wide. One with lines that are indented stays as it is; of exit statuses each
+    gets a line."""
+    if any(it.startswith(" ") for it in text.splitlines()):
+        return text.strip("\n")
+    words, what = text.split(), f"{ENDS}: "
+    if not text.startswith(what):
+        return wrapped(" ".join(words), width, "", "")
+    items = re.split(r"; (?=\d)", " ".join(words).removeprefix(what))
+    pairs = [STATUS.fullmatch(it) for it in items]
+    room = max(len(it[1]) for it in pairs if it)
+    lines = [wrapped(it[2], width, f"  {it[1]:{room}}  ", " " * (room + 4)) for it in pairs if it]
+    return "\n".join([f"{ENDS}:", *lines])
+
+
+def wrapped(text: str, width: int, first: str, more: str) -> str:
+    return textwrap.fill(
+        text,
+        width,
+        initial_indent=first,
+        subsequent_indent=more,
+        break_long_words=False,
+        break_on_hyphens=False,
+    )
 
 
 def meant(word: str, names: Iterable[str]) -> str:
@@ -22,7 +56,13 @@ def meant(word: str, names: Iterable[str]) -> str:
 
 
 class Formatter(argparse.RawDescriptionHelpFormatter):
-    """One whose headings are bold on a terminal."""
+    """One whose headings are bold on a terminal, and whose paragraphs are as wide."""
+
+    def __init__(self, prog: str) -> None:
+        super().__init__(prog, width=min(shutil.get_terminal_size().columns, WIDEST) - 2)
+
+    def _fill_text(self, text: str, width: int, indent: str) -> str:
+        return "\n\n".join(paragraph(it, width) for it in text.rstrip().split("\n\n"))
 
     def start_section(self, heading: str | None) -> None:
         super().start_section(heading and log.coloured(heading, "bold", sys.stdout))

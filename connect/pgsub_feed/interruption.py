@@ -16,6 +16,9 @@ from .errors import Stopped
 # What is called again and again while something is waited for or written: it raises Stopped, or
 # another error, where that is to end.
 Check = Callable[[], None]
+# After how many seconds a call is ended once more, where Python has passed over the first try: it
+# does that with what is raised while an object is removed.
+AGAIN = 1.0
 
 
 def never() -> None:
@@ -68,7 +71,7 @@ class Calls:
         if not signal.getitimer(signal.ITIMER_REAL)[0]:
             self.is_timed = True
             signal.signal(signal.SIGALRM, stop)
-            signal.setitimer(signal.ITIMER_REAL, self.grace)
+            signal.setitimer(signal.ITIMER_REAL, self.grace, AGAIN)
 
 
 # Those of this process.
@@ -84,7 +87,7 @@ def at_most(seconds: float) -> Iterator[None]:
         return
 
     before = signal.signal(signal.SIGALRM, stop)
-    signal.setitimer(signal.ITIMER_REAL, seconds)
+    signal.setitimer(signal.ITIMER_REAL, seconds, AGAIN)
     try:
         yield
     finally:

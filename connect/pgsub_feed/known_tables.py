@@ -1,7 +1,9 @@
 """What the store beside a feed knows of the server's tables that no Relation message tells: their
 primary keys and indexes, as its follower has seen them in the catalog at its last look.
 
-They are in the first line of the file `STORE.tables`, which the follower replaces.
+They are in the first line of the file `STORE.tables`, which the follower replaces. `FOLDER/keys` of
+the feed has the LSN up to which they are right: where a commit may have come after another key, the
+follower looks at the server first.
 """
 
 import os
@@ -9,6 +11,7 @@ import time
 from typing import Any, NamedTuple
 
 from . import log
+from .errors import Passing
 from .interruption import Check
 from .json_texts import (
     LARGEST,
@@ -23,8 +26,9 @@ from .json_texts import (
     text_of,
 )
 from .tables.set_aside import store_at
+from .texts import lsn_text, parse_lsn
 
-FORMAT = 1
+FORMAT, KEYS = 1, "keys"
 # For how long a look at the server is waited for, in seconds, and how often it is asked for.
 PATIENCE, OFTEN = 20.0, 0.1
 # Which file it is, when it was written, and its length.
@@ -51,8 +55,10 @@ class KnownTable(NamedTuple):
 class KnownTables:
     """Those that a store knows."""
 
-    def __init__(self, store: str) -> None:
-        self.path, self.file = store, store + ".tables"
+    def __init__(self, store: str, feed: str = "") -> None:
+        self.path, self.file, self.feed = store, store + ".tables", feed
+        # an LSN up to which they are right
+        self.right = 0
         self.stamp: Stamp | None = None
         self.first = b""
         # the LSN of the last look: nothing that was committed above it was seen
@@ -110,6 +116,22 @@ class KnownTables:
             time.sleep(OFTEN)
             self.look()
 
+    def require(self, lsn: int, check: Check) -> None:
+        """Waits until they are right for a commit that ends at this LSN, and looks at them. Raises a
+        Passing where that takes too long. (An earlier version of the follower doesn't tell.)"""
+        end = time.monotonic() + PATIENCE
+        while self.right < lsn and self.feed and (at := read_keys(self.feed)) is not None:
+            self.right = at
+            if at < lsn:
+                check()
+                if time.monotonic() > end:
+                    raise Passing(
+                        f"the primary keys aren't known that tables have at {lsn_text(lsn)}: the follower of {self.path} hasn't looked at the"
+                        f" server since {lsn_text(at)}. Is it running, and can it?"
+                    )
+                time.sleep(OFTEN)
+        self.look()
+
     def tell(self, text: str) -> None:
         """Tells once why nothing is known."""
         if text not in self.told:
@@ -121,7 +143,18 @@ def known_beside(feed: str, store: str = "") -> KnownTables | None:
     """Those that a store knows, where none is named the one whose feed is in this folder; None
     where there is none."""
     store = store or store_at(os.path.abspath(feed))
-    return KnownTables(store) if store else None
+    return KnownTables(store, feed) if store else None
+
+
+def read_keys(folder: str) -> int | None:
+    """The LSN up to which they are right; None where a feed doesn't say."""
+    try:
+        with open(open_plain(os.path.join(folder, KEYS)), "rb") as file:
+            return parse_lsn(file.read(64).decode("ascii").strip())
+    except FileNotFoundError:
+        return None
+    except (OSError, ValueError):
+        return 0
 
 
 def table_of(said: dict[str, Any]) -> KnownTable:

@@ -69,7 +69,7 @@ def read_binary(type_oid: int, cell: bytes) -> object:
     if type_oid not in KINDS:
         return cell
     value = KINDS[type_oid][2](cell)
-    if isinstance(value, bytes) and type_oid != BYTEA:
-        # (NaN and the infinities)
+    if isinstance(value, str):
+        # (NaN)
         return float(value)
     return bool(value) if type_oid == BOOL else value

@@ -20,6 +20,7 @@ from ..tables.set_aside import cure
 from ..texts import lsn_text
 from .keys import index_text, key_of, row_text
 from .lines import Objects, Row, compact
+from .on_truncate import Command
 
 # The versions are positive, and have 64 bits with a sign; an id has at most so many bytes.
 MOST_VERSION, MOST_ID = (1 << 63) - 1, 512
@@ -28,7 +29,8 @@ Documents = dict[tuple[str, str], Row]
 
 class Bulk(Objects):
     """The lines of a bulk request. `truncated` is the commit whose TRUNCATEs the user has made in
-    the indexes already; the store knows the primary keys that no message tells."""
+    the indexes already, and `command` makes them; the store knows the primary keys that no message
+    tells."""
 
     def __init__(
         self,
@@ -36,9 +38,11 @@ class Bulk(Objects):
         truncated: int | None = None,
         store: KnownTables | None = None,
         check: Check = never,
+        command: Command | None = None,
     ) -> None:
         super().__init__(is_chosen, lambda it: "\\x" + it.hex())
         self.truncated, self.store, self.check = truncated, store, check
+        self.command = command
         self.told = set[str]()
         # by OID the names of the columns by which documents were named, and the tables that are
         # left out since these aren't the key any more
@@ -106,6 +110,7 @@ class Bulk(Objects):
             return (), ""
         if self.store is None:
             return (), UNKNOWN
+        self.store.require(commit.end, self.check)
         self.store.wait(relation.oid, commit.end, self.check)
         known = self.store.primary(relation.oid) or ()
         lacks = lacking(known, relation)
@@ -152,7 +157,9 @@ class Bulk(Objects):
     def truncate(self, commit: Commit, relation: Relation, left: Documents) -> None:
         index = index_text(relation.namespace, relation.name)
         key = key_of(relation, self.primary(commit, relation)[0])
-        if key and commit.end != self.truncated:
+        if key and self.command:
+            self.command.run(commit, relation, index)
+        elif key and commit.end != self.truncated:
             raise Unfit(
                 f"{commit.text()} truncates {relation.text()}, which no line of a bulk request says: delete all documents of the index"
                 f" {index}, and go on with --from {lsn_text(commit.prev)} --truncated {commit.text()}"

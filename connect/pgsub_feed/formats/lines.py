@@ -4,23 +4,20 @@
 |---|---|
 | `lines` | the feed's own lines |
 | `objects` | an object for each change, its rows by the names of the columns |
-| `debezium` | the envelope of Debezium's connectors for each change |
 
 Values are typed by the OID of the type: numbers where JSON has them, but a numeric, of which those
 who read JSON would take the nearest number alone; `bool` as true and false; and all else as the
-server prints it. In `debezium` the bytes of `bytea` are in base64.
+server prints it.
 """
 
-import base64
 import json
 import math
 import re
 from collections.abc import Callable, Iterable, Iterator
 from typing import Any
 
-from .. import log
 from ..errors import Unfit
-from ..reader.commits import Cell, Change, Commit, Head, Missed, TableLine, Unsent
+from ..reader.commits import Cell, Change, Commit, Missed, TableLine, Unsent
 from ..reader.segments import Reader
 from ..relation import Relation
 from ..tables.floats import printed_float
@@ -39,13 +36,30 @@ def compact(value: object) -> bytes:
     return CONTROLS.sub(lambda it: f"\\u{ord(it[0]):04x}", text).encode() + b"\n"
 
 
-class Objects:
+class Selected:
+    """What prints the changes to the tables that were chosen."""
+
+    def __init__(self, is_chosen: Callable[[Relation], bool]) -> None:
+        self.is_chosen = is_chosen
+
+    def changes(self, reader: Reader, commit: Commit) -> Iterator[Change | Missed]:
+        """The changes of a commit."""
+        chosen = dict[int, bool]()
+        for part in reader.parts(commit):
+            if isinstance(part, TableLine):
+                chosen[part.relation.oid] = self.is_chosen(part.relation)
+            elif chosen[part.relation.oid]:
+                yield part
+
+
+class Objects(Selected):
     """Rows as objects."""
 
     def __init__(
         self, is_chosen: Callable[[Relation], bool], of_bytes: Callable[[bytes], str]
     ) -> None:
-        self.is_chosen, self.of_bytes = is_chosen, of_bytes
+        super().__init__(is_chosen)
+        self.of_bytes = of_bytes
         self.known: dict[int, Valued] = {}
 
     def valued(self, relation: Relation) -> Valued:
@@ -81,15 +95,6 @@ class Objects:
             # (JSON hasn't them)
             return printed_float(value, False)
         return bool(value) if kind == BOOL and value is not None else value
-
-    def changes(self, reader: Reader, commit: Commit) -> Iterator[Change | Missed]:
-        """The changes of a commit to the tables that were chosen."""
-        chosen = dict[int, bool]()
-        for part in reader.parts(commit):
-            if isinstance(part, TableLine):
-                chosen[part.relation.oid] = self.is_chosen(part.relation)
-            elif chosen[part.relation.oid]:
-                yield part
 
 
 class Lines:
@@ -131,50 +136,3 @@ class ByName(Objects):
                     "new": self.row(relation, it.new),
                 }
             yield compact(told)
-
-
-class Debezium(Objects):
-    """The envelope of Debezium's connectors. A change that found no row has none, and is left
-    out."""
-
-    def __init__(self, is_chosen: Callable[[Relation], bool]) -> None:
-        super().__init__(is_chosen, lambda it: base64.b64encode(it).decode())
-        self.is_told = False
-
-    def print(self, reader: Reader, commit: Commit) -> Iterator[bytes]:
-        head = reader.head
-        assert head
-        for it in self.changes(reader, commit):
-            if isinstance(it, Change):
-                yield compact(self.envelope(head, commit, it))
-            elif not self.is_told:
-                self.is_told = True
-                log.warning(
-                    f"{commit.text()}: a change that found no row is left out, and any later one"
-                )
-
-    def envelope(self, head: Head, commit: Commit, it: Change) -> dict[str, object]:
-        relation = it.relation
-        return {
-            "before": self.row(relation, it.before),
-            "after": self.row(relation, it.after),
-            "source": {
-                "db": head.database,
-                "schema": relation.namespace,
-                "table": relation.name,
-                "txId": commit.xid,
-                "lsn": commit.lsn,
-                "ts_us": commit.ts_us,
-            },
-            "op": it.op,
-            "ts_ms": None if commit.ts_us is None else commit.ts_us // 1000,
-            "transaction": {"id": f"{commit.xid}:{commit.end}", "total_order": it.n + 1},
-        }
-
-
-Format = Lines | ByName | Debezium
-FORMATS: dict[str, Callable[[Callable[[Relation], bool]], Format]] = {
-    "lines": lambda _: Lines(),
-    "objects": ByName,
-    "debezium": Debezium,
-}

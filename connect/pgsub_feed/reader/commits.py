@@ -46,10 +46,12 @@ class Closing:
     last: int
 
 
-@dataclasses.dataclass(frozen=True)
-class Commit:
+class Commit(NamedTuple):
     """A commit: where it ends and the one before it does, how many bytes and changes follow, and
-    what its message told of it: the final LSN, the xid and the time in microseconds since 1970."""
+    what its message told of it: the final LSN, the xid and the time in microseconds since 1970.
+
+    `base`: rows from before the first commit, behind so many others. They are complete once one ends
+    above 0."""
 
     end: int
     prev: int
@@ -58,6 +60,7 @@ class Commit:
     lsn: int | None = None
     xid: int | None = None
     ts_us: int | None = None
+    base: int | None = None
 
     def text(self) -> str:
         return lsn_text(self.end)
@@ -80,8 +83,8 @@ class TableLine(NamedTuple):
 
 
 class Change(NamedTuple):
-    """A change: `op` is c, u, d or t, for an insert, an update, a delete and a truncation; the rows
-    are whole."""
+    """A change: `op` is c, u, d or t, for an insert, an update, a delete and a truncation, r of a row
+    from before the first commit; the rows are whole."""
 
     op: str
     relation: Relation

@@ -1,10 +1,11 @@
 """The lines of a feed, read."""
 
 import binascii
+import functools
 import json
 import re
 from collections.abc import Callable, Iterator, Sequence
-from typing import Any
+from typing import Any, NoReturn, cast
 
 from ..faults import COUNTS, LINE, UNDESCRIBED, WIDTH, Damaged
 from ..relation import Column, Relation, Shape
@@ -26,6 +27,8 @@ PLAIN = re.compile(
 # What may be the escape of half of a pair.
 SURROGATE = re.compile(r"\\u[dD]")
 SENT = {str, type(None)}
+# (a call of `Change` takes twice as long)
+as_change = cast(Callable[[tuple[object, ...]], Change], functools.partial(tuple.__new__, Change))
 # Of which rows each change has: the one before it, and the one after it.
 ROWS = {"c": (False, True), "u": (True, True), "d": (True, False), "t": (False, False)}
 
@@ -164,7 +167,7 @@ class Decoder:
 
     def __init__(self) -> None:
         # definitions by their lines: each commit has those of its relations once more
-        self.known: dict[bytes, Relation] = {}
+        self.known: dict[bytes, TableLine] = {}
 
     def begin(self, commit: Commit, fault: Callable[[int, int, str], Damaged]) -> None:
         """Begins a commit. `fault` makes the error of a number, for the line at an offset of it."""
@@ -182,24 +185,37 @@ class Decoder:
 
     def read(self, lines: Sequence[bytes]) -> Iterator[Part]:
         """What the next lines say, which have lost their ends."""
-        try:
-            # (no line has one in it: those of a text are escaped)
-            objects = parsed(b"[" + b",".join(lines) + b"]")
-            if len(objects) != len(lines):
-                raise ValueError
-        except ValueError:
-            self.find(lines)
-        for line, found in zip(lines, objects, strict=True):
-            try:
-                part = self.part(line, found)
-            except (ValueError, KeyError, TypeError):
-                raise self.fault(
-                    LINE, self.offset, f"this is no line of a commit: {shown(line)}"
-                ) from None
+        # (definitions come again and again)
+        tables = [*map(self.known.get, lines)]
+        objects = self.objects(lines, tables)
+        for line, table in zip(lines, tables, strict=True):
+            if table:
+                relation = table.relation
+                self.described[relation.oid] = relation
+                part: Part = table
+            else:
+                try:
+                    part = self.part(line, next(objects))
+                except (ValueError, KeyError, TypeError):
+                    raise self.fault(
+                        LINE, self.offset, f"this is no line of a commit: {shown(line)}"
+                    ) from None
             self.offset += len(line) + 1
             yield part
 
-    def find(self, lines: Sequence[bytes]) -> None:
+    def objects(self, lines: Sequence[bytes], tables: Sequence[TableLine | None]) -> Iterator[Any]:
+        """The objects of the lines that are no definitions known by now."""
+        rest = [line for line, table in zip(lines, tables, strict=True) if not table]
+        try:
+            # (no line has one in it: those of a text are escaped)
+            objects: list[Any] = parsed(b"[" + b",".join(rest) + b"]")
+            if len(objects) != len(rest):
+                raise ValueError
+        except ValueError:
+            self.find(lines)
+        return iter(objects)
+
+    def find(self, lines: Sequence[bytes]) -> NoReturn:
         """Raises for the first line that is no JSON."""
         for line in lines:
             try:
@@ -220,12 +236,13 @@ class Decoder:
                 self.offset,
                 f"the relation {found['oid']} isn't described in this commit",
             )
-        n = self.n
-        if number(found["n"]) != n:
+        n, told = self.n, found["n"]
+        if told != n or type(told) is not int:
+            number(told)
             raise self.fault(
                 COUNTS,
                 self.offset,
-                f"the change has number {found['n']}, and is number {n} of its commit",
+                f"the change has number {told}, and is number {n} of its commit",
             )
         self.n = n + 1
         if op == "x":
@@ -238,17 +255,17 @@ class Decoder:
             before = self.row(before, width)
         if after is not None:
             after = self.row(after, width)
-        return Change(op, relation, n, before, after)
+        return as_change((op, relation, n, before, after))
 
     def table(self, line: bytes, found: dict[str, Any]) -> TableLine:
-        relation = self.known.get(line)
-        if relation is None:
-            relation = read_relation(found)
+        table = self.known.get(line)
+        if table is None:
+            table = TableLine(read_relation(found))
             if len(self.known) >= MOST_DEFINITIONS:
                 self.known.clear()
-            self.known[line] = relation
-        self.described[relation.oid] = relation
-        return TableLine(relation)
+            self.known[line] = table
+        self.described[table.relation.oid] = table.relation
+        return table
 
     def row(self, row: Any, width: int) -> Cells:
         if type(row) is not list:

@@ -97,7 +97,8 @@ class Poll:
         that begins at this LSN or later."""
         now = time.monotonic()
         self.wrong, self.wrong_at = now if self.wrong is None else self.wrong, at
-        if not self.is_following or now - self.wrong > PATIENCE:
+        is_late = now - self.wrong > PATIENCE or self.reader.is_lasting()
+        if not self.is_following or is_late:
             raise wrong
         self.reader.close()
 

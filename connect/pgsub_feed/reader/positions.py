@@ -8,6 +8,7 @@ import time
 from ..files import LOG, replace_file, sync_folder
 from ..ownership import real, set_mode
 from ..texts import lsn_text
+from .segments import segments
 
 READERS = "readers"
 # How often an LSN is noted at most, in seconds.
@@ -46,6 +47,16 @@ class Noted:
             sync_log(self.rows)
         make_folder(self.folder, self.mode)
         replace_file(self.path, f"{lsn_text(at)}\n".encode(), self.mode)
+
+
+def noted_of(feed: str, after: int | None, name: str, mode: int) -> Noted:
+    """Where the LSN of a reader is noted whose rows are on a disk already; None: it has nothing. It
+    is noted at once, so that what it needs stays."""
+    noted = Noted(feed, name, None, mode)
+    first = [base for base, _ in segments(feed)[:1]]
+    if (at := first[0] if after is None and first else after) is not None:
+        noted.note(at, is_last=True)
+    return noted
 
 
 def sync_log(rows: str) -> None:

@@ -16,7 +16,7 @@ import re
 import time
 from collections.abc import Iterator
 
-from ..errors import FileError, Unfit
+from ..errors import FileError, NoFeed, Unfit
 from ..faults import COMMIT_LINE, COUNTS, NOT_A_FEED, ORDER, OTHER_FEED, Damaged
 from ..texts import lsn_text, parse_lsn
 from .commits import XID, Closing, Commit, Cursor, Head, Part
@@ -34,7 +34,7 @@ def segments(folder: str) -> list[tuple[int, str]]:
     try:
         return sorted((int(it, 16), it) for it in os.listdir(folder) if NAME.fullmatch(it))
     except FileNotFoundError:
-        raise FileError(
+        raise NoFeed(
             f"there is no feed {folder}: start `pgsub-connect follow` with --feed {folder}"
         ) from None
     except OSError as error:
@@ -220,6 +220,10 @@ class Reader:
         self.close()
         return self.step()
 
+    def is_lasting(self) -> bool:
+        """Whether what is wrong where it reads now stays so, whatever the filter does."""
+        return False
+
     def step(self) -> Commit | None:
         confirmed = 0
         while (segment := self.segment or self.find()) is not None:
@@ -301,13 +305,9 @@ class Reader:
             return self.open(self.last, name) is not None
         # (a segment is looked for by its name as long as others may be begun: there may be many,
         # and this is asked again and again)
-        after = (
-            [base for base, _ in self.listing.segments()[-1:] if base > self.last]
-            if closing
-            else []
-        )
-        if after and not self.named(self.last):
-            base = min(it for it, _ in self.listing.segments() if it > self.last)
+        there = self.listing.segments() if closing else []
+        if there and there[-1][0] > self.last and not self.named(self.last):
+            base = min(it for it, _ in there if it > self.last)
             raise Unfit(
                 f"{self.folder}: the segment that begins at {lsn_text(self.last)} is gone, and the next one begins at"
                 f" {lsn_text(base)}: commits are missing. Begin anew from an export"

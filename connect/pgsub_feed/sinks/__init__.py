@@ -1,1 +1,1 @@
-"""A feed's commits, written to engines that others read, each once: Redis and NATS JetStream."""
+"""A feed's commits, written to engines that others read: Redis, NATS JetStream and Kafka."""

@@ -1,12 +1,39 @@
 """What an engine does for a sink."""
 
 import dataclasses
-from collections.abc import Callable
-from typing import Protocol
+import sys
+from collections.abc import Callable, Iterable, Iterator
+from typing import Protocol, TypeVar
 
-from ..reader.commits import Head
+from ..errors import Passing
+from ..faults import Damaged
+from ..interruption import Check
+from ..reader.commits import Commit, Head
 from ..reader.following import Keeper
 from .first_rows import Base
+
+# How many bytes of a commit are made into messages at once. A larger one is read twice.
+ROOM = 32 << 20
+Message = TypeVar("Message")
+
+
+def whole(
+    commit: Commit,
+    messages: Callable[[], Iterable[Message]],
+    check: Check,
+    most: int = sys.maxsize,
+) -> Iterator[Message]:
+    """The messages of a commit, the first of them once all could be made: at once where it has at
+    most so many changes."""
+    if commit.bytes <= ROOM and commit.changes <= most:
+        yield from list(messages())
+        return
+    for _ in messages():
+        check()
+    try:
+        yield from messages()
+    except Damaged as damaged:
+        raise Passing(f"the feed was altered while a commit was published: {damaged}") from None
 
 
 @dataclasses.dataclass(frozen=True)

@@ -1,19 +1,23 @@
-"""The rows with which a sink begins: those of an export whose values are texts, or none."""
+"""The rows with which a sink begins: those of an export whose values are texts, those beside the
+feed, or none."""
 
 import contextlib
 import dataclasses
+import itertools
 import os
 import sqlite3
-from collections.abc import Iterator
+from collections.abc import Iterable, Iterator
 
 from ..errors import FileError
 from ..files import own_name, remove
 from ..interruption import Check
 from ..meter import Meter
+from ..reader.base import BaseFiles, Section
 from ..reader.commits import Cells
 from ..reader.reading import Reading
+from ..reader.selection import Chosen
 from ..relation import Relation, Shape
-from ..tables.first_rows import EARLIER, check_begin
+from ..tables.first_rows import EARLIER, first_rows_of
 from ..tables.names import POSITION, names_of
 from ..tables.schema import RELATIONS, read_definition
 from ..tables.sqlite_files import is_earlier, is_export, opened
@@ -37,6 +41,30 @@ class Base:
         raise NotImplementedError
 
 
+class OfFeed(Base):
+    """Those beside the feed."""
+
+    def __init__(self, files: BaseFiles, chosen: tuple[str, ...]) -> None:
+        self.files, self.chosen, self.lsn = files, Chosen(chosen), files.lsn
+        self.spans = files.spans()
+
+    def tables(self) -> list[Relation]:
+        found = {relation.oid: relation for relation, _ in self.spans}
+        return [it for it in found.values() if self.chosen(it)]
+
+    def rows(self, relation: Relation) -> Iterator[Cells]:
+        for told, span in self.spans:
+            if told.oid == relation.oid:
+                yield from self.files.rows(told, span)
+
+
+def numbered(base: Base, relations: Iterable[Relation]) -> Iterator[tuple[Relation, int, Cells]]:
+    """The rows of some of its tables with their numbers."""
+    rows = ((relation, row) for relation in relations for row in base.rows(relation))
+    for n, (relation, row) in enumerate(rows):
+        yield relation, n, row
+
+
 class Exported(Base):
     """Those of an export."""
 
@@ -46,20 +74,33 @@ class Exported(Base):
         self.names = dict[int, str]()
 
     def tables(self) -> list[Relation]:
+        return [with_key(it, primary) if primary else it for it, primary in self.told()]
+
+    def told(self) -> list[tuple[Relation, tuple[str, ...]]]:
+        """The tables as messages told them, with the columns of their primary keys where their
+        replica identity is another."""
         found = []
         for name, text in self.db.execute(
             f"SELECT name, definition FROM {RELATIONS} ORDER BY oid"
         ).fetchall():
             relation, form, primary = read_definition(text)
-            relation = with_key(relation, primary) if primary else relation
             if not self.chosen or self.chosen & names_of(relation.namespace, relation.name):
                 if form != ALL_TEXT:
                     raise FileError(
                         f"--base {self.path}: its values aren't as the server prints them: make it by `pgsub-connect export --text`"
                     )
                 self.names[relation.oid] = name
-                found.append(relation)
+                found.append((relation, primary))
         return found
+
+    def sections(self) -> Iterator[Section]:
+        """All rows, some at a time, each table in at least one part."""
+        for relation, _ in self.told():
+            rows = self.rows(relation)
+            some = list(itertools.islice(rows, NOTED))
+            yield Section(relation, some)
+            while some := list(itertools.islice(rows, NOTED)):
+                yield Section(relation, some)
 
     def rows(self, relation: Relation) -> Iterator[Cells]:
         name, meter = identifier(self.names[relation.oid]), Meter(f"writing {relation.text()}")
@@ -79,8 +120,8 @@ def with_key(relation: Relation, primary: tuple[str, ...]) -> Relation:
 
 @contextlib.contextmanager
 def base_of(reading: Reading, check: Check) -> Iterator[Base]:
-    """What a sink begins with: an export that is named or asked for, or nothing, where that is what
-    its feed begins with."""
+    """What a sink begins with: an export that is named or asked for, the rows beside its feed, or
+    nothing, where that is what the feed begins with."""
     if reading.base:
         with exported(reading.base, reading.chosen) as found:
             yield found
@@ -92,13 +133,14 @@ def base_of(reading: Reading, check: Check) -> Iterator[Base]:
                 yield found
         finally:
             remove(path)
+    elif files := first_rows_of(reading, check):
+        yield OfFeed(files, reading.chosen)
     else:
-        check_begin(reading, check)
         yield Base()
 
 
 @contextlib.contextmanager
-def exported(path: str, chosen: tuple[str, ...]) -> Iterator[Base]:
+def exported(path: str, chosen: tuple[str, ...]) -> Iterator[Exported]:
     if not (os.path.isfile(path) and is_export(path)):
         raise FileError(f"--base {path}: it is no export")
     if is_earlier(path):

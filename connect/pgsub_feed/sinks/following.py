@@ -22,7 +22,7 @@ from .first_rows import base_of
 # After how many seconds an engine that is away is tried again, at first and at most, how long it
 # has to be there until that is forgotten, and how often it is looked meanwhile whether to end.
 FIRST_DELAY, LONGEST_DELAY, FORGET, STEP = 1.0, 60.0, 60.0, 0.1
-WAITS = f"it is waited for, and tried again each {LONGEST_DELAY:.0f} seconds at least"
+WAITS = f"it is waited for, and tried again at least every {LONGEST_DELAY:.0f} seconds"
 
 
 class Outages:

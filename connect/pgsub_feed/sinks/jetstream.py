@@ -60,8 +60,8 @@ class Published:
 class JetStream:
     """A stream, and what was published to it."""
 
-    def __init__(self, wire: Wire, stream: str) -> None:
-        self.wire, self.stream = wire, stream
+    def __init__(self, wire: Wire, stream: str, replicas: int = 1) -> None:
+        self.wire, self.stream, self.replicas = wire, stream, replicas
         self.where = f"{wire.where}, stream {stream}"
         self.inbox = f"_INBOX.{secrets.token_hex(12)}"
         wire.subscribe(f"{self.inbox}.*")
@@ -137,7 +137,7 @@ class JetStream:
                 "subjects": [f"{self.stream}.>"],
                 "storage": "file",
                 "retention": "limits",
-                "num_replicas": 1,
+                "num_replicas": self.replicas,
             }
             found = self.need(f"STREAM.CREATE.{self.stream}", config)
         assert found is not None
@@ -209,6 +209,9 @@ class JetStream:
         """Takes that a message is stored, or isn't."""
         first = self.waiting.popleft()
         self.room -= first.size
+        if message.status == "503":
+            # (of several servers another one may take it in a moment)
+            raise Passing(f"{self.where}: no server has the stream just now")
         said = self.parsed(message)
         if said.get("error"):
             with self.understood(said):

@@ -9,19 +9,18 @@ message that was the last when it was made.
 import contextlib
 import secrets
 import time
-from collections.abc import Iterable, Iterator
+from collections.abc import Iterator
 from typing import Any
 
 from .. import log
 from ..errors import Passing, Stopped, TooLarge, Unfit
-from ..faults import Damaged
 from ..interruption import Check
 from ..reader.commits import Commit, TableLine
 from ..reader.following import Read
-from ..tables.names import names_of
+from ..reader.selection import Chosen
 from ..texts import lsn_text, shortened
-from .engine import Wanted
-from .first_rows import Base
+from .engine import Wanted, whole
+from .first_rows import Base, numbered
 from .jetstream import Info, JetStream, Stored
 from .nats_messages import (
     COMMIT,
@@ -29,7 +28,6 @@ from .nats_messages import (
     base_message,
     change_message,
     last_message,
-    numbered,
     read_id,
     read_last,
 )
@@ -37,8 +35,6 @@ from .nats_wire import Wire
 from .reached import Trail
 
 STREAM = "pgsub"
-# How many bytes of a commit are made into messages at once. A larger one is read twice.
-ROOM = 32 << 20
 # A server writes to its disk what it has taken, and syncs that each two minutes. In seconds.
 SYNCED = 150.0
 # How often it is looked whether the server is there, in seconds.
@@ -64,7 +60,7 @@ class Nats:
     # ---- what is there
 
     def open(self, wanted: Wanted) -> bool:
-        self.chosen = set(wanted.chosen)
+        self.chosen = Chosen(wanted.chosen)
         self.about: dict[str, Any] = {**wanted.source(), "tables": list(wanted.chosen)}
         info = self.stream.begin()
         if f"{self.name}.>" not in info.subjects:
@@ -141,7 +137,7 @@ class Nats:
         if self.has_left:
             self.remove_left()
         number, rows = secrets.token_hex(4), 0
-        for relation, n, row in numbered(base.tables(), base.rows):
+        for relation, n, row in numbered(base, base.tables()):
             if not n % 1000:
                 self.check()
             self.publish(self.sized(base_message(self.name, relation, base.lsn, number, n, row)))
@@ -160,17 +156,8 @@ class Nats:
                 f"{self.stream.where}: it has a part of a commit that ends at {lsn_text(self.part[0])}, and the feed's next one ends at"
                 f" {commit.text()}: remove it to begin anew"
             )
-        if commit.bytes <= ROOM:
-            self.publish_all(list(self.messages(commit, read)))
-        else:
-            for _ in self.messages(commit, read):
-                self.check()
-            try:
-                self.publish_all(self.messages(commit, read))
-            except Damaged as damaged:
-                raise Passing(
-                    f"the feed was altered while a commit was published: {damaged}"
-                ) from None
+        for message in whole(commit, lambda: self.messages(commit, read), self.check):
+            self.publish(message)
         self.part, self.end = None, commit.end
 
     def messages(self, commit: Commit, read: Read) -> Iterator[Said]:
@@ -180,9 +167,7 @@ class Nats:
         for part in read():
             if isinstance(part, TableLine) or part.n <= after:
                 continue
-            if not self.chosen or self.chosen & names_of(
-                part.relation.namespace, part.relation.name
-            ):
+            if self.chosen(part.relation):
                 yield self.sized(change_message(self.name, commit, part))
         yield last_message(self.name, commit, self.about)
 
@@ -196,10 +181,6 @@ class Nats:
                 " raise its max_payload"
             )
         return message
-
-    def publish_all(self, messages: Iterable[Said]) -> None:
-        for message in messages:
-            self.publish(message)
 
     def publish(self, message: Said) -> None:
         self.stream.publish(message.subject, message.id, message.payload)
@@ -246,5 +227,17 @@ class Nats:
         self.stream.wire.close()
 
 
-def connect(url: str, stream: str, check: Check) -> Nats:
-    return Nats(JetStream(Wire(url, check), stream), check)
+def connect(url: str, stream: str, replicas: int, check: Check) -> Nats:
+    """The engine at the first server of a URL, as `nats://one,other:4222`, that is there."""
+    urls = each_server(url)
+    for it in urls[:-1]:
+        with contextlib.suppress(Passing):
+            return Nats(JetStream(Wire(it, check), stream, replicas), check)
+    return Nats(JetStream(Wire(urls[-1], check), stream, replicas), check)
+
+
+def each_server(url: str) -> list[str]:
+    """The URL of each server of a URL, with its login."""
+    scheme, _, rest = url.partition("://")
+    login, sign, hosts = rest.rpartition("@")
+    return [f"{scheme}://{login}{sign}{it}" for it in hosts.split(",")]

@@ -13,7 +13,6 @@ has become of the first. So a base that is begun anew has another number, `5c0f1
 
 import json
 import re
-from collections.abc import Iterator
 from typing import Any, NamedTuple
 
 from ..formats.keys import subject
@@ -126,12 +125,3 @@ def read_last(data: bytes) -> Last:
     return Last(
         lsn_of(told.get("end")), about, None if told.get("rows") is None else whole_of(told["rows"])
     )
-
-
-def numbered(relations: list[Relation], rows: Any) -> Iterator[tuple[Relation, int, Cells]]:
-    """The rows of a base with their numbers."""
-    n = 0
-    for relation in relations:
-        for row in rows(relation):
-            yield relation, n, row
-            n += 1

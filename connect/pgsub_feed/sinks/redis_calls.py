@@ -2,6 +2,7 @@
 
 import contextlib
 import importlib
+import ssl
 import urllib.parse
 from collections.abc import Callable, Iterator, Sequence
 from typing import Any, Protocol, Union
@@ -27,6 +28,8 @@ PASSES = (
     "NOREPLICAS",
     "NOGOODSLAVE",
 )
+# What TLS says where the host rejects the certificate of a sink, or wants one.
+OF_CERTIFICATE = ("CERTIFICATE", "UNKNOWN_CA")
 # How long to wait for a connection, and for what it says, in seconds.
 CONNECT, LONGEST = 10.0, 300.0
 # From how many bytes on Redis may end a connection because of them.
@@ -60,6 +63,25 @@ def understood(where: str) -> Iterator[None]:
         raise EngineError(f"{where}: it said what a sink can't read ({text}): {better}") from None
 
 
+def causes(error: Union[BaseException, None]) -> Iterator[BaseException]:
+    """An error, and those that it came of."""
+    while error:
+        yield error
+        error = error.__cause__ or error.__context__
+
+
+def is_of_certificate(error: BaseException) -> bool:
+    """Whether it came of a certificate: of the host's, which isn't right, or of the sink's own, which
+    the host rejects, lacks or can't be read. Another try ends in the same way."""
+    found = [it for it in causes(error) if isinstance(it, ssl.SSLError)]
+    return any(
+        isinstance(it, ssl.SSLCertVerificationError)
+        or getattr(it, "library", "") in ("X509", "PEM")
+        or any(word in (getattr(it, "reason", "") or "") for word in OF_CERTIFICATE)
+        for it in found
+    )
+
+
 def packed_command(command: Command) -> bytes:
     """A command as it is sent. (The library takes longer for that than all else that a change
     needs.)"""
@@ -91,7 +113,7 @@ class Connection:
     would be forgotten."""
 
     def __init__(self, url: str, check: Check = never) -> None:
-        self.check, self.is_lost = check, False
+        self.check, self.is_lost, self.is_encrypted = check, False, url.startswith("rediss:")
         try:
             self.redis: Any = importlib.import_module("redis")
         except ModuleNotFoundError:
@@ -103,6 +125,9 @@ class Connection:
                 if url.startswith("unix:")
                 else {"socket_connect_timeout": CONNECT, "socket_keepalive": True}
             )
+            if self.is_encrypted and "ssl_cert_reqs" not in url:
+                # (what the URL says itself goes before this)
+                more["ssl_check_hostname"] = True
             pool = self.redis.ConnectionPool.from_url(url, socket_timeout=LONGEST, **more)
             self.connection = pool.make_connection()
         except (ValueError, TypeError) as error:
@@ -147,6 +172,13 @@ class Connection:
         except RecursionError:
             raise EngineError(f"{self.where}: it said what isn't Redis' protocol") from None
         except (errors.RedisError, OSError) as error:
+            if is_of_certificate(error):
+                raise EngineError(f"{self.where}: {shortened(str(error))}") from None
+            is_missing = any(isinstance(it, FileNotFoundError) for it in causes(error))
+            if self.is_encrypted and is_missing:
+                raise FileError(
+                    f"{self.where}: a file that its URL names by ssl_ca_certs, ssl_certfile or ssl_keyfile isn't there"
+                ) from None
             hint = (
                 f" (of {size >> 20} MB that were sent: client-query-buffer-limit may be below that)"
                 if size > MUCH

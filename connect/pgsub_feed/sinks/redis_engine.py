@@ -31,7 +31,7 @@ from ..texts import lsn_text, parse_lsn, shortened
 from .engine import Wanted
 from .first_rows import Base
 from .redis_calls import Calls, Command, Said, raised, understood
-from .redis_disk import Disk
+from .redis_disk import Disk, fields
 from .relations import Holder, Kept, Relations
 
 LSN, SINK, FEED, TABLES, LOADING = (
@@ -144,6 +144,7 @@ class Redis:
             "tables": list(wanted.chosen),
             "as": self.form.name,
         }
+        self.check_alone()
         lsn, about = self.two(("MGET", LSN, FEED))
         if lsn is None:
             # (another one may begin just now, and goes on as long as there is nothing to begin with
@@ -168,6 +169,17 @@ class Redis:
             at = parse_lsn(self.lsn.decode())
         self.reach(at)
         return True
+
+    def check_alone(self) -> None:
+        """Rejects a Redis Cluster, whose keys lie in slots that no MULTI spans."""
+        info = self.calls.run([("INFO", "server")])[0]
+        with understood(self.calls.where):
+            is_cluster = not isinstance(info, Said) and fields(info).get("redis_mode") == "cluster"
+        if is_cluster:
+            raise EngineError(
+                f"{self.calls.where}: it is of a Redis Cluster, in which a MULTI can't have the rows and the LSN: take a Redis by itself, or one"
+                " with replicas"
+            )
 
     def take_over(self) -> None:
         """From now on no other sink's MULTI has an effect."""
@@ -310,6 +322,9 @@ class Redis:
                 continue
             if not (kept := described[oid]):
                 kept = described[oid] = self.relations.take_up(part, commit.end)
+            elif self.relations.kept.get(oid) is not kept:
+                # (another table has had its name in between)
+                kept = described[oid] = self.relations.describe(part.relation, commit.end)
             if kept:
                 self.form.change(kept, part, commit)
         self.end = commit.end

@@ -4,10 +4,14 @@ import argparse
 
 # The variable of the environment that may have the URL.
 ENVIRONMENT = "PGSUB_SINK"
-SCHEMES = {"redis": "redis", "rediss": "redis", "unix": "redis", "nats": "nats", "tls": "nats"}
+SCHEMES = {
+    **dict.fromkeys(("redis", "rediss", "unix", "redis+sentinel"), "redis"),
+    **dict.fromkeys(("nats", "tls"), "nats"),
+    "kafka": "kafka",
+}
 FORMS = (
-    "redis://[[USER]:PASSWORD@]HOST[:PORT][/NUMBER], unix://PATH[?db=NUMBER] or nats://[USER:PASSWORD@]HOST[:PORT];"
-    " by TLS rediss:// or tls:// in their place"
+    "redis://[[USER]:PASSWORD@]HOST[:PORT][/NUMBER], unix://PATH[?db=NUMBER] or nats://[USER:PASSWORD@]HOST[:PORT][,HOST..];"
+    " by TLS rediss:// or tls:// in their place; redis+sentinel://[[USER]:PASSWORD@]SENTINEL[:PORT][,SENTINEL..]/SERVICE[/NUMBER]; kafka://HOST[:PORT][,HOST..][?config=FILE][&NAME=VALUE..]"
 )
 
 
@@ -20,6 +24,6 @@ def url(text: str) -> str:
     # (where there is none, the default is read as if it were one)
     if text and not scheme(text):
         raise argparse.ArgumentTypeError(
-            f"{text!r} is no URL as redis://localhost:6379/0, rediss://.., unix:///path, nats://localhost or tls://.."
+            f"{text!r} is no URL as redis://localhost:6379/0, rediss://.., unix:///path, redis+sentinel://localhost/service/0, nats://localhost, tls://.. or kafka://localhost"
         )
     return text

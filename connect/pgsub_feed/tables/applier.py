@@ -1,100 +1,182 @@
 """The changes of a feed's commits, made to the tables of a file."""
 
 import itertools
+import operator
 import sqlite3
 from collections.abc import Iterable, Sequence
 
 from ..interruption import Check
 from ..reader.commits import XID, Change, Commit, Part, TableLine
 from ..relation import Relation
-from .file import Rows
+from ..texts import identifier
+from .file import OLDER, Rows
 from .set_aside import CANT_KEEP, Unkept, is_of_table, reason
 from .table import Kept
-from .target import Bound
-
-# How many changes of one table are made at once.
-MOST = 1000
+from .user_sql import has_triggers, has_unique_indexes
+from .values import Value
+from .waiting import Joined, Ordered, Waiting
 
 
 class Applier:
-    """Makes changes in the open transaction, those of one kind to one table at once."""
+    """Makes changes in the open transaction, those of one kind to one table at once.
 
-    def __init__(self, rows: Rows, check: Check) -> None:
-        self.rows, self.db, self.check = rows, rows.db, check
-        self.waiting: list[Change] = []
-        # what the changes that wait are of
-        self.relation: Relation | None = None
-        self.op = ""
-        # of the commit: where it ends, the tables that were described, and whether it repairs rows,
-        # but for tables that it truncates
-        self.at = 0
+    `joins`: changes wait over the ends of commits, until `flush`, and those of a row are joined.
+    """
+
+    def __init__(self, rows: Rows, check: Check, joins: bool = False) -> None:
+        self.rows, self.db, self.check, self.joins = rows, rows.db, check, joins
+        # by OID what was told of a table last, the table, and its changes that wait
+        self.told: dict[int, Relation] = {}
         self.kept: dict[int, Kept | None] = {}
+        self.waiting: dict[int, Waiting] = {}
+        # those of them whose name another one has
+        self.older = set[int]()
+        # of the commit: where it ends, and whether it repairs rows, but for tables that it
+        # truncates
+        self.at = 0
         self.is_repair, self.truncated = False, set[int]()
+        # of a repair: whether a table had no row before it
+        self.was_empty: dict[int, bool] = {}
+        self.forget()
+
+    def forget(self) -> None:
+        """Forgets what waits, and what is known of the tables: a transaction begins."""
+        self.told.clear()
+        self.kept.clear()
+        self.waiting.clear()
+        self.older.clear()
+        # whether changes of different tables may be made in another order
+        self.is_free = self.joins and not has_triggers(self.db)
 
     def apply(self, commit: Commit, parts: Iterable[Part]) -> None:
-        """Makes the changes of a commit, all of them: whoever calls has begun a transaction, and
-        ends it."""
-        self.waiting.clear()
-        self.kept.clear()
+        """Makes the changes of a commit, all of them, or has them wait: whoever calls has begun a
+        transaction, and ends it."""
+        is_repair = commit.xid == XID
+        if is_repair or not self.is_free:
+            # (what waits is made as the commits that it is of, before anything is noted of this one)
+            self.flush()
+            self.forget()
+        self.at, self.is_repair = commit.end, is_repair
         self.truncated.clear()
-        self.at, self.is_repair = commit.end, commit.xid == XID
+        self.was_empty.clear()
         for part in parts:
             if isinstance(part, Change):
-                if (
-                    part.op != self.op
-                    or part.relation is not self.relation
-                    or len(self.waiting) >= MOST
-                ):
-                    self.flush()
-                    self.op, self.relation = part.op, part.relation
-                self.waiting.append(part)
+                self.put(part)
             elif isinstance(part, TableLine):
-                self.flush()
-                self.describe(part.relation)
+                if self.told.get(part.relation.oid) is not part.relation:
+                    self.describe(part.relation)
+        if self.is_repair or not self.is_free or self.rows.is_init_due:
+            self.finish()
+            self.forget()
+
+    def finish(self) -> None:
+        """Makes the changes that wait, and has the user's own SQL see them where it is due."""
         self.flush()
         self.rows.initialize()
 
     def describe(self, relation: Relation) -> None:
-        self.kept[relation.oid] = self.rows.describe(relation, self.at)
+        """Has the table of a relation be as it is told."""
+        kept = self.rows.as_told(relation)
+        if kept is None:
+            # (it may take another table's name)
+            self.flush()
+            kept = self.rows.describe(relation, self.at)
+            self.look_again()
+        self.told[relation.oid], self.kept[relation.oid] = relation, kept
+
+    def look_again(self) -> None:
+        """Tables may have other names."""
+        self.told.clear()
+        self.kept = {oid: self.rows.kept.get(oid) for oid in self.kept}
+        self.older = {oid for oid, it in self.kept.items() if it and it.name.startswith(OLDER)}
+
+    def put(self, change: Change) -> None:
+        oid = change.relation.oid
+        if oid in self.older:
+            # (another table has had its name in between, and nothing is told again)
+            self.describe(change.relation)
+        waiting = self.waiting.get(oid)
+        if waiting is None:
+            if not self.is_free or self.is_repair:
+                self.flush()
+            waiting = self.waiting[oid] = self.waiting_of(change.relation)
+        if not waiting.add(change):
+            self.make_waiting(oid)
+            waiting = self.waiting[oid] = self.waiting_of(change.relation)
+            if not waiting.add(change):
+                del self.waiting[oid]
+                self.make_alone(change)
+
+    def make_alone(self, change: Change) -> None:
+        if change.op == "t":
+            oid = change.relation.oid
+            self.truncated.add(oid)
+            if oid in self.rows.asides.known:
+                # (it may take another table's name)
+                self.flush()
+                self.rows.take_up(change.relation, self.at)
+                self.look_again()
+        self.make_those(self.at, [change])
+
+    def waiting_of(self, relation: Relation) -> Waiting:
+        """What the changes of a table wait in."""
+        kept = self.kept[relation.oid] if self.is_free and not self.is_repair else None
+        # (a key that only the catalog tells may be that of several rows for a while)
+        is_joined = kept is not None and kept.target.is_keyed and not kept.primary
+        if kept and is_joined and not has_unique_indexes(self.db, kept.name):
+            return Joined(self.at, kept, relation)
+        return Ordered(self.at)
 
     def flush(self) -> None:
-        """Makes the changes that wait. A table that can't have them is set aside, until it is
-        truncated."""
-        waiting, self.waiting = self.waiting, []
-        if not waiting:
-            return
-        relation = waiting[0].relation
-        if self.op == "t":
-            self.truncated.add(relation.oid)
-            if relation.oid in self.rows.asides.known:
-                self.kept[relation.oid] = self.rows.take_up(relation, self.at)
+        """Makes the changes that wait."""
+        for oid in list(self.waiting):
+            self.make_waiting(oid)
+        self.waiting.clear()
+
+    def make_waiting(self, oid: int) -> None:
+        waiting = self.waiting[oid]
+        for changes in waiting.taken():
+            self.make_those(waiting.at, changes)
+
+    def make_those(self, at: int, changes: list[Change]) -> None:
+        """Makes changes of one kind, of commits from that on which ends there. A table that can't
+        have them is set aside, until it is truncated."""
+        relation = changes[0].relation
         if (kept := self.kept[relation.oid]) is None:
             return
         self.check()
         try:
-            self.take(kept, waiting)
+            self.take(kept, changes)
             return
         except CANT_KEEP as error:
             if not is_of_table(error):
                 raise
             why = reason(error)
         self.kept[relation.oid] = None
-        self.rows.set_aside(relation, self.at, why)
+        self.rows.set_aside(relation, at, why)
 
     def take(self, kept: Kept, changes: list[Change]) -> None:
         """Makes changes of one kind, in the digest too."""
-        if self.is_repair and kept.oid not in self.truncated:
+        if self.is_repair and not self.is_sure(kept, changes[0].op):
             self.repair(kept, changes)
             return
         self.make(kept, changes)
         if self.rows.digests:
             self.rows.digests.note(kept, changes)
 
+    def is_sure(self, kept: Kept, op: str) -> bool:
+        """Whether a repair finds here what it says: of a table that it truncates, or that had no
+        row and gets some, as one does that is added."""
+        query = f"SELECT NOT EXISTS (SELECT 1 FROM {identifier(kept.name)})"
+        if kept.oid not in self.was_empty:
+            self.was_empty[kept.oid] = bool(self.db.execute(query).fetchone()[0])
+        return kept.oid in self.truncated or self.was_empty[kept.oid] and op == "c"
+
     def repair(self, kept: Kept, changes: list[Change]) -> None:
         """Makes rows what they were repaired to. What the copy had of them before may never have
         been here."""
-        if not kept.target.is_keyed or any(
-            it.after and kept.has_null_key(it.after) for it in changes
+        if not kept.target.is_keyed or kept.have_null_keys(
+            [it.after for it in changes if it.after]
         ):
             raise Unkept(
                 kept.relation,
@@ -114,7 +196,7 @@ class Applier:
     def make(self, kept: Kept, changes: list[Change]) -> None:
         """Makes changes of one kind. A table whose key turns out to be none of SQLite's is made
         anew."""
-        if any(it.after and kept.has_null_key(it.after) for it in changes):
+        if kept.have_null_keys([it.after for it in changes if it.after]):
             kept = self.loosened(kept)
         # (a single statement leaves nothing where it fails)
         is_nested = len(changes) > 1 and kept.target.is_keyed
@@ -145,21 +227,24 @@ class Applier:
             self.kept[kept.oid] = self.rows.rekeyed(kept)
             return
         if op == "c":
-            self.run(kept, kept.insertion, [kept.row(it.after or ()) for it in changes])
+            rows = [kept.row(it.after or ()) for it in changes]
+            self.check_done(kept, len(rows), kept.target.insert(self.db, rows))
             return
         kept.find_rows(self.db)
         if op == "d":
             self.run(kept, kept.deletion, [kept.searched(it.before or ()) for it in changes])
             return
-        for keeps, some in itertools.groupby(
-            changes, lambda it: kept.keeps_key(it.before or (), it.after or ())
-        ):
-            rows = [kept.row(it.after or ()) + kept.searched(it.before or ()) for it in some]
-            self.run(kept, kept.change if keeps else kept.update, rows)
+        changed = [kept.changed(it.before or (), it.after or ()) for it in changes]
+        for keeps, some in itertools.groupby(changed, operator.itemgetter(0)):
+            self.run(kept, kept.change if keeps else kept.update, [values for _, values in some])
 
-    def run(self, kept: Kept, statement: str, rows: Sequence[Sequence[Bound]]) -> None:
+    def run(self, kept: Kept, statement: str, rows: Sequence[Sequence[Value]]) -> None:
         """Runs a statement with each of these, which has to change one row each time."""
-        if statement and self.db.executemany(statement, rows).rowcount != len(rows):
+        if statement:
+            self.check_done(kept, len(rows), self.db.executemany(statement, rows).rowcount)
+
+    def check_done(self, kept: Kept, rows: int, done: int) -> None:
+        if done != rows:
             raise Unkept(
                 kept.relation,
                 "a row that the feed changes isn't in it: another program has changed the file",

@@ -19,7 +19,7 @@ from ..reader.commits import Cells, Change
 from .printed import Fields
 from .row_texts import FIRST_WORD, SECOND_WORD, Field, hash_of, text_of, words_of
 from .table import Kept, Valued
-from .target import Bound
+from .values import Value
 
 DIGESTS = "pgsub_digests"
 # The version of a file with digests.
@@ -125,7 +125,7 @@ class Digests:
         images = self.images.get(kept.oid) or self.images.setdefault(kept.oid, Images(kept))
         self.set(kept.oid, self.known[kept.oid].plus(images.of(changes)))
 
-    def take_off(self, kept: Kept, keys: Iterable[Sequence[Bound]]) -> None:
+    def take_off(self, kept: Kept, keys: Iterable[Sequence[Value]]) -> None:
         """Takes off rows that are about to go, by their keys, as they are here."""
         if kept.oid not in self.known:
             return

@@ -207,15 +207,21 @@ class Rows:
 
     # ---- its tables
 
+    def as_told(self, relation: Relation) -> Kept | None:
+        """The table of a relation, where it has its name and shape, and all that is known of its
+        key."""
+        kept = self.kept.get(relation.oid)
+        if kept is None or kept.relation != relation or kept.name.startswith(OLDER):
+            return None
+        return None if self.keys.has_news(relation) else kept
+
     def describe(self, relation: Relation, at: int) -> Kept | None:
         """The table of a relation, in the shape that was told last, by the commit that ends there.
         None of one that wasn't chosen, or is set aside."""
-        kept = self.kept.get(relation.oid)
-        is_older = kept is not None and kept.name.startswith(OLDER)
-        if kept and kept.relation == relation and not is_older:
-            return self.attempt(relation, at) if self.keys.has_news(relation) else kept
+        if kept := self.as_told(relation):
+            return kept
         if not self.is_chosen(relation):
-            self.leave_out(relation, kept)
+            self.leave_out(relation, self.kept.get(relation.oid))
             return None
         if relation.oid in self.asides.known:
             self.asides.rename(relation)

@@ -4,25 +4,34 @@ import contextlib
 import json
 import os
 import sqlite3
+import time
 from collections.abc import Iterable, Iterator
 
+from .. import log
 from ..errors import FileError, Passing, Unfit
 from ..files import copy, own_name, placed, remove
 from ..interruption import Check
+from ..known_tables import KnownTables
 from ..ownership import real
+from ..reader.base import BaseFiles, base_of_feed
 from ..reader.commits import Head
 from ..reader.polling import Poll
 from ..reader.positions import Noted
 from ..reader.reading import Reading
 from ..reader.segments import Reader, read_confirmed, segments
+from ..reader.whole import Sections
 from ..texts import identifier, lsn_text, parse_lsn
+from .applier import Applier
+from .file import Rows
 from .names import POSITION, TABLES, names_of
 from .schema import FEED, FORMS, MORE, RELATIONS, SCHEMA, path_bytes, read_definition
-from .sqlite_files import is_earlier, is_export, is_tables, opened
+from .sqlite_files import end_log, is_earlier, is_export, is_tables, opened
 from .values import ALL_TEXT
 
 # What is told of a file of an earlier version.
 EARLIER = "an earlier version has made it, whose numerics are texts"
+# For how many seconds a feed's first segment is waited for until that is told.
+UNTOLD = 5.0
 
 
 def check_file(path: str) -> None:
@@ -70,8 +79,10 @@ def begins_at(reading: Reading) -> int:
     return read_confirmed(reading.feed) or 0 if is_followed else 0
 
 
-def make(into: str, reading: Reading, form: str, check: Check) -> None:
-    """Makes the file. `form`: how numerics are kept."""
+def make(
+    into: str, reading: Reading, form: str, check: Check, keys: KnownTables | None = None
+) -> None:
+    """Makes the file. `form`: how numerics are kept; `keys` knows primary keys."""
     if reading.base:
         make_from(reading.base, into, reading, form, check)
     elif reading.store:
@@ -82,26 +93,48 @@ def make(into: str, reading: Reading, form: str, check: Check) -> None:
         finally:
             remove(base)
     else:
-        check_begin(reading, check)
-        make_from(None, into, reading, form, check)
+        files = first_rows_of(reading, check)
+        with placed(into, reading.mode) as new:
+            make_empty(new, reading)
+            if files:
+                fill(new, files, form, check, keys)
 
 
-def make_from(base: str | None, into: str, reading: Reading, form: str, check: Check) -> None:
-    """Makes the file with the rows of another one, or empty."""
+def make_empty(new: str, reading: Reading) -> None:
+    with contextlib.closing(sqlite3.connect(new, isolation_level=None)) as db:
+        prepare(db, os.path.abspath(reading.feed), reading.chosen, False)
+
+
+def fill(new: str, files: BaseFiles, form: str, check: Check, keys: KnownTables | None) -> None:
+    """Fills a new file with the rows beside a feed, in one transaction."""
+    rows, sections, is_orderly = Rows(new, None, keys, form), Sections(files), False
+    try:
+        applier = Applier(rows, check)
+        rows.begin()
+        while commit := sections.next():
+            applier.apply(commit, sections.inserts())
+        applier.finish()
+        rows.settle(files.lsn)
+        is_orderly = True
+    finally:
+        rows.close(is_orderly)
+    end_log(new)
+
+
+def make_from(base: str, into: str, reading: Reading, form: str, check: Check) -> None:
+    """Makes the file with the rows of another one."""
     folder = os.path.abspath(reading.feed)
-    if base and not (os.path.isfile(base) and (is_export(base) or is_tables(base))):
+    if not (os.path.isfile(base) and (is_export(base) or is_tables(base))):
         raise FileError(f"--base {base}: it is no export, nor a file of tables that follow a feed")
-    if base:
-        check_base(base, form)
+    check_base(base, form)
     with placed(into, reading.mode) as new:
-        if base and is_tables(base):
+        if is_tables(base):
             clone(base, new)
             return
-        if base:
-            remove(new)
-            copy(base, new, 0o600, check)
+        remove(new)
+        copy(base, new, 0o600, check)
         with contextlib.closing(sqlite3.connect(new, isolation_level=None)) as db:
-            prepare(db, folder, reading.chosen, bool(base))
+            prepare(db, folder, reading.chosen, True)
 
 
 def check_base(base: str, form: str) -> None:
@@ -148,7 +181,13 @@ def head_of(reading: Reading, check: Check) -> Head:
     """The head of the feed's first segment, which is waited for where it follows."""
     with contextlib.closing(Reader(reading.feed)) as reader:
         poll = Poll(reader, reading.follows, check)
+        tells_from = time.monotonic() + UNTOLD
         while poll.next() is None and reader.head is None and reading.follows:
+            if time.monotonic() > tells_from:
+                tells_from = float("inf")
+                log.info(
+                    f"{reading.feed} has no segment yet, as before a follower's first copy is done: it is waited for"
+                )
             poll.rest()
         if reader.head is None:
             raise Passing(
@@ -157,10 +196,15 @@ def head_of(reading: Reading, check: Check) -> Head:
         return reader.head
 
 
-def check_begin(reading: Reading, check: Check) -> None:
-    """Rejects a feed whose first segment isn't that of a copy that was empty."""
-    if base := head_of(reading, check).base:
+def first_rows_of(reading: Reading, check: Check) -> BaseFiles | None:
+    """The rows beside the feed, None where it begins with an empty copy. An Unfit says that rows
+    from before its first segment are missing."""
+    head = head_of(reading, check)
+    if found := base_of_feed(reading.feed, [head.base], head):
+        return found
+    if base := head.base:
         raise Unfit(
             f"{reading.feed}: the feed begins at {lsn_text(base)}, and there may be rows from before: name the store"
             " by --store, or an export since then by --base"
         )
+    return None

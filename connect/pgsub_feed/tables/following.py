@@ -1,25 +1,30 @@
 """A file of tables that follows a feed: made, or gone on with."""
 
+import contextlib
 import dataclasses
 import os
 
 from .. import log
 from ..errors import Passing, Stopped, Unfit
+from ..files import OF_FILE, meant, own_name, remove, remove_files, sync_folder
 from ..interruption import Check
 from ..known_tables import KnownTables
+from ..reader.base import base_of_feed
 from ..reader.commits import Commit
 from ..reader.following import Following, Read
 from ..reader.polling import Parent
 from ..reader.positions import Noted
 from ..reader.reading import Reading
+from ..reader.segments import segments
 from ..texts import lsn_text
 from .applier import Applier
 from .file import Rows
-from .first_rows import EARLIER, keeping, make
+from .digests import has_digests
+from .first_rows import EARLIER, begins_at, keeping, make
 from .indexes import Indexes
-from .rewind import walk
+from .rewind import Lost, walk
 from .set_aside import shown_asides
-from .sqlite_files import is_earlier
+from .sqlite_files import end_log, is_earlier, opened
 from .user_sql import Init
 from .values import BOTH
 
@@ -46,7 +51,7 @@ class Tables:
     """Keeps commits in the tables of an open file, several in one transaction."""
 
     def __init__(self, rows: Rows, check: Check) -> None:
-        self.rows, self.check, self.applier = rows, check, Applier(rows, check)
+        self.rows, self.check, self.applier = rows, check, Applier(rows, check, joins=True)
         # of the open transaction: how many changes it has, and where its last commit ends
         self.changes, self.end = 0, rows.at
 
@@ -58,6 +63,7 @@ class Tables:
         if not self.rows.db.in_transaction:
             self.changes = 0
             self.rows.begin()
+            self.applier.forget()
         self.applier.apply(commit, read())
         self.changes += commit.changes + 1
         self.end = commit.end
@@ -65,10 +71,13 @@ class Tables:
             self.settle()
 
     def settle(self) -> None:
+        if self.rows.db.in_transaction:
+            self.applier.finish()
         self.rows.settle(self.end)
 
     def forget(self) -> None:
         self.rows.roll_back()
+        self.applier.forget()
         self.end = self.rows.at
 
     def look(self) -> None:
@@ -84,7 +93,50 @@ class Tables:
 
 
 def keep(wanted: Wanted, check: Check, parent: Parent | None = None) -> tuple[int, list[str]]:
-    """Keeps the tables of a file. Returns its LSN at the end, and the tables that are set aside."""
+    """Keeps the tables of a file. Returns its LSN at the end, and the tables that are set aside.
+
+    A file that can't be taken back to an LSN is made anew, where there are first rows from which
+    the feed leads there."""
+    try:
+        return keep_file(wanted, check, parent)
+    except Lost as lost:
+        if not leads_there(wanted.reading):
+            raise
+        log.info(f"{wanted.into} is made anew: {lost.__cause__}")
+    return keep_anew(wanted, check, parent)
+
+
+def leads_there(reading: Reading) -> bool:
+    """Whether there are first rows, that are named or beside the feed, of the LSN that is asked for
+    or before."""
+    if reading.until is None or reading.store:
+        return False
+    if reading.base:
+        return begins_at(reading) <= reading.until
+    files = base_of_feed(reading.feed, [base for base, _ in segments(reading.feed)], None)
+    return files is not None and files.lsn <= reading.until
+
+
+def keep_anew(wanted: Wanted, check: Check, parent: Parent | None) -> tuple[int, list[str]]:
+    """The same with a new file, which replaces the one that is there once it is complete."""
+    into = meant(wanted.into)
+    new = own_name(into)
+    with contextlib.closing(opened(into)) as db:
+        has = wanted.has_digests or has_digests(db)
+    try:
+        done = keep_file(dataclasses.replace(wanted, into=new, has_digests=has), check, parent)
+        end_log(new)
+        for suffix in OF_FILE[1:]:
+            remove(into + suffix)
+        os.replace(new, into)
+        sync_folder(into)
+        return done
+    finally:
+        remove_files(new)
+
+
+def keep_file(wanted: Wanted, check: Check, parent: Parent | None) -> tuple[int, list[str]]:
+    """The same of the file that is there, or isn't yet."""
     reading = wanted.reading
     init = Init(wanted.init) if wanted.init else None
     is_there = os.path.exists(wanted.into)
@@ -93,7 +145,7 @@ def keep(wanted: Wanted, check: Check, parent: Parent | None = None) -> tuple[in
         is_there = False
     if not is_there:
         with keeping(reading):
-            make(wanted.into, reading, wanted.form, check)
+            make(wanted.into, reading, wanted.form, check, wanted.keys)
     indexes = Indexes(wanted.keys) if wanted.keys and wanted.has_indexes else None
     rows, is_orderly = Rows(wanted.into, init, wanted.keys, wanted.form, indexes), False
     try:

@@ -16,8 +16,7 @@ from .floats import stored_float
 from .reshape import printed
 from .row_texts import Field
 from .table import Valued
-from .target import Bound
-from .values import BOOL, BYTEA, FLOAT4, scale_of
+from .values import BOOL, BYTEA, FLOAT4, Value, scale_of
 
 
 class Fields:
@@ -34,7 +33,7 @@ class Fields:
             if (scale := scale_of(column)) is not None and target.types(at) == ["REAL"]
         ]
 
-    def of_row(self, row: Sequence[Bound]) -> list[Field]:
+    def of_row(self, row: Sequence[Value]) -> list[Field]:
         """Those of a row of SQLite. What isn't UTF-8 there stays as it is, and is equal to nothing
         that a server prints."""
         # (a table without columns has one here)
@@ -78,7 +77,7 @@ def has_scale(cell: Cell, scale: int) -> bool:
     return "e" not in cell and ("." not in cell if scale <= 0 else cell[-scale - 1 : -scale] == ".")
 
 
-def told(column: Column, value: Bound) -> Field:
+def told(column: Column, value: Value) -> Field:
     """A value as the server prints it. A number that none of the type is stored as gives what no
     server prints."""
     if isinstance(value, float) and scale_of(column) is None:

@@ -18,14 +18,14 @@ from .floats import printed_float, stored_numeric
 from .names import OLD
 from .set_aside import Unkept
 from .table import Kept, Valued, rows_index
-from .target import Bound, key_index
-from .values import BOOL, FLOAT4, scale_of
+from .target import key_index
+from .values import BOOL, FLOAT4, Value, scale_of
 
 # What is told of a table whose key is none of SQLite's.
 LOOSE = "rows have null in the key, or equal keys: the table has an index in place of a primary key"
 
 
-def printed(column: Column, value: Bound) -> Cell:
+def printed(column: Column, value: Value) -> Cell:
     """A value of SQLite as the server prints it."""
     if value is None or isinstance(value, str):
         return value
@@ -92,7 +92,7 @@ def extend(db: sqlite3.Connection, old: Kept, new: Kept) -> bool:
         return False
     for column, (kind, _, _) in list(zip(now.columns, now.kinds, strict=True))[old.width :]:
         db.execute(f"ALTER TABLE {identifier(new.name)} ADD COLUMN {column} {kind}")
-    new.has_index = old.has_index
+    new.note_index(old.has_index)
     return True
 
 
@@ -136,10 +136,10 @@ def put(cursor: sqlite3.Cursor, old: Kept, new: Kept) -> None:
     if is_same:
         cursor.execute(f"INSERT INTO {identifier(new.name)} {query}")
     else:
-        cursor.executemany(new.insertion, converted(cursor.connection, query, old, new))
+        cursor.executemany(new.target.insertion(), converted(cursor.connection, query, old, new))
 
 
-def converted(db: sqlite3.Connection, query: str, old: Kept, new: Kept) -> Iterator[list[Bound]]:
+def converted(db: sqlite3.Connection, query: str, old: Kept, new: Kept) -> Iterator[list[Value]]:
     """The rows with what their values are in the new shape."""
     places, shape = sources(old, new), old.target.relation.shape
     columns = [None if at is None else shape.columns[at] for at in places]

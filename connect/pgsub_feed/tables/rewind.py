@@ -5,7 +5,7 @@ columns that were dropped or whose type is another one since.
 """
 
 import dataclasses
-from collections.abc import Iterator
+from collections.abc import Iterable, Iterator
 
 from ..errors import Unfit
 from ..interruption import Check
@@ -36,6 +36,16 @@ class Way:
     commits: list[tuple[Cursor, Commit]] = dataclasses.field(default_factory=list)
     told: dict[int, Relation] = dataclasses.field(default_factory=dict)
 
+    def note(self, parts: Iterable[Part]) -> None:
+        """Notes what a commit tells of relations, by definitions or by rows that follow another
+        one's."""
+        last: Relation | None = None
+        for part in parts:
+            if part.relation is not last and not isinstance(part, Missed):
+                last = part.relation
+                self.told.pop(last.oid, None)
+                self.told[last.oid] = last
+
 
 def look(reader: Reader, rows: Rows, at: int, check: Check) -> Way:
     """Looks for the way from a file back to an LSN."""
@@ -54,10 +64,7 @@ def look(reader: Reader, rows: Rows, at: int, check: Check) -> Way:
             way.commits.append((reader.before(commit), commit))
             continue
         way.at = commit.end
-        for part in reader.parts(commit):
-            if isinstance(part, TableLine):
-                way.told.pop(part.relation.oid, None)
-                way.told[part.relation.oid] = part.relation
+        way.note(reader.parts(commit))
     if end != rows.at:
         raise Unfit(f"{reader.folder}: no commit ends at {lsn_text(rows.at)}, where {rows.path} is")
     return way
@@ -79,7 +86,7 @@ def walk(folder: str, rows: Rows, at: int, check: Check) -> None:
             applier.apply(commit, turned(rows, commit, list(reader.parts(commit))))
         settle(rows, way)
     except Lost as lost:
-        raise Unfit(f"{lost}. {forward(way, at)}") from None
+        raise Lost(f"{lost}. {forward(way, at)}") from lost
     finally:
         reader.close()
 

@@ -60,6 +60,11 @@ def relation_text(it: Relation, **more: object) -> str:
     return json.dumps(told, ensure_ascii=False, separators=(",", ":"))
 
 
+def table_line(it: Relation) -> bytes:
+    """The line of a definition, without its end."""
+    return b'{"op":"table",' + relation_text(it).encode()[1:]
+
+
 def full_name(relation: Relation) -> tuple[str, str]:
     return relation.namespace or "pg_catalog", relation.name
 

@@ -1,5 +1,6 @@
 """Files of SQLite that these programs make: exports, and tables that follow a feed."""
 
+import contextlib
 import os
 import sqlite3
 import urllib.parse
@@ -48,6 +49,13 @@ def opened(path: str) -> sqlite3.Connection:
     """Opens a file of tables for reading."""
     name = f"file:{urllib.parse.quote(os.fsencode(os.path.abspath(path)))}?mode=ro"
     return sqlite3.connect(name, uri=True, timeout=10.0, isolation_level=None)
+
+
+def end_log(path: str) -> None:
+    """Has a file that is about to get another name need no log beside it. An error says that it
+    can't be, as where the disk is full."""
+    with contextlib.closing(sqlite3.connect(path, isolation_level=None)) as db:
+        db.execute("PRAGMA journal_mode = DELETE")
 
 
 def check_sqlite() -> None:

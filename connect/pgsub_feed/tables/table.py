@@ -2,16 +2,18 @@
 """
 
 import math
+import operator
 import sqlite3
-from collections.abc import Sequence
+from collections.abc import Callable, Sequence
+from typing import Any
 
 from ..reader.commits import Cell
 from ..relation import Relation
 from ..texts import identifier
 from .names import folded
 from .set_aside import Unkept
-from .target import Bound, Target, key_index, unlike_reason
-from .values import BOTH, Unlike
+from .target import Target, key_index, unlike_reason
+from .values import BOTH, Unlike, Value, text_reader
 
 # How many columns the index has by which a row without a key is found.
 INDEXED = 4
@@ -20,7 +22,7 @@ ROW_IDS = ("rowid", "_rowid_", "oid")
 IS_MINUS_ZERO = "pgsub_is_minus_zero"
 
 
-def is_minus_zero(value: Bound) -> bool:
+def is_minus_zero(value: Value) -> bool:
     return value == 0 and isinstance(value, float) and math.copysign(1, value) < 0
 
 
@@ -48,41 +50,43 @@ class Valued:
         self.target = Target(name, relation, form, primary)
         self.width = len(self.target.columns)
         self.is_wider = self.width > len(self.target.several)
-        # the columns whose values aren't what their cells are
-        self.read = [at for at, (kind, _, _) in enumerate(self.target.kinds) if kind != "TEXT"]
+        # the columns whose values aren't what their cells are, with what reads these
+        kinds = enumerate(self.target.kinds)
+        self.read: list[tuple[int, Callable[[Any], Value]]] = [
+            (at, text_reader(read)) for at, (kind, read, _) in kinds if kind != "TEXT"
+        ]
 
-    def row(self, cells: Sequence[Cell]) -> list[Bound]:
+    def row(self, cells: Sequence[Cell]) -> list[Value]:
         """A row's cells as SQLite takes them."""
         if not cells:
             return [None]
         if self.is_wider:
             cells = [cells[at] for at in self.target.places]
-        values: list[Bound] = list(cells)
+        values: list[Value] = list(cells)
         if bytes in map(type, cells):
             return [self.value(at, cell) for at, cell in enumerate(cells)]
-        for at in self.read:
-            if cells[at] is not None:
-                values[at] = self.value(at, cells[at])
+        for at, read in self.read:
+            if (cell := cells[at]) is not None:
+                try:
+                    values[at] = read(cell)
+                except ValueError:
+                    raise self.unlike(at, cell) from None
         return values
 
-    def unlike(self, at: int, cell: Bound) -> Unkept:
+    def unlike(self, at: int, cell: Value) -> Unkept:
         shown = cell if isinstance(cell, bytes) else str(cell).encode()
         unlike = Unlike(self.target.places[at], shown)
         return Unkept(self.relation, unlike_reason(self.relation, unlike))
 
-    def value(self, at: int, cell: Cell) -> Bound:
+    def value(self, at: int, cell: Cell) -> Value:
         """A cell as a column of SQLite has it."""
         kind, read, read_binary = self.target.kinds[at]
         try:
             if isinstance(cell, bytes):
-                value: Bound = read_binary(cell)
-            elif cell is None or kind == "TEXT":
-                return cell
-            else:
-                value = read(cell.encode())
+                return read_binary(cell)
+            return cell if cell is None or kind == "TEXT" else read(cell.encode())
         except ValueError:
             raise self.unlike(at, cell) from None
-        return value.decode() if isinstance(value, bytes) and kind == "ANY" else value
 
 
 class Kept(Valued):
@@ -104,19 +108,25 @@ class Kept(Valued):
     ) -> None:
         super().__init__(name, relation, form, primary)
         if is_loose:
-            self.target.is_keyed = False
+            self.target.loosen()
         self.keys = [self.target.places[at] for at in self.target.key]
+        # (of one column the cell, of several their tuple)
+        self.key: Callable[[Sequence[Cell]], object] = operator.itemgetter(*self.keys or (0,))
         self.has_index = False
         self.write_statements()
 
     def rename(self, name: str) -> None:
-        self.name = self.target.name = name
+        self.name = name
+        self.target.rename(name)
         self.write_statements()
+
+    def note_index(self, has_index: bool) -> None:
+        """Whether the index is there by which rows are found."""
+        self.has_index = has_index
 
     def write_statements(self) -> None:
         target, name = self.target, identifier(self.name)
         columns = target.columns
-        self.insertion = target.insertion()
         everything = list(range(self.width))
         self.found = target.key if target.is_keyed else everything
         rest = [at for at in everything if at not in self.found] if target.is_keyed else everything
@@ -169,17 +179,23 @@ class Kept(Valued):
         )
         raise Unkept(self.relation, why)
 
-    def searched(self, cells: Sequence[Cell]) -> list[Bound]:
+    def searched(self, cells: Sequence[Cell]) -> list[Value]:
         """The values that find a row: of a keyed one only its key is looked at."""
         if not self.target.is_keyed:
             return self.row(cells)
         return [self.value(at, cells[key]) for at, key in zip(self.found, self.keys, strict=True)]
 
-    def keeps_key(self, before: Sequence[Cell], after: Sequence[Cell]) -> bool:
-        return self.target.is_keyed and all(before[at] == after[at] for at in self.keys)
+    def changed(self, before: Sequence[Cell], after: Sequence[Cell]) -> tuple[bool, list[Value]]:
+        """Whether a row's key stays, and the values of the new row, then those that find the
+        old one."""
+        values = self.row(after)
+        if not (self.target.is_keyed and self.key(before) == self.key(after)):
+            return False, values + self.searched(before)
+        return True, values + [values[at] for at in self.found]
 
-    def has_null_key(self, cells: Sequence[Cell]) -> bool:
-        return self.target.is_keyed and any(cells[at] is None for at in self.keys)
+    def have_null_keys(self, rows: Sequence[Sequence[Cell]]) -> bool:
+        """Whether a row has null in the key."""
+        return self.target.is_keyed and any(None in [row[at] for row in rows] for at in self.keys)
 
     def is_of_key(self, error: sqlite3.IntegrityError) -> bool:
         """Whether the values of a key are there already."""

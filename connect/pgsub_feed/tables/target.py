@@ -1,20 +1,19 @@
 """The table of SQLite that a relation becomes, in an export and in a file that follows a feed."""
 
 import dataclasses
+import functools
 import itertools
-from collections.abc import Collection, Sequence
+import sqlite3
+from collections.abc import Callable, Collection, Iterable, Sequence
 
 from ..relation import Column, Relation, Shape
 from ..texts import identifier
 from .names import name_columns
 from .set_aside import Unkept
-from .values import AS_REAL, BOTH, Kind, Unlike, Value, is_rounded, kinds_of
+from .values import AS_REAL, BOTH, Kind, Row, Unlike, is_rounded, kinds_of, rows_reader
 
 # The column of a table that has none, since SQLite has no such tables.
 NONE = Column("pgsub_none", 25, -1, False)
-
-# A value as it is bound.
-Bound = Value | str
 
 
 def with_columns(relation: Relation) -> Relation:
@@ -24,8 +23,9 @@ def with_columns(relation: Relation) -> Relation:
     return dataclasses.replace(relation, shape=Shape(relation.shape.identity, (NONE,)))
 
 
-# How many columns a table of SQLite has at most.
-MOST_COLUMNS = 2000
+# How many columns a table of SQLite has at most, and how many values a statement inserts at most,
+# where a row hasn't more.
+MOST_COLUMNS, MOST_VALUES = 2000, 1000
 
 
 class Target:
@@ -62,8 +62,26 @@ class Target:
         self.key = [self.exact[at] for at, it in enumerate(columns) if it.name in told]
         # whether the key is one of SQLite's
         self.is_keyed = bool(self.key)
-        self.waiting: list[tuple[list[Bound], int]] = []
+        self.is_bare = not self.told.shape.columns
+        # rows of a store, and how many there are of each
+        self.waiting: list[tuple[bytes, int]] = []
         self.rows = 0
+        # the statements that insert rows, by how many
+        self.insertions = dict[int, str]()
+
+    def rename(self, name: str) -> None:
+        self.name = name
+        self.insertions.clear()
+
+    def loosen(self) -> None:
+        """The key is none of SQLite's, since rows have null in it, or equal ones."""
+        self.is_keyed = False
+
+    def take(self) -> list[tuple[bytes, int]]:
+        """The rows that wait, which are about to be written, and so counted."""
+        waiting, self.waiting = self.waiting, []
+        self.rows += sum(copies for _, copies in waiting)
+        return waiting
 
     def named(self, at: int) -> list[str]:
         """The columns of SQLite that are of a column of the relation."""
@@ -95,25 +113,39 @@ class Target:
         parts += [f"PRIMARY KEY ({self.keys()})"] if self.is_keyed else []
         return f"CREATE TABLE {identifier(self.name)} ({', '.join(parts)}) STRICT"
 
-    def insertion(self) -> str:
-        # (a text comes as its bytes)
-        values = (
-            f"CAST(?{at} AS TEXT)" if kind == "TEXT" else f"?{at}"
-            for at, (kind, _, _) in enumerate(self.kinds, 1)
-        )
-        return f"INSERT INTO {identifier(self.name)} VALUES ({', '.join(values)})"
+    def insertion(self, count: int = 1) -> str:
+        """The statement that inserts so many rows."""
+        if count not in self.insertions:
+            # (a text may come as its bytes)
+            values = ("CAST(? AS TEXT)" if kind == "TEXT" else "?" for kind, _, _ in self.kinds)
+            rows = ", ".join([f"({', '.join(values)})"] * count)
+            self.insertions[count] = f"INSERT INTO {identifier(self.name)} VALUES {rows}"
+        return self.insertions[count]
 
-    def row(self, values: list[Value]) -> list[Bound]:
-        """A row's values as SQLite takes them: what is no number in a column of floats is a
-        text."""
-        kinds = self.kinds
-        return [
-            it.decode() if isinstance(it, bytes) and kinds[at][0] == "ANY" else it
-            for at, it in enumerate(values)
-        ]
+    def insert(self, db: sqlite3.Connection, rows: Iterable[Row]) -> int:
+        """Inserts rows, several by a statement, of which all are there or none. Returns how many
+        there are now."""
+        most = max(MOST_VALUES // len(self.columns), 1)
+        left, done = iter(rows), 0
+        while some := [*itertools.islice(left, most)]:
+            if len(some) < most:
+                cursor = db.executemany(self.insertion(), some)
+            else:
+                cursor = db.execute(self.insertion(most), [*itertools.chain.from_iterable(some)])
+            done += cursor.rowcount
+        return done
 
-    def has_null_key(self, values: Sequence[Bound]) -> bool:
-        return self.is_keyed and any(values[at] is None for at in self.key)
+    @functools.cached_property
+    def read_rows(self) -> Callable[[Sequence[bytes]], list[Row]]:
+        return rows_reader(self.several)
+
+    def row_values(self, bodies: Sequence[bytes]) -> list[Row]:
+        """The values of rows as SQLite takes them."""
+        return [(None,)] * len(bodies) if self.is_bare else self.read_rows(bodies)
+
+    def have_null_keys(self, rows: Sequence[Row]) -> bool:
+        """Whether a row has null in the key."""
+        return self.is_keyed and any(None in [row[at] for row in rows] for at in self.key)
 
 
 def unlike_reason(relation: Relation, unlike: Unlike) -> str:

@@ -33,6 +33,17 @@ def allow(action: int, *_: object) -> int:
     return sqlite3.SQLITE_DENY if action in DENIED else sqlite3.SQLITE_OK
 
 
+def has_triggers(db: sqlite3.Connection) -> bool:
+    """Whether something of the user's sees each change of some table."""
+    return bool(db.execute("SELECT 1 FROM sqlite_schema WHERE type = 'trigger' LIMIT 1").fetchone())
+
+
+def has_unique_indexes(db: sqlite3.Connection, table: str) -> bool:
+    """Whether a table has unique indexes of the user's, beside its own key."""
+    query = """SELECT 1 FROM pragma_index_list(?) WHERE "unique" AND origin <> 'pk'"""
+    return bool(db.execute(query, (table,)).fetchone())
+
+
 class Init:
     """The statements of a file. They are run in the transaction that made or altered the table."""
 

@@ -1,0 +1,236 @@
+"""The messages of a change: its envelope under the row's key, and what a key that is gone needs.
+
+| Change | Messages |
+|---|---|
+| insert, update, row of a base | an envelope with `c`, `u` or `r` |
+| update of the key | `d` and a tombstone under the old key, `c` under the new one |
+| delete | `d` and a tombstone |
+| TRUNCATE | `t` without a key |
+
+A table without a key has no tombstones, and updates as they are.
+"""
+
+import collections
+import time
+from collections.abc import Callable, Iterable, Iterator, Sequence
+from typing import Any, NamedTuple
+
+from .. import log
+from ..formats.lines import compact
+from ..interruption import Check, never
+from ..known_tables import KnownTables
+from ..reader.commits import XID, Cells, Change, Commit, Head, Missed
+from ..relation import Relation
+from ..tables.primary_keys import OTHER, lacking, other_key
+from .settings import TOMBSTONES, TRANSACTIONS, Settings
+from .sources import Moment, Source, field, versioned
+from .tables import Table, schema_text
+
+# The op of a row that was there before the first commit.
+BASE = "r"
+ID = [field("id", "string", False)]
+TRANSACTION_KEY = schema_text(
+    versioned("io.debezium.connector.common.TransactionMetadataKey", 1, ID)
+)
+COLLECTION = versioned(
+    "event.collection",
+    1,
+    [field("data_collection", "string", False), field("event_count", "int64", False)],
+)
+TRANSACTION_VALUE = schema_text(
+    versioned(
+        "io.debezium.connector.common.TransactionMetadataValue",
+        1,
+        [
+            field("status", "string", False),
+            *ID,
+            field("event_count", "int64", True),
+            {"type": "array", "items": COLLECTION, "optional": True, "field": "data_collections"},
+            field("ts_ms", "int64", False),
+        ],
+    )
+)
+
+
+class Message(NamedTuple):
+    """A message of a topic: `key` and `value` are JSON, or None. `n` is the number of its change in
+    the commit, and `part` that of the message among the change's. `is_to_all`: it is for each
+    partition."""
+
+    topic: str
+    key: bytes | None
+    value: bytes | None
+    n: int
+    part: int = 0
+    is_to_all: bool = False
+
+
+def with_schema(schema: bytes, payload: object) -> bytes:
+    return b'{"schema":%b,"payload":%b}' % (schema, compact(payload).rstrip(b"\n"))
+
+
+class Envelopes:
+    """Makes messages of the changes of a feed. `known`: the store knows the primary keys that no
+    message tells."""
+
+    def __init__(
+        self, settings: Settings, known: KnownTables | None = None, check: Check = never
+    ) -> None:
+        self.settings, self.known, self.check = settings, known, check
+        self.tables = dict[int, Table]()
+        self.told = set[str]()
+        self.topics = dict[str, int]()
+
+    def begin(self, head: Head, commit: Commit, is_base: bool = False) -> None:
+        """Begins a commit, or the rows of a base."""
+        self.commit = commit
+        moment = Moment(time.time_ns())
+        self.source = Source(self.settings.prefix, head, commit, moment, is_base)
+        self.times: dict[str, object] = moment.told
+        has_xid = commit.xid is not None and commit.xid != XID
+        self.id = f"{commit.xid}:{self.source.lsn}" if has_xid else None
+        # how many envelopes the commit has so far, by table and in all
+        self.counts = collections.Counter[str]()
+        self.total = 0
+
+    def messages(self, it: Change | Missed) -> Iterator[Message]:
+        """Those of a change. One that found no row has none, which is told once."""
+        if isinstance(it, Missed):
+            self.tell(
+                "x", f"{self.commit.text()}: a change that found no row is left out, and any later"
+            )
+            return
+        table = self.table(it.relation)
+        before, after = (self.key(table, it.n, row) for row in (it.before, it.after))
+        if it.op == "u" and before and before != after:
+            yield from self.deletion(table, before, it)
+            yield self.envelope(table, after, "c", None, it.after, it.n, 2)
+        elif it.op == "d":
+            yield from self.deletion(table, before, it)
+        else:
+            key = before if it.op == "d" else after
+            is_to_all = it.op == "t"
+            yield self.envelope(table, key, it.op, it.before, it.after, it.n, is_to_all=is_to_all)
+
+    def row(self, relation: Relation, row: Cells, n: int) -> Message:
+        """That of a row that was there before."""
+        table = self.table(relation)
+        return self.envelope(table, self.key(table, n, row), BASE, None, row, n)
+
+    def deletion(self, table: Table, key: bytes | None, it: Change) -> Iterator[Message]:
+        yield self.envelope(table, key, "d", it.before, None, it.n)
+        if key is not None and self.settings[TOMBSTONES] == "true":
+            yield Message(table.topic, key, None, it.n, 1)
+
+    def envelope(
+        self,
+        table: Table,
+        key: bytes | None,
+        op: str,
+        before: Cells | None,
+        after: Cells | None,
+        n: int,
+        part: int = 0,
+        is_to_all: bool = False,
+    ) -> Message:
+        relation = table.relation
+        self.total += 1
+        self.counts[table.collection] += 1
+        order: dict[str, object] = {
+            "id": self.id,
+            "total_order": self.total,
+            "data_collection_order": self.counts[table.collection],
+        }
+        where = {"schema": relation.namespace or "pg_catalog", "table": relation.name}
+        payload: dict[str, object] = {
+            "before": table.row(before),
+            "after": table.row(after),
+            "source": self.source.told | where,
+            "transaction": order if self.id else None,
+            "op": op,
+        }
+        value = self.text(lambda: table.schema, payload | self.times)
+        return Message(table.topic, key, value, n, part, is_to_all)
+
+    def text(self, schema: Callable[[], bytes], payload: object) -> bytes:
+        if self.settings.schemas:
+            return with_schema(schema(), payload)
+        return compact(payload).rstrip(b"\n")
+
+    def key(self, table: Table, n: int, cells: Sequence[Any] | None) -> bytes | None:
+        if cells is None or not table.key:
+            return None
+        row = table.key_row(cells)
+        if row is None:
+            name = table.relation.text()
+            text = "a row has null in the key, so its messages have none"
+            self.tell(name, f"{self.commit.text()}:{n}: {name}: {text}")
+            return None
+        return self.text(lambda: table.key_schema, row)
+
+    # ---- transactions
+
+    def boundary(self, is_end: bool) -> Iterator[Message]:
+        """What tells that the transaction of a commit begins or ends, where that is asked for."""
+        if self.settings[TRANSACTIONS] != "true" or self.id is None:
+            return
+        collections_told = [
+            {"data_collection": name, "event_count": count} for name, count in self.counts.items()
+        ]
+        payload = {
+            "status": "END" if is_end else "BEGIN",
+            "id": self.id,
+            "event_count": self.total if is_end else None,
+            "data_collections": collections_told if is_end else None,
+            "ts_ms": self.source.told["ts_ms"],
+        }
+        key = self.text(lambda: TRANSACTION_KEY, {"id": self.id})
+        value = self.text(lambda: TRANSACTION_VALUE, payload)
+        n = self.commit.changes if is_end else -1
+        yield Message(f"{self.settings.prefix}.transaction", key, value, n)
+
+    def of_commit(
+        self, head: Head, commit: Commit, changes: Iterable[Change | Missed]
+    ) -> Iterator[Message]:
+        """All messages of a commit, in order."""
+        self.begin(head, commit, commit.base is not None)
+        yield from self.boundary(is_end=False)
+        for it in changes:
+            yield from self.messages(it)
+        yield from self.boundary(is_end=True)
+
+    # ---- tables
+
+    def table(self, relation: Relation) -> Table:
+        found, primary = self.tables.get(relation.oid), self.primary(relation)
+        if found is None or (found.relation, found.primary) != (relation, primary):
+            found = self.tables[relation.oid] = Table(relation, primary, self.settings, self.told)
+            self.claim(found)
+        return found
+
+    def claim(self, table: Table) -> None:
+        """Tells where another table has had the topic."""
+        oid = self.topics.setdefault(table.topic, table.relation.oid)
+        if oid != table.relation.oid:
+            name = table.relation.text()
+            self.tell(
+                name, f"{name}: the topic {table.topic} has rows of another table, {oid}, too"
+            )
+            self.topics[table.topic] = table.relation.oid
+
+    def primary(self, relation: Relation) -> tuple[str, ...]:
+        """The columns of the primary key of a table whose replica identity is another, as the store
+        knows it."""
+        if relation.shape.identity not in OTHER or self.known is None:
+            return ()
+        if relation.oid in self.tables:
+            self.known.look()
+        else:
+            self.known.wait(relation.oid, self.commit.end, self.check)
+        found = self.known.primary(relation.oid) or ()
+        return () if lacking(found, relation) else other_key(relation, found)
+
+    def tell(self, what: str, text: str) -> None:
+        if what not in self.told:
+            self.told.add(what)
+            log.warning(text)

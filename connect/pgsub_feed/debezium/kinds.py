@@ -1,0 +1,234 @@
+"""The types of PostgreSQL as types of Kafka Connect: the schema of each, and what reads a value.
+
+A type that isn't PostgreSQL's own, or has no form of its own in Debezium, is a string, as the
+server prints it.
+"""
+
+import base64
+from collections.abc import Callable
+from typing import Any, NamedTuple
+
+from ..tables.values import BOOL, BYTEA, FLOAT4, FLOAT8, INT2, INT4, INT8, NUMERIC
+from . import times
+from .arrays import read_elements
+from .numbers import (
+    Read,
+    based,
+    bits_of,
+    bytes_as,
+    of_money,
+    plain_money,
+    read_bit,
+    read_bool,
+    read_float,
+    read_point,
+    scaled,
+    signed,
+    variable_scale,
+    whole,
+)
+from .settings import BINARIES, DECIMALS, INTERVALS, TIMES, Settings
+
+Schema = dict[str, Any]
+
+OID, JSON, XML, POINT, MONEY, DATE, TIME, TIMESTAMP, TIMESTAMPTZ, INTERVAL, TIMETZ = (
+    26, 114, 142, 600, 790, 1082, 1083, 1114, 1184, 1186, 1266,
+)  # fmt: skip
+BIT, VARBIT, UUID, JSONB, TSVECTOR = 1560, 1562, 2950, 3802, 3614
+# By the OID of an array's type that of its elements'. (Those of box are separated by `;`.)
+ARRAYS = {
+    143: XML, 199: JSON, 271: 5069, 629: 628, 651: 650, 719: 718, 775: 774, 791: MONEY, 1000: BOOL,
+    1001: BYTEA, 1002: 18, 1003: 19, 1005: INT2, 1007: INT4, 1008: 24, 1009: 25, 1010: 27, 1011: 28,
+    1012: 29, 1014: 1042, 1015: 1043, 1016: INT8, 1017: POINT, 1018: 601, 1019: 602, 1021: FLOAT4,
+    1022: FLOAT8, 1027: 604, 1028: OID, 1034: 1033, 1040: 829, 1041: 869, 1115: TIMESTAMP,
+    1182: DATE, 1183: TIME, 1185: TIMESTAMPTZ, 1187: INTERVAL, 1231: NUMERIC, 1263: 2275,
+    1270: TIMETZ, 1561: BIT, 1563: VARBIT, 2201: 1790, 2210: 2205, 2211: 2206, 2949: 2970,
+    2951: UUID, 3221: 3220, 3643: TSVECTOR, 3645: 3615, 3807: JSONB, 3905: 3904, 3907: 3906,
+    3909: 3908, 3911: 3910, 3913: 3912, 3927: 3926, 4073: 4072, 5039: 5038, 6150: 4451, 6151: 4532,
+    6152: 4533, 6153: 4534, 6155: 4535, 6157: 4536,
+}  # fmt: skip
+NO_LENGTH = 2147483647
+STRING: Schema = {"type": "string"}
+
+
+class Kind(NamedTuple):
+    """A schema without what a field has of its own, and what makes of a text the value that JSON
+    has. That raises a ValueError, a LookupError or an ArithmeticError where it can't.
+    """
+
+    schema: Schema
+    read: Read
+
+
+def named(kind: str, name: str, **parameters: str) -> Schema:
+    found: Schema = {"type": kind, "name": name, "version": 1}
+    return {**found, "parameters": parameters} if parameters else found
+
+
+def debezium(kind: str, name: str, **parameters: str) -> Schema:
+    return named(kind, f"io.debezium.{name}", **parameters)
+
+
+def connect(kind: str, name: str, **parameters: str) -> Schema:
+    return named(kind, f"org.apache.kafka.connect.data.{name}", **parameters)
+
+
+def text(text: str) -> str:
+    return text
+
+
+def of(schema: Schema, optional: bool, **more: Any) -> Schema:
+    """The schema of a field, in the order in which Connect writes one."""
+    kind = {it: schema[it] for it in ("type", "items", "fields") if it in schema}
+    rest = {name: it for name, it in schema.items() if name not in kind}
+    return {**kind, "optional": optional, **rest, **more}
+
+
+SMALL, LARGE = Kind({"type": "float"}, read_float), Kind({"type": "double"}, read_float)
+TEXT = Kind(STRING, text)
+# Those that are the same whatever the settings and the type modifier are.
+PLAIN: dict[int, Kind] = {
+    BOOL: Kind({"type": "boolean"}, read_bool),
+    INT2: Kind({"type": "int16"}, signed(16)),
+    INT4: Kind({"type": "int32"}, signed(32)),
+    INT8: Kind({"type": "int64"}, signed(64)),
+    OID: Kind({"type": "int64"}, whole(0, (1 << 32) - 1)),
+    FLOAT4: SMALL,
+    FLOAT8: LARGE,
+    JSON: Kind(debezium("string", "data.Json"), text),
+    JSONB: Kind(debezium("string", "data.Json"), text),
+    XML: Kind(debezium("string", "data.Xml"), text),
+    UUID: Kind(debezium("string", "data.Uuid"), text),
+    TSVECTOR: Kind(debezium("string", "data.Tsvector"), text),
+    TIMESTAMPTZ: Kind(debezium("string", "time.ZonedTimestamp"), times.zoned_moment),
+    TIMETZ: Kind(debezium("string", "time.ZonedTime"), times.zoned_clock),
+    POINT: Kind(
+        {
+            **debezium("struct", "data.geometry.Point"),
+            "doc": "Geometry (POINT)",
+            "fields": [
+                {"type": "double", "optional": False, "field": "x"},
+                {"type": "double", "optional": False, "field": "y"},
+                {"type": "bytes", "optional": True, "field": "wkb"},
+                {"type": "int32", "optional": True, "field": "srid"},
+            ],
+        },
+        read_point,
+    ),
+}
+VARIABLE_SCALE = Kind(
+    {
+        **debezium("struct", "data.VariableScaleDecimal"),
+        "doc": "Variable scaled decimal",
+        "fields": [
+            {"type": "int32", "optional": False, "field": "scale"},
+            {"type": "bytes", "optional": False, "field": "value"},
+        ],
+    },
+    variable_scale,
+)
+BYTES: dict[str, Kind] = {
+    "bytes": Kind({"type": "bytes"}, bytes_as(based)),
+    "base64": Kind(STRING, bytes_as(based)),
+    "base64-url-safe": Kind(STRING, bytes_as(lambda it: base64.urlsafe_b64encode(it).decode())),
+    "hex": Kind(STRING, bytes_as(bytes.hex)),
+}
+
+
+def numeric(modifier: int, settings: Settings) -> Kind:
+    mode = settings[DECIMALS]
+    if mode != "precise":
+        return LARGE if mode == "double" else TEXT
+    if modifier < 4:
+        return VARIABLE_SCALE
+    scale = ((modifier - 4) & 0x7FF ^ 0x400) - 0x400
+    precision = {"connect.decimal.precision": str((modifier - 4) >> 16)}
+    return Kind(connect("bytes", "Decimal", scale=str(scale), **precision), scaled(scale))
+
+
+def money(_: int, settings: Settings) -> Kind:
+    mode = settings[DECIMALS]
+    if mode == "precise":
+        return Kind(connect("bytes", "Decimal", scale="2"), of_money(scaled(2)))
+    return Kind({"type": "double"}, of_money(read_float)) if mode == "double" else MONEY_TEXT
+
+
+MONEY_TEXT = Kind(STRING, plain_money)
+
+
+def in_millis(read: Callable[[str], int]) -> Read:
+    return lambda it: read(it) // 1000
+
+
+def date(_: int, settings: Settings) -> Kind:
+    form = connect if settings[TIMES] == "connect" else debezium
+    return Kind(form("int32", "Date" if form is connect else "time.Date"), times.read_days)
+
+
+def time(modifier: int, settings: Settings) -> Kind:
+    mode = settings[TIMES]
+    if mode == "connect":
+        return Kind(connect("int32", "Time"), in_millis(times.read_clock))
+    if mode == "adaptive" and 0 <= modifier <= 3:
+        return Kind(debezium("int32", "time.Time"), in_millis(times.read_clock))
+    return Kind(debezium("int64", "time.MicroTime"), times.read_clock)
+
+
+def timestamp(modifier: int, settings: Settings) -> Kind:
+    if settings[TIMES] == "connect":
+        return Kind(connect("int64", "Timestamp"), read_millis)
+    if 0 <= modifier <= 3:
+        return Kind(debezium("int64", "time.Timestamp"), read_millis)
+    return Kind(debezium("int64", "time.MicroTimestamp"), times.read_micros)
+
+
+def read_millis(it: str) -> int:
+    # (years that microseconds in eight bytes don't reach)
+    return (times.INFINITE[it] if it in times.INFINITE else times.read_moment(it)) // 1000
+
+
+def interval(_: int, settings: Settings) -> Kind:
+    if settings[INTERVALS] == "string":
+        return Kind(debezium("string", "time.Interval"), times.interval_text)
+    return Kind(debezium("int64", "time.MicroDuration"), times.interval_micros)
+
+
+def bits(modifier: int, _: Settings) -> Kind:
+    length = modifier if modifier > 0 else None
+    schema = debezium("bytes", "data.Bits", length=str(length or NO_LENGTH))
+    return Kind(schema, bits_of(length))
+
+
+def bit(modifier: int, settings: Settings) -> Kind:
+    return Kind({"type": "boolean"}, read_bit) if modifier == 1 else bits(modifier, settings)
+
+
+BY_SETTINGS: dict[int, Callable[[int, Settings], Kind]] = {
+    BYTEA: lambda _, settings: BYTES[settings[BINARIES]],
+    NUMERIC: numeric,
+    MONEY: money,
+    DATE: date,
+    TIME: time,
+    TIMESTAMP: timestamp,
+    INTERVAL: interval,
+    BIT: bit,
+    VARBIT: bits,
+}
+
+
+def array(element: Kind) -> Kind:
+    """The array of elements that may be null."""
+
+    def read(text: str) -> list[object]:
+        return [None if it is None else element.read(it) for it in read_elements(text)]
+
+    return Kind({"type": "array", "items": of(element.schema, True)}, read)
+
+
+def kind_of(type_oid: int, modifier: int, settings: Settings) -> Kind:
+    """What a column's type is in Connect."""
+    if type_oid in ARRAYS:
+        return array(kind_of(ARRAYS[type_oid], modifier, settings))
+    if type_oid in BY_SETTINGS:
+        return BY_SETTINGS[type_oid](modifier, settings)
+    return PLAIN.get(type_oid, TEXT)

@@ -1,0 +1,143 @@
+"""A table as messages have it: its topic, its key and its rows, and the schemas of these."""
+
+import functools
+import json
+from collections.abc import Iterable, Sequence
+
+from .. import log
+from ..errors import Unfit
+from ..formats.keys import escaped, full, key_of
+from ..python_values import read_binary
+from ..reader.commits import Cell
+from ..relation import Column, Relation
+from ..tables.floats import printed_float
+from ..tables.values import BYTEA, FLOAT4
+from .kinds import Schema, kind_of, of
+from .settings import DECIMALS, FAILURES, Settings
+from .sources import SOURCE, TRANSACTION, versioned
+
+# What stays as it is in a part of a topic's name. (`-` begins what another byte is written as.)
+OF_TOPIC = frozenset(b"_0123456789ABCDEFGHIJKLMNOPQRSTUVWXYZabcdefghijklmnopqrstuvwxyz")
+MOST_TOPIC = 249
+WRONG = (ValueError, LookupError, ArithmeticError)
+
+
+def topic_part(name: str) -> str:
+    return escaped(name, OF_TOPIC, "-{:02X}")
+
+
+def topic_of(prefix: str, relation: Relation) -> str:
+    found = f"{prefix}.{topic_part(full(relation.namespace))}.{topic_part(relation.name)}"
+    if len(found) > MOST_TOPIC:
+        raise Unfit(
+            f"{relation.text()}: its topic {found} has more than {MOST_TOPIC} characters: leave the table out by --table, or take"
+            " a shorter topic.prefix"
+        )
+    return found
+
+
+def schema_text(schema: Schema) -> bytes:
+    return json.dumps(schema, ensure_ascii=False, separators=(",", ":")).encode()
+
+
+class Table:
+    """A relation with what its settings make of it. `primary`: the columns of its primary key,
+    where its replica identity is another."""
+
+    def __init__(
+        self, relation: Relation, primary: Sequence[str], settings: Settings, told: set[str]
+    ) -> None:
+        self.relation, self.primary, self.settings, self.told = (relation, primary, settings, told)
+        self.columns = relation.shape.columns
+        self.kinds = [kind_of(it.type_oid, it.modifier, settings) for it in self.columns]
+        self.key = key_of(relation, primary)
+        self.topic = topic_of(settings.prefix, relation)
+        self.collection = f"{full(relation.namespace)}.{relation.name}"
+
+    def fields(self, places: Iterable[int], optional: bool) -> list[Schema]:
+        """(Which columns are never null isn't known, but of those of a key.)"""
+        return [of(self.kinds[at].schema, optional, field=self.columns[at].name) for at in places]
+
+    @functools.cached_property
+    def key_schema(self) -> bytes:
+        fields = self.fields(self.key, False)
+        name = f"{self.topic}.Key"
+        return schema_text({"type": "struct", "fields": fields, "optional": False, "name": name})
+
+    @functools.cached_property
+    def schema(self) -> bytes:
+        """That of an envelope."""
+        row = of(
+            {"type": "struct", "fields": self.fields(range(len(self.columns)), True)},
+            True,
+            name=f"{self.topic}.Value",
+        )
+        fields = [
+            {**row, "field": "before"},
+            {**row, "field": "after"},
+            SOURCE,
+            TRANSACTION,
+            {"type": "string", "optional": False, "field": "op"},
+            *(
+                {"type": "int64", "optional": True, "field": f"ts_{it}"}
+                for it in ("ms", "us", "ns")
+            ),
+        ]
+        return schema_text(versioned(f"{self.topic}.Envelope", 2, fields))
+
+    def value(self, at: int, cell: Cell) -> object:
+        """A cell as JSON has it. Raises one of those in WRONG where its type has no such value."""
+        if cell is None:
+            return None
+        if isinstance(cell, bytes):
+            cell = text_of(self.columns[at], cell)
+        return self.kinds[at].read(cell)
+
+    def row(self, cells: Sequence[Cell] | None) -> dict[str, object] | None:
+        if cells is None:
+            return None
+        found = dict[str, object]()
+        for at, cell in enumerate(cells):
+            try:
+                found[self.columns[at].name] = self.value(at, cell)
+            except WRONG as error:
+                self.note_wrong(at, error)
+                found[self.columns[at].name] = None
+        return found
+
+    def key_row(self, cells: Sequence[Cell]) -> dict[str, object] | None:
+        """A row's key, None where the table has none, or null is in it."""
+        if not self.key or any(cells[at] is None for at in self.key):
+            return None
+        try:
+            return {self.columns[at].name: self.value(at, cells[at]) for at in self.key}
+        except WRONG as error:
+            names = ", ".join(self.columns[at].name for at in self.key)
+            raise Unfit(
+                f"{self.relation.text()}: the key {names} has a value that its type has no form for ({error}): say {DECIMALS}=string, or leave"
+                " the table out by --table"
+            ) from None
+
+    def note_wrong(self, at: int, error: Exception) -> None:
+        """Tells once of a column that it has a value which its type has no form for."""
+        column = self.columns[at]
+        text = f"{self.relation.text()}: the column {column.name} has a value that its type has no form for ({error})"
+        if self.settings[FAILURES] == "fail":
+            raise Unfit(f"{text}: leave the table out by --table, or say {FAILURES}=warn") from None
+        if text not in self.told and f"{self.topic} {column.name}" not in self.told:
+            self.told.add(f"{self.topic} {column.name}")
+            log.warning(f"{text}: null is in its place, there and later")
+
+
+def text_of(column: Column, cell: bytes) -> str:
+    """A value in binary format as the server prints it, where its type is known."""
+    found = read_binary(column.type_oid, cell)
+    if column.type_oid == BYTEA:
+        return "\\x" + cell.hex()
+    if isinstance(found, bool):
+        return "t" if found else "f"
+    if isinstance(found, float):
+        return printed_float(found, column.type_oid == FLOAT4) if found == found else "NaN"
+    if isinstance(found, bytes):
+        raise ValueError(f"its type {column.type_oid} isn't read in binary format")
+    return str(found)

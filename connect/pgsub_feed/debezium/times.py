@@ -1,0 +1,151 @@
+"""Dates, times and intervals of the server's texts as numbers, and as texts of ISO 8601.
+
+The server prints them by `datestyle = ISO`, `intervalstyle = postgres` and `timezone = UTC`. Years
+are counted in the proleptic Gregorian calendar, in which the year before 1 is 0, as in ISO 8601.
+"""
+
+import re
+
+SECOND, DAY = 10**6, 86400 * 10**6
+# A month has 365.25 / 12 days where an interval is one number.
+MONTH = 2629800 * SECOND
+LEAST, MOST = -(1 << 63), (1 << 63) - 1
+LEAST_DAY, MOST_DAY = -(1 << 31), (1 << 31) - 1
+# What Debezium has in place of infinite times, in microseconds.
+INFINITE = {"infinity": 9223372036825200000, "-infinity": -9223372036832400000}
+INFINITE_DAYS = {"infinity": MOST_DAY, "-infinity": LEAST_DAY}
+DATE = re.compile(r"(\d{4,})-(\d\d)-(\d\d)( BC)?")
+TIME = re.compile(r"(\d\d):(\d\d):(\d\d)(?:\.(\d{1,6}))?")
+OFFSET = re.compile(r"([+-])(\d\d)(?::(\d\d))?(?::(\d\d))?")
+MOMENT = re.compile(r"(\d{4,}-\d\d-\d\d) (\d\d:\d\d:\d\d(?:\.\d{1,6})?)([+-][\d:]+)?( BC)?")
+PART = re.compile(r"([+-]?\d+) (year|mon|day)s?")
+CLOCK = re.compile(r"([+-])?(\d+):(\d\d):(\d\d)(?:\.(\d{1,6}))?")
+
+
+def bounded(number: int, least: int = LEAST, most: int = MOST) -> int:
+    if not least <= number <= most:
+        raise ValueError(f"{number} isn't from {least} to {most}")
+    return number
+
+
+def fitting(pattern: re.Pattern[str], text: str) -> re.Match[str]:
+    found = pattern.fullmatch(text)
+    if not found:
+        raise ValueError(f"{text!r} isn't what the server prints")
+    return found
+
+
+def days_of(year: int, month: int, day: int) -> int:
+    """The days from 1970 on. (Years begin in March, so that a leap day is the last one.)"""
+    year, month = (year, month - 3) if month > 2 else (year - 1, month + 9)
+    era, of_era = divmod(year, 400)
+    of_year = (153 * month + 2) // 5 + day - 1
+    return era * 146097 + of_era * 365 + of_era // 4 - of_era // 100 + of_year - 719468
+
+
+def date_of(days: int) -> tuple[int, int, int]:
+    """Year, month and day."""
+    era, rest = divmod(days + 719468, 146097)
+    of_era = (rest - rest // 1460 + rest // 36524 - rest // 146096) // 365
+    rest -= 365 * of_era + of_era // 4 - of_era // 100
+    month = (5 * rest + 2) // 153
+    day = rest - (153 * month + 2) // 5 + 1
+    year = 400 * era + of_era
+    return (year, month + 3, day) if month < 10 else (year + 1, month - 9, day)
+
+
+def read_days(text: str) -> int:
+    """A date's days from 1970 on."""
+    if text in INFINITE_DAYS:
+        return INFINITE_DAYS[text]
+    year, month, day, before = fitting(DATE, text).groups()
+    found = days_of(1 - int(year) if before else int(year), int(month), int(day))
+    return bounded(found, LEAST_DAY, MOST_DAY)
+
+
+def read_clock(text: str) -> int:
+    """A time's microseconds from midnight on."""
+    hour, minute, second, part = fitting(TIME, text).groups()
+    whole = (int(hour) * 60 + int(minute)) * 60 + int(second)
+    return whole * SECOND + int((part or "").ljust(6, "0"))
+
+
+def read_offset(text: str) -> int:
+    """The microseconds by which a zone is ahead."""
+    sign, *parts = fitting(OFFSET, text).groups()
+    hour, minute, second = (int(it or 0) for it in parts)
+    found = ((hour * 60 + minute) * 60 + second) * SECOND
+    return -found if sign == "-" else found
+
+
+def read_moment(text: str) -> int:
+    """The microseconds of a timestamp from 1970 on, whatever they are."""
+    date, time, offset, before = fitting(MOMENT, text).groups()
+    found = read_days(date + (before or "")) * DAY + read_clock(time)
+    return found - (read_offset(offset) if offset else 0)
+
+
+def read_micros(text: str) -> int:
+    """Those that a number of eight bytes has."""
+    return INFINITE[text] if text in INFINITE else bounded(read_moment(text))
+
+
+def clock_text(micros: int) -> str:
+    seconds, part = divmod(micros, SECOND)
+    text = f"{seconds // 3600:02}:{seconds // 60 % 60:02}:{seconds % 60:02}"
+    return f"{text}.{part:06}".rstrip("0") if part else text
+
+
+def zoned_moment(text: str) -> str:
+    """A timestamp with a time zone as a text in UTC."""
+    if text in INFINITE:
+        return text
+    days, micros = divmod(read_moment(text), DAY)
+    year, month, day = date_of(days)
+    sign = "+" if year > 9999 else "-" if year < 0 else ""
+    return f"{sign}{abs(year):04}-{month:02}-{day:02}T{clock_text(micros)}Z"
+
+
+def zoned_clock(text: str) -> str:
+    """A time with a time zone as a text in UTC."""
+    at = max(text.rfind("+"), text.rfind("-"))
+    if at < 0:
+        raise ValueError(f"{text!r} has no zone")
+    micros = read_clock(text[:at]) - read_offset(text[at:])
+    return clock_text(micros if 0 <= micros <= DAY else micros % DAY) + "Z"
+
+
+def read_interval(text: str) -> tuple[int, int, int]:
+    """The months, days and microseconds of an interval."""
+    found = {"year": 0, "mon": 0, "day": 0}
+    rest = text
+    while part := PART.match(rest):
+        found[part[2]] += int(part[1])
+        rest = rest[part.end() :].lstrip(" ")
+    micros = 0
+    if rest or rest == text:
+        sign, hours, minutes, seconds, fraction = fitting(CLOCK, rest).groups()
+        whole = (int(hours) * 60 + int(minutes)) * 60 + int(seconds)
+        micros = whole * SECOND + int((fraction or "").ljust(6, "0"))
+        micros = -micros if sign == "-" else micros
+    return 12 * found["year"] + found["mon"], found["day"], micros
+
+
+def interval_micros(text: str) -> int:
+    months, days, micros = read_interval(text)
+    return bounded(months * MONTH + days * DAY + micros)
+
+
+def interval_text(text: str) -> str:
+    """An interval as `P1Y2M3DT4H5M6.78S`. Each part has its own sign."""
+    months, days, micros = read_interval(text)
+    sign = "-" if micros < 0 else ""
+    seconds, part = divmod(abs(micros), SECOND)
+    fraction = f".{part:06}".rstrip("0") if part else ""
+    hours, minutes = seconds // 3600, seconds // 60 % 60
+    years = abs(months) // 12 * (-1 if months < 0 else 1)
+    clock = "".join(
+        f"{sign if it.strip('0.') else ''}{it}{unit}"
+        for it, unit in ((f"{hours}", "H"), (f"{minutes}", "M"), (f"{seconds % 60}{fraction}", "S"))
+    )
+    return f"P{years}Y{months - 12 * years}M{days}DT{clock}"

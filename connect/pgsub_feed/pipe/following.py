@@ -1,0 +1,251 @@
+"""The side of the reader: commits of a feed on another host, also where the way there is cut."""
+
+from __future__ import annotations
+
+import contextlib
+import dataclasses
+import json
+import os
+import shlex
+import subprocess
+import time
+import urllib.parse
+from collections.abc import Callable, Iterable, Iterator
+from typing import Generic, TypeVar
+
+from .. import log
+from ..errors import PASSING, UNFIT, FileError, Passing, Unfit, UsageError
+from ..faults import COMMIT_LINE, COUNTS, NOT_A_FEED, ORDER, OTHER_FEED, Damaged
+from ..interruption import Check
+from ..reader.base import sections_of
+from ..reader.commits import Closing, Commit, Head, Part
+from ..reader.lines import (
+    Decoder,
+    natural,
+    read_commit,
+    read_head,
+    read_object,
+    shown,
+    text,
+)
+from ..reader.polling import PATIENCE
+from ..reader.whole import parts_of
+from ..texts import lsn_text, parse_lsn
+from .pipes import Cut, Pipes
+
+SCHEME = "ssh://"
+# What is run in place of ssh, in words as of a shell; and what is, where that isn't set: it never
+# asks for a password, and sees that the other host is gone.
+INSTEAD = "PGSUB_SSH"
+SSH = "ssh -T -o BatchMode=yes -o ServerAliveInterval=15"
+# After how many seconds another try is made, at first and at most, and how long the process may take
+# to end.
+FIRST_DELAY, LONGEST_DELAY, GRACE = 0.2, 60.0, 2.0
+Read = TypeVar("Read")
+
+
+@dataclasses.dataclass(frozen=True)
+class Address:
+    """Where a feed is, of `ssh://user@host:port/path`."""
+
+    host: str
+    port: int | None
+    path: str
+
+    @staticmethod
+    def of(url: str) -> Address:
+        found = urllib.parse.urlsplit(url)
+        host = found.netloc.rpartition("@")[0] + "@" if "@" in found.netloc else ""
+        try:
+            port = found.port
+        except ValueError:
+            port = 0
+        if not found.hostname or not found.path or port == 0 or found.query or found.fragment:
+            raise UsageError(f"{url}: a feed elsewhere is ssh://USER@HOST:PORT/PATH")
+        return Address(host + found.hostname, port, urllib.parse.unquote(found.path))
+
+    def words(self, follows: bool, reader: str | None) -> list[str]:
+        """What is run."""
+        asked = ["pgsub-feed", "--pipe", "--feed", self.path]
+        asked += ["--follow"] * follows + (["--reader", reader] if reader else [])
+        port = ["-p", str(self.port)] if self.port else []
+        ssh = shlex.split(os.environ.get(INSTEAD) or SSH)
+        return [*ssh, *port, "--", self.host, shlex.join(asked)]
+
+
+class Link:
+    """A process with the pipes."""
+
+    def __init__(self, words: list[str], check: Check) -> None:
+        pipe = subprocess.PIPE
+        try:
+            self.child = subprocess.Popen(words, bufsize=0, stdin=pipe, stdout=pipe)
+        except OSError as error:
+            raise FileError(f"{words[0]}: {error.strerror}") from None
+        assert self.child.stdin and self.child.stdout
+        self.pipes = Pipes(self.child.stdout.fileno(), self.child.stdin.fileno(), check)
+
+    def close(self) -> None:
+        assert self.child.stdin and self.child.stdout
+        self.child.stdin.close()
+        self.child.stdout.close()
+        with contextlib.suppress(subprocess.TimeoutExpired):
+            self.child.wait(GRACE)
+        if self.child.poll() is None:
+            self.child.kill()
+        self.child.wait()
+
+
+class Remote(Generic[Read]):
+    """A feed elsewhere. `at` is the LSN up to which its reader has all commits; `read` makes
+    something of each."""
+
+    def __init__(
+        self,
+        url: str,
+        at: int | None,
+        follows: bool,
+        reader: str | None,
+        check: Check,
+        read: Callable[[Commit, Iterable[Part]], Read],
+    ) -> None:
+        self.url, self.at, self.follows, self.check = url, at, follows, check
+        self.read = read
+        self.words = Address.of(url).words(follows, reader)
+        self.decoder = Decoder()
+        self.head: Head | None = None
+        # whether the feed was reached once, since when something is wrong there, and for how long
+        # another try waits
+        self.was_there = self.is_cut = False
+        self.wrong: float | None = None
+        self.delay = FIRST_DELAY
+
+    def commits(self) -> Iterator[Read]:
+        """What is made of each commit. Whoever asks for the next one has done with the one before."""
+        while True:
+            link = Link(self.words, self.check)
+            try:
+                with contextlib.closing(link):
+                    yield from self.received(link.pipes)
+                return
+            except Cut as cut:
+                self.bear(f"{cut}; {self.words[0]} ended with status {link.child.returncode}")
+            except Damaged as damaged:
+                # (the filter may be about to cut it off)
+                self.bear_damaged(damaged)
+            self.rest()
+
+    def received(self, pipes: Pipes) -> Iterator[Read]:
+        pipes.put(b"\n" if self.at is None else f"{lsn_text(self.at)}\n".encode())
+        while True:
+            line = pipes.line()
+            if line.startswith(b'{"feed"'):
+                self.check_head(line)
+            elif line.startswith((b'{"done"', b'{"fault"')):
+                self.end(line)
+                return
+            else:
+                is_base = line.startswith(b'{"base"')
+                commit = self.base(line) if is_base else self.commit(line)
+                parts = self.rows(pipes, commit) if is_base else self.parts(pipes, commit)
+                yield self.read(commit, parts)
+                self.at, self.wrong, self.delay = commit.end, None, FIRST_DELAY
+                pipes.put(f"{lsn_text(commit.end)}\n".encode())
+
+    def check_head(self, line: bytes) -> None:
+        try:
+            head = read_head(line)
+        except ValueError:
+            told = f"this is no head of a feed's segment: {shown(line)}"
+            raise Damaged(NOT_A_FEED, self.url, 0, told) from None
+        if self.head and head.source() != self.head.source():
+            text = f"a feed of {head.text()}, and before of {self.head.text()}"
+            raise Damaged(OTHER_FEED, self.url, 0, text)
+        self.head, self.was_there = head, True
+        if self.is_cut:
+            log.info(f"{self.url} is there again")
+            self.is_cut = False
+
+    def commit(self, line: bytes) -> Commit:
+        try:
+            found = read_commit(line)
+        except ValueError:
+            found = Closing(0)
+        if isinstance(found, Closing):
+            told = f"this is no line of a commit: {shown(line)}"
+            raise Damaged(COMMIT_LINE, self.url, 0, told)
+        if self.at not in (None, found.prev):
+            told = f"a commit from {lsn_text(found.prev)} to {found.text()} where {lsn_text(self.at or 0)} was reached"
+            raise Damaged(ORDER, self.url, 0, told)
+        return found
+
+    def base(self, line: bytes) -> Commit:
+        """Some rows from before the first commit, of who has none."""
+        try:
+            found = read_object(line)
+            ends = [parse_lsn(text(found[it])) for it in ("base", "end")]
+            counts = [natural(found[it]) for it in ("bytes", "rows", "n")]
+        except (KeyError, ValueError):
+            told = f"this is no line of first rows: {shown(line)}"
+            raise Damaged(COMMIT_LINE, self.url, 0, told) from None
+        if self.at:
+            told = f"rows from before where {lsn_text(self.at)} was reached"
+            raise Damaged(ORDER, self.url, 0, told)
+        return Commit(ends[1], 0, counts[0], counts[1], ends[0], base=counts[2])
+
+    def rows(self, pipes: Pipes, commit: Commit) -> Iterator[Part]:
+        lines = b"".join(pipes.pieces(commit.bytes)).splitlines(keepends=True)
+        n = commit.base or 0
+        for section in sections_of(self.url, 0, lines, None):
+            yield from parts_of(section, n)
+            n += len(section.rows)
+        if n != (commit.base or 0) + commit.changes:
+            raise Damaged(COUNTS, self.url, 0, f"{n} rows, where {commit.changes} are told")
+
+    def parts(self, pipes: Pipes, commit: Commit) -> Iterator[Part]:
+        begun, decoder = b"", self.decoder
+        decoder.begin(commit, lambda number, at, what: Damaged(number, self.url, at, what))
+        for piece in pipes.pieces(commit.bytes):
+            *lines, begun = (begun + piece).split(b"\n")
+            yield from decoder.read(lines) if lines else ()
+        if begun:
+            told = "the commit's last line has no end where its bytes end"
+            raise Damaged(COUNTS, self.url, commit.bytes, told)
+        decoder.finish()
+
+    def end(self, line: bytes) -> None:
+        """Ends as the other side says."""
+        try:
+            said = json.loads(line)
+            status, text = said.get("fault"), str(said.get("text"))
+        except (ValueError, AttributeError):
+            raise Cut(f"it says {shown(line)}") from None
+        if status == UNFIT:
+            raise Unfit(f"{self.url}: {text}")
+        if status == PASSING:
+            raise Cut(text)
+        if status is not None:
+            raise FileError(f"{self.url}: {text}")
+
+    def bear(self, why: str) -> None:
+        """Lets a cut pass, unless the feed was never reached, or isn't followed."""
+        if not self.follows or not self.was_there:
+            raise Passing(f"{self.url} can't be read: {why}") from None
+        if not self.is_cut:
+            log.warning(
+                f"{self.url}: {why}. It is tried again, each {LONGEST_DELAY:.0f} s at least"
+            )
+        self.is_cut = True
+
+    def bear_damaged(self, damaged: Damaged) -> None:
+        now = time.monotonic()
+        self.wrong = now if self.wrong is None else self.wrong
+        if not self.follows or now - self.wrong > PATIENCE:
+            raise damaged
+
+    def rest(self) -> None:
+        until = time.monotonic() + self.delay
+        self.delay = min(2 * self.delay, LONGEST_DELAY)
+        while (left := until - time.monotonic()) > 0:
+            self.check()
+            time.sleep(min(left, 0.1))

@@ -1,0 +1,129 @@
+"""The side of the feed: gives commits to one reader, and notes where that one is."""
+
+import contextlib
+import json
+
+from ..errors import Failure, Stopped, UsageError
+from ..faults import Damaged
+from ..interruption import Check
+from ..reader.commits import Commit, Head
+from ..reader.lines import FORMAT
+from ..reader.polling import Poll
+from ..reader.positions import noted_of
+from ..reader.whole import Whole
+from ..texts import lsn_text, parse_lsn
+from .pipes import Cut, Pipes
+
+# The mode of a reader's file.
+MODE = 0o600
+
+
+def head_line(head: Head) -> bytes:
+    """The head of a segment that begins where the feed does."""
+    names = {"system": head.system, "database": head.database, "slot": head.slot}
+    return told(feed=FORMAT, base=lsn_text(head.base), **names)
+
+
+def told(**more: object) -> bytes:
+    return json.dumps(more, ensure_ascii=False, separators=(",", ":")).encode() + b"\n"
+
+
+class Serving:
+    """One reader, from its LSN on. With a name it keeps what it lacks, as readers on this host
+    do."""
+
+    def __init__(
+        self, feed: str, pipes: Pipes, follows: bool, name: str | None, check: Check
+    ) -> None:
+        self.pipes, self.check_stop = pipes, check
+        # the LSN that it has, and that of the last commit that was written
+        self.at = self.first()
+        self.noted = noted_of(feed, self.at, name, MODE) if name else None
+        self.reader = Whole(feed, self.at)
+        self.poll = Poll(self.reader, follows, self.check)
+        self.sent = self.at or 0
+
+    def first(self) -> int | None:
+        line = self.pipes.line().strip()
+        return lsn_of(line) if line else None
+
+    def check(self) -> None:
+        """Hears what the reader has, and whether it is still there."""
+        self.check_stop()
+        self.hear()
+        if self.pipes.has_ended:
+            raise Cut("the reader has ended")
+
+    def hear(self) -> None:
+        while self.pipes.look():
+            pass
+        for line in self.pipes.lines():
+            at = lsn_of(line.strip())
+            if not (self.at or 0) <= at <= self.sent:
+                raise UsageError(
+                    f"the reader has {lsn_text(at)}, between {lsn_text(self.at or 0)} and {lsn_text(self.sent)} where it can be"
+                )
+            self.at = at
+            if self.noted:
+                self.noted.note(at)
+
+    def run(self) -> None:
+        """Writes commit after commit."""
+        is_told = False
+        while (commit := self.poll.next()) or self.poll.is_following:
+            if self.reader.head and not is_told:
+                self.pipes.put(head_line(self.reader.head))
+                is_told = True
+            if commit:
+                self.give(commit)
+            else:
+                self.poll.rest()
+        self.pipes.put(told(done=lsn_text(self.sent)))
+        self.wait_for_end()
+
+    def give(self, commit: Commit) -> None:
+        self.sent = commit.end
+        self.pipes.put(self.reader.own_line(commit))
+        try:
+            for lines in self.reader.raw(commit):
+                self.pipes.put(b"\n".join([*lines, b""]))
+        except Damaged as damaged:
+            # (cut off by the filter: the reader, which lacks the rest, comes again)
+            raise Cut(damaged.told()) from None
+        self.check()
+
+    def wait_for_end(self) -> None:
+        """(The last that the reader has is still to come.)"""
+        with contextlib.suppress(Cut):
+            while True:
+                self.check()
+                self.pipes.look(1.0)
+
+    def finish(self) -> None:
+        self.reader.close()
+        if self.noted and self.at is not None:
+            self.noted.note(self.at, is_last=True)
+
+
+def lsn_of(line: bytes) -> int:
+    try:
+        return parse_lsn(line.decode())
+    except ValueError:
+        raise UsageError(f"the reader writes what is no LSN: {line[:40]!r}") from None
+
+
+def serve(feed: str, pipes: Pipes, follows: bool, name: str | None, check: Check) -> None:
+    """Serves the reader behind these pipes until it ends."""
+    serving: Serving | None = None
+    try:
+        serving = Serving(feed, pipes, follows, name, check)
+        serving.run()
+    except Cut:
+        pass
+    except Failure as failure:
+        with contextlib.suppress(Cut, Stopped):
+            pipes.put(told(fault=failure.exit_status(), text=failure.told()))
+        raise
+    finally:
+        if serving:
+            serving.finish()
