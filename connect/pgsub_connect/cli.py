@@ -15,21 +15,21 @@ from pgsub_feed.program import guarded
 from .commands.arguments.exit_status import ENDS
 
 ABOUT = """\
-Follows a PostgreSQL server: carries the change stream of a slot to `pgsub follow`, and the program's statuses back.
+Keeps exact copies of a PostgreSQL server's tables while they change: carries the changes to `pgsub follow`, which stores them.
 
-  pgsub-connect follow --dsn 'dbname=shop' --create --table stock --store copy.db     makes publication, slot and copy, and follows
-  pgsub-connect follow --dsn 'dbname=shop' --store copy.db                            goes on with a store that is there
-  pgsub-connect follow --dsn 'dbname=shop' --create --table stock --store copy.db --tables rows.db     keeps tables of SQLite, too
-  pgsub-connect record --dsn 'dbname=shop' --slot s --publication p --record shop.pgx --until now     only records
+To copy a table, also for SQLite, and to follow it; how that is; and to go on:
+
+  $ pgsub-connect follow --dsn dbname=shop --create --table stock --store copy.db --tables rows.db
+  $ pgsub-connect status
+  $ pgsub-connect follow --dsn dbname=shop --store copy.db
 """
 MORE = """\
 It logs in by libpq, with its environment (PGHOST, PGPASSWORD, ..), ~/.pgpass, services and TLS. A connection that is lost is made
-again after 1, 2, 4 .. 60 seconds, and a filter that was killed is started again. SIGTERM and SIGINT end it once the filter has
-ended. docs/OPERATING.md says what the server needs, and what to do when it stops.
+again after 1, 2, 4 .. 60 seconds, and `pgsub` is started again where it was killed. SIGTERM and SIGINT (Ctrl-C) end a command.
 
-The server needs wal_level = logical. The user needs the attribute REPLICATION, the right to read the published tables, and
-for --create the right to create a publication (of all tables: to be a superuser). A slot keeps the server's log until it is
-confirmed or dropped: SELECT pg_drop_replication_slot('NAME').
+The server needs wal_level = logical. The role needs the attribute REPLICATION, the right to read the published tables, and
+for --create the right to create a publication (of all tables: to be a superuser). `pgsub-connect check` tells what is missing. A slot keeps
+the server's log until its changes are stored, or `pgsub-connect drop` drops it. docs/OPERATING.md has more.
 
 """
 # The subcommands, each a module of `commands` with this name, by what they are for.
@@ -41,6 +41,11 @@ GROUPS = {
 }
 COMMANDS = tuple(name for names in GROUPS.values() for name in names)
 HELP = "help"
+# The commands of `pgsub`, each with what does that beside a follower, which alone has the store open.
+OF_PROGRAM = dict.fromkeys(("apply", "show", "same", "resume", "lsn"), "")
+OF_PROGRAM[
+    "dump"
+] = ". While a follower has the store open, it gets `store 8 Refused`: `pgsub-connect export` copies the rows, `snapshot` the store"
 
 
 class Command(Protocol):
@@ -76,12 +81,8 @@ def overview() -> Parser:
     """What tells which subcommands there are."""
     parser = Parser(log.PROGRAM, f"{ABOUT}\n{list_of_commands()}", MORE + ENDS)
     parser.usage = "%(prog)s [-h] [--version] COMMAND ..."
-    parser.add_argument(
-        "--version",
-        action=TellVersion,
-        nargs=0,
-        help="show the version, and the commit of a checkout",
-    )
+    about = "show the version, and the commit of a checkout"
+    parser.add_argument("--version", action=TellVersion, nargs=0, help=about)
     return parser
 
 
@@ -96,6 +97,8 @@ def list_of_commands() -> str:
 
 def known(word: str) -> str:
     """A subcommand's name, where a word is one."""
+    if word in OF_PROGRAM:
+        overview().error(f"{word} is a command of `pgsub`: pgsub {word}{OF_PROGRAM[word]}")
     if word not in COMMANDS:
         like = meant(word, (*COMMANDS, HELP))
         overview().error(
@@ -130,13 +133,9 @@ def arguments(words: Sequence[str]) -> tuple[str, Any]:
     parser.check(words, () if is_named else parser_of("follow").names())
     found = parser.parse_args(words)
     fields = {it.name for it in dataclasses.fields(cast(Any, command.Options))}
-    options = command.Options(
-        **{
-            field: tuple(it) if isinstance(it, list) else it
-            for field, it in vars(found).items()
-            if field in fields
-        }
-    )
+    values = {name: it for name, it in vars(found).items() if name in fields}
+    values |= {name: tuple(it) for name, it in values.items() if isinstance(it, list)}
+    options = command.Options(**values)
     check = getattr(command, "check_options", None)
     return name, check(parser, options) if check else options
 

@@ -24,6 +24,7 @@ from __future__ import annotations
 
 import ctypes
 from collections.abc import Callable, Iterable, Iterator
+from functools import partial
 
 ROOM = 10
 # what the text of a fault has at most
@@ -109,21 +110,17 @@ class Library:
     def decode(self, payload: bytes, in_block: bool = False) -> str:
         """The line of a payload of CopyData, without its line feed. `in_block`: between Stream
         Start and Stream Stop."""
-        number, room = with_room(
-            lambda room: int(self._decode(payload, len(payload), in_block, *room.words()))
-        )
+        decode = partial(self._decode, payload, len(payload), in_block)
+        number, room = with_room(lambda room: int(decode(*room.words())))
         if number:
             raise Fault(number, room.text())
         return room.text().rstrip("\n")
 
     def show_session(self, session: bytes, version: int = 2) -> tuple[list[str], Fault | None]:
         """The lines of a session's frames, and the fault that ends them."""
-        text = Room(TEXT)
-        number, room = with_room(
-            lambda room: int(
-                self._show(version, session, len(session), *room.words(), *text.words())
-            )
-        )
+        text, said = Room(TEXT), (version, session, len(session))
+        show = partial(self._show, *said)
+        number, room = with_room(lambda room: int(show(*room.words(), *text.words())))
         # (a text has line feeds only where a line ends)
         return room.text().split("\n")[:-1], Fault(number, text.text()) if number else None
 
@@ -155,10 +152,8 @@ class Subscriber:
         """Feeds a chunk of a session's bytes. `clock`: microseconds since 2000-01-01 00:00 UTC.
         Raises the first fault, up to which all is applied; from then on each chunk is rejected,
         until `disconnect`."""
-        text = Room(TEXT)
-        self.check(
-            self.library.call("feed", self.handle, piece, len(piece), clock, *text.words()), text
-        )
+        text, words = Room(TEXT), (piece, len(piece), clock)
+        self.check(self.library.call("feed", self.handle, *words, *text.words()), text)
 
     def status(self, clock: int = 0, ask: bool = False) -> None:
         """Appends a Standby status update to the replies. `ask` asks the server for a reply."""

@@ -32,6 +32,17 @@ class FilterFault(Failure):
     STATUS = FILE
 
 
+class Unread(Failure):
+    """What follows the feed has ended for good with this status, before it had what was asked for."""
+
+    def __init__(self, text: str, status: int) -> None:
+        super().__init__(text)
+        self.status = status
+
+    def exit_status(self) -> int:
+        return self.status
+
+
 # The classes and codes of errors that another try doesn't mend: the feature, the login, the
 # database, the rights, the state of the slot. A slot that is in use and the like may pass.
 LOGIN = "28"
@@ -52,6 +63,10 @@ class ServerError(Failure):
 
     def exit_status(self) -> int:
         return SERVER if self.is_lasting() else PASSING
+
+
+class LostSlot(ServerError):
+    """The slot is lost: nothing can follow from it."""
 
 
 class Renewed(ServerError):

@@ -99,15 +99,9 @@ class Run:
             self.remembered.save()
         self.requests = RequestSocket(case.store)
         self.snapshots = Snapshots(case.store, self.requests, None, 0.0)
-        self.follower = Follower(
-            *followed(case.store, case.server.dsn(), heartbeat=0.2, **sizes),
-            self.checkpoint,
-            self.filter,
-            self.progress,
-            None,
-            self.snapshots,
-            self.remembered,
-        )
+        known = self.checkpoint, self.progress, self.remembered
+        told = followed(known, case.store, case.server.dsn(), heartbeat=0.2, **sizes)
+        self.follower = Follower(*told, self.filter, None, self.snapshots)
         # what the follower's thread calls between payloads
         self.calls: collections.deque[Callable[[], None]] = collections.deque()
         real = self.follower.adder.step

@@ -5,13 +5,18 @@ from __future__ import annotations
 from collections.abc import Iterable
 from typing import Any
 
+from pgsub_connect.drift.remembered import Remembered
 from pgsub_connect.drift.tolerance import Tolerance
 from pgsub_connect.follow.settings import FollowSettings
 from pgsub_connect.server.subscription import Subscription
+from pgsub_connect.status.progress import Progress
+from pgsub_connect.store.checkpoint import Checkpoint
+from pgsub_connect.stream.common import Common
 from pgsub_connect.stream.memory_limit import BufferLimits
 
 
 def followed(
+    known: tuple[Checkpoint, Progress, Remembered],
     store: str,
     dsn: str = "",
     accept: Iterable[str] = (),
@@ -19,10 +24,10 @@ def followed(
     max_buffered: int = 0,
     max_frame: int = 0,
     **settings: Any,
-) -> tuple[FollowSettings, Subscription, Tolerance]:
-    """The first three arguments of a Follower."""
+) -> tuple[FollowSettings, Common]:
+    """The first two arguments of a Follower."""
+    subscription, tolerance = Subscription(dsn, publications=["pgsub"]), Tolerance(accept, strict)
     return (
         FollowSettings(store, limits=BufferLimits(max_buffered, max_frame), **settings),
-        Subscription(dsn, publications=["pgsub"]),
-        Tolerance(accept, strict),
+        Common(subscription, tolerance, *known),
     )

@@ -4,15 +4,9 @@ from __future__ import annotations
 
 KNOWN: frozenset[str] = frozenset(
     (
-        "pgsub_connect.store.export sets target.is_keyed",
-        "pgsub_connect.store.export sets target.rows",
-        "pgsub_connect.store.export sets target.waiting",
         "pgsub_feed.sinks.nats_engine sets self.stream.wire.check",
         "pgsub_feed.sinks.redis_engine sets self.calls.check",
         "pgsub_feed.sinks.redis_engine sets self.relations.is_changed",
         "pgsub_feed.sinks.redis_engine sets self.relations.saved",
-        "pgsub_feed.tables.reshape sets new.has_index",
-        "pgsub_feed.tables.table sets self.target.is_keyed",
-        "pgsub_feed.tables.table sets self.target.name",
     )
 )

@@ -12,12 +12,12 @@ from pgsub_connect.drift.remembered import Remembered
 from pgsub_connect.drift.tolerance import Tolerance
 from pgsub_connect.errors import ServerError
 from pgsub_connect.follow import altered
-from pgsub_connect.follow.common import Common
 from pgsub_connect.follow.drift_watch import Watch
 from pgsub_connect.server.catalog import Catalog, Part, Table
 from pgsub_connect.server.subscription import Subscription
 from pgsub_connect.status.progress import Progress
 from pgsub_connect.store.checkpoint import Checkpoint
+from pgsub_connect.stream.common import Common
 from pgsub_feed.errors import Unfit
 from pgsub_feed.interruption import never
 from pgsub_feed.relation import Relation, Shape
@@ -139,6 +139,24 @@ class Renewed(Case):
         self.is_added(1)
         self.assertEqual(list(self.checkpoint.findings()), ["values"])
         self.is_added(2)
+        self.assertEqual(self.checkpoint.findings(), {})
+
+    def test_labels_within_other_types(self) -> None:
+        """Of an array, a domain over it, and a composite type."""
+        types = {999: LABELS, 998: {"@999": ""}, 997: {"@998": ""}}
+        types[996] = {"name": "pair", "#1": "23 -1", "#2": "998 -1"}
+        columns = {1: 998, 2: 997, 4: 996, 5: 1007}
+        shapes = {at: a_shape([ID, (0, "it", oid, -1)]) for at, oid in columns.items()}
+        tables = [a_table(at, f"t{at}", it) for at, it in shapes.items()]
+        self.begin(a_catalog(*tables, types=types))
+        more = {**LABELS, "703": "fine"}
+        self.look(a_catalog(*tables, types={**types, 999: more}))
+        self.is_wanted()
+        self.assertEqual(self.checkpoint.findings(), {})
+        self.look(a_catalog(*tables, types={**types, 999: {**more, "701": "blue"}}))
+        self.is_wanted(1, 2, 4)
+        for oid in (1, 2, 4):
+            self.is_added(oid)
         self.assertEqual(self.checkpoint.findings(), {})
 
     def test_by_a_message(self) -> None:

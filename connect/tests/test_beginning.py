@@ -12,11 +12,16 @@ from unittest import mock
 
 from pgsub_connect.commands import drop, follow, refresh
 from pgsub_connect.drift.remembered import Remembered
+from pgsub_connect.drift.tolerance import Tolerance
 from pgsub_connect.errors import ServerError
 from pgsub_connect.follow.refused import leaving_nothing, own_files
+from pgsub_connect.server.catalog import Catalog
+from pgsub_connect.server.subscription import Subscription
+from pgsub_connect.status.progress import Progress
 from pgsub_connect.store.checkpoint import LONGEST_PATH, Checkpoint
 from pgsub_connect.store.checkpoint_at_rest import read_known
-from pgsub_connect.store.checkpoint_lines import COPYING, FOLLOWING, SLOT
+from pgsub_connect.store.checkpoint_lines import COPIED, COPYING, FOLLOWING, SLOT, Known
+from pgsub_connect.stream.common import Common
 from pgsub_feed.errors import Failure, FileError, Passing, Stopped, Unfit
 from pgsub_feed.relation import Relation, Shape
 from pgsub_feed.tables.schema import RELATIONS, definition
@@ -24,8 +29,8 @@ from pgsub_feed.tables.target import Target
 from pgsub_feed.tables.values import AS_REAL, AS_TEXT, BOTH
 
 from .fake_server import Quiet
-from .test_copying import Copying
 from .settled import options_of, settled
+from .test_copying import Copying
 
 
 class Begun(Quiet):
@@ -36,14 +41,16 @@ class Begun(Quiet):
         self.store = self.folder + "/copy.db"
         self.rows, self.feed = self.folder + "/rows.db", self.folder + "/far"
 
-    def followed(self, phase: str = FOLLOWING, tables: str = "", feed: str = "") -> None:
+    def followed(
+        self, phase: str = FOLLOWING, tables: str = "", feed: str = "", has_base: bool = False
+    ) -> None:
         """A store that was followed so."""
         Path(self.store).touch()
         checkpoint = Checkpoint(self.store)
         checkpoint.write(True, phase=phase, system="77", database="shop", slot="app")
         checkpoint.note_tables(tables)
         os.close(checkpoint.file)
-        Remembered(self.store).note_feed(feed)
+        Remembered(self.store).note_feed(feed, has_base)
 
     def follow(self, *words: str) -> follow.Options:
         options: follow.Options = settled(["follow", "--store", self.store, *words])
@@ -122,6 +129,16 @@ class Remembers(Begun):
             options = self.follow(*words)
             self.assertEqual((options.tables, options.feed), left, words)
 
+    def test_the_first_rows_of_a_feed(self) -> None:
+        """A copy that was interrupted goes on with what was said of them, unless it is said now."""
+        self.assertEqual(self.follow("--feed", self.feed).feed_base, "yes")
+        self.assertEqual(self.follow("--tables", self.rows).feed_base, "")
+        for has_base, found in ((True, "yes"), (False, "")):
+            self.followed(SLOT, feed=self.feed, has_base=has_base)
+            self.assertEqual(self.follow().feed_base, found)
+            self.assertEqual(self.follow("--feed", self.feed).feed_base, "yes")
+            self.assertEqual(self.follow("--feed-base", "no").feed_base, "no")
+
     def test_the_slot_of_an_interrupted_copy(self) -> None:
         for phase, is_made in ((COPYING, False), (SLOT, True)):
             self.followed(phase)
@@ -132,6 +149,28 @@ class Remembers(Begun):
                     self.follow("--slot", "other")
             else:
                 self.assertEqual(self.follow("--slot", "other").slot, "other")
+
+    def test_an_interrupted_copy_goes_on_by_the_store_alone(self) -> None:
+        for phase, begins in ((SLOT, True), (COPIED, True), (FOLLOWING, False)):
+            self.followed(phase, self.rows, self.feed)
+            remembered = Remembered(self.store)
+            remembered.begin(Catalog(("mine",), 0, 0, {}, {}, {}, {}))
+            remembered.save()
+            os.unlink(self.store)
+            options = self.follow()
+            checkpoint: Any = mock.Mock(known=Known(phase))
+            known = Tolerance(), checkpoint, Progress(), remembered
+            parts: Any = mock.Mock(common=Common(Subscription(), *known))
+            if not begins:
+                with self.assertRaisesRegex(Unfit, "is gone, and the slot"):
+                    follow.begin(options, parts)
+                continue
+            self.assertEqual(list(options.publication), ["mine"])
+            self.assertEqual((options.tables, options.feed), (self.rows, self.feed))
+            follow.begin(options, parts)
+            parts.copier.run.assert_called_once_with()
+            self.assertTrue(options.copy_settings().wanted.keeps)
+            self.assertFalse(self.follow("--create").copy_settings().wanted.keeps)
 
     def test_what_a_checkpoint_has_no_room_for(self) -> None:
         checkpoint = Checkpoint(self.store)
@@ -185,7 +224,7 @@ class LeavesNothing(Begun):
     def test_a_store_of_which_nothing_is_known(self) -> None:
         """It stays, and no checkpoint is made."""
         Path(self.store).write_text("rows", encoding="utf-8")
-        self.refused(Failure, "pgsub|filter")
+        self.refused(Failure, "none/pgsub", "--pgsub", self.folder + "/none/pgsub")
 
     def test_what_was_there_stays(self) -> None:
         self.followed(COPYING)

@@ -318,7 +318,7 @@ class Judging(unittest.TestCase):
 
         self.expect(OK, "slot", "can be made", well())
         self.expect(ERROR, "slot", "isn't there, and the store follows it", well(), has_store=True)
-        self.expect(ERROR, "slot", "is there already, and no store", slot())
+        self.expect(ERROR, "slot", "is there already, and no store: name another", slot())
         self.expect(OK, "slot", "pgsub", slot(), copies=False)
         self.expect(OK, "slot", "pgsub", slot(), makes=False, copies=False)
         self.expect(
@@ -332,7 +332,13 @@ class Judging(unittest.TestCase):
         self.expect(
             ERROR, "slot", "is not one of pgoutput", slot(plugin="test_decoding"), has_store=True
         )
-        self.expect(ERROR, "slot", "is not one of pgoutput", slot(is_here=False), has_store=True)
+        self.expect(
+            ERROR,
+            "slot",
+            "is of another database than shop: name that one by --dsn",
+            slot(is_here=False),
+            has_store=True,
+        )
         self.expect(ERROR, "slot", "two-phase", slot(is_two_phase=True), has_store=True)
         self.expect(ERROR, "slot", "lost", slot(wal_status="lost"), has_store=True)
         self.expect(ERROR, "slot", "idle_timeout", slot(why_invalid="idle_timeout"), has_store=True)

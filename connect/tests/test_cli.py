@@ -7,6 +7,8 @@ import os
 import re
 import signal
 import stat
+import subprocess
+import sys
 import unittest
 from collections.abc import Callable
 from pathlib import Path
@@ -14,6 +16,7 @@ from unittest import mock
 
 import pgsub_connect
 from pgsub_connect.commands import follow
+from pgsub_connect.errors import LostSlot, ServerError
 from pgsub_connect.store.checkpoint import Checkpoint
 from pgsub_connect.store.placing import check_meant
 from pgsub_feed.command import arguments as feed_arguments
@@ -54,6 +57,43 @@ class Signalled(Quiet):
         with mock.patch.object(follow, "Follower", made):
             self.assertEqual(follow.run(options_of(["follow", "--store", store])), 0)
         follower.run.assert_called_once_with()
+
+
+class Lost(Quiet):
+    def test_a_lost_slot_shows_in_the_status(self) -> None:
+        for error, shown in ((LostSlot("lost", "55000"), 1), (ServerError("no", "55000"), 0)):
+            parts, store = mock.Mock(threads=()), f"{self.make_folder()}/copy.db"
+            parts.follower.run.side_effect = error
+            Path(store).touch()
+            with mock.patch.object(follow, "made", lambda *_: parts), self.assertRaises(
+                ServerError
+            ):
+                follow.run(options_of(["follow", "--store", store]))
+            self.assertEqual(
+                parts.common.progress.slot.note.call_args_list,
+                [mock.call("lost", None)] * shown,
+            )
+            parts.common.progress.enter.assert_called_once_with("failed")
+
+
+class Interrupted(Quiet):
+    def test_an_interrupt_before_a_command_has_begun_tells_nothing(self) -> None:
+        folder, scripts = self.make_folder(), Path(__file__).resolve().parents[1]
+        # (what each of them imports)
+        Path(folder, "difflib.py").write_text(
+            "import time; print('here', flush=True); time.sleep(60)"
+        )
+        for name in ("pgsub-connect", "pgsub-feed"):
+            with subprocess.Popen(
+                [sys.executable, scripts / name, "--help"],
+                stdout=subprocess.PIPE,
+                stderr=subprocess.PIPE,
+                env={**os.environ, "PYTHONPATH": folder},
+            ) as child:
+                assert child.stdout and child.stderr
+                self.assertEqual(child.stdout.readline(), b"here\n")
+                child.send_signal(signal.SIGINT)
+                self.assertEqual((child.stderr.read(), child.wait(60)), (b"", -signal.SIGINT), name)
 
 
 class Abbreviated(unittest.TestCase):

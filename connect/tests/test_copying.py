@@ -16,8 +16,8 @@ from unittest import mock
 from pgsub_connect.copy import copy_slot, slots, table_reader
 from pgsub_connect.copy import tables as tables_module
 from pgsub_connect.copy.copier import Copier, CopySettings
-from pgsub_connect.copy.rows_beside import RowsBeside
 from pgsub_connect.copy.messages import InsertHeads, begin, commit, frame, inserts, relation
+from pgsub_connect.copy.rows_beside import RowsBeside, Several
 from pgsub_connect.copy.slots import create_slot
 from pgsub_connect.copy.tables import altered_tables
 from pgsub_connect.copy.tries import CHANGED, Tries
@@ -770,6 +770,19 @@ class Ends(Copying):
             self.server.index("SELECT s.wal_status"),
         )
         self.assertEqual(self.checkpoint.known.phase, COPIED)
+
+    def test_the_next_start_goes_on_once_that_is_told(self) -> None:
+        """Also one after a kill just behind the slot."""
+        told = list[tuple[str, int]]()
+
+        def note() -> None:
+            made = self.server.told("pg_copy_logical_replication_slot")
+            told.append((self.checkpoint.known.phase, len(made)))
+
+        self.beside = Several((RowsBeside(),), note)
+        self.copier().run()
+        self.assertEqual(told, [(checkpoint_lines.COPYING, 0)])
+        self.assertEqual(len(self.server.told("pg_copy_logical_replication_slot")), 1)
 
     def test_a_slot_that_is_there(self) -> None:
         self.slots = [["pgoutput", "t", "f", "5"]]

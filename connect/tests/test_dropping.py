@@ -249,7 +249,13 @@ class Dropping(Quiet):
 
     def test_a_slot_of_another_plugin(self) -> None:
         self.slots = [["f", "f"]]
-        self.refused(Unfit, "not one of pgoutput")
+        for plugin, database, told in (
+            ("test_decoding", "shop", "is of the plugin test_decoding, and not one of pgoutput"),
+            (None, None, "is a physical one, and not one of pgoutput: name another"),
+            ("pgoutput", "shop", "is of the database shop, and this is postgres: name that one by"),
+        ):
+            self.server.answer("SELECT s.plugin, s.data", [[plugin, database, "postgres"]])
+            self.refused(Unfit, told)
 
     def test_a_checkpoint_of_something_else(self) -> None:
         with open(self.store + ".connector", "w", encoding="utf-8") as file:

@@ -419,6 +419,12 @@ class Names(Case):
         self.export(form=ALL_TEXT)
         self.assertEqual(self.rows("SELECT pgsub_none FROM t"), [(None,), (None,)])
 
+    def test_with_the_column_that_a_table_without_any_gets(self) -> None:
+        self.store.table(1, "t", [(0, "pgsub_none", 25, -1)], letter="f")
+        self.store.row(1, "x")
+        self.export()
+        self.assertEqual(self.rows("SELECT pgsub_none FROM t"), [("x",)])
+
 
 class SeveralOfOneName(Case):
     def setUp(self) -> None:

@@ -7,7 +7,7 @@ import contextlib
 import os
 import sqlite3
 
-from feed_text import About, Column, Line
+from feed_text import Column
 
 from pgsub_connect.commands import tables
 from pgsub_feed.errors import FileError
@@ -20,7 +20,6 @@ from .vectors import logged
 
 OTHER, BAG = table(2, "other"), table(3, "bag", letter="f")
 NUMBERS = table(columns=[ID, Column("name", 23)])
-REPAIR = 2
 
 
 class AsideCase(TablesCase):
@@ -35,12 +34,6 @@ class AsideCase(TablesCase):
         with contextlib.closing(sqlite3.connect(self.into, isolation_level=None)) as base:
             for it in statements:
                 base.execute(it)
-
-    def repaired(self, *lines: Line) -> None:
-        """Adds the commit of a repair, or of a table that is added."""
-        self.at += 0x100
-        self.feed.commit(self.at, lines, About(self.at - 1, REPAIR, 0))
-        self.feed.confirm(self.at)
 
 
 class Altered(AsideCase):
@@ -241,6 +234,30 @@ class Others(AsideCase):
         self.assertEqual(self.rows("SELECT * FROM other"), [(1, "x"), (2, "y")])
         self.assertEqual((self.tables(), self.asides()[0][0]), (["bag", "other"], "public.other"))
 
+    def test_a_name_that_goes_and_comes_back_within_one_transaction(self) -> None:
+        """A table that comes again has another one's name for a while, of which the feed tells
+        nothing but that its rows go on."""
+        self.plant("DELETE FROM stock")
+        self.take(delete("1", "a"), insert("2", "y", of=OTHER))
+        self.run_it(1)
+        self.take(insert("9", "b", of=table(1, "other")))
+        self.take(insert("3", "z", of=OTHER))
+        self.take(truncate(table(1, "other")))
+        self.take(insert("4", "w", of=OTHER))
+        self.run_it()
+        rows = [(1, "x"), (2, "y"), (3, "z"), (4, "w")]
+        self.assertEqual(self.rows("SELECT * FROM other"), rows)
+
+    def test_a_name_that_goes_and_comes_back_within_a_commit(self) -> None:
+        self.plant("DELETE FROM stock")
+        self.take(delete("1", "a"))
+        self.run_it(1)
+        again = truncate(table(1, "other"))
+        self.take(insert("2", "y", of=OTHER), again, insert("3", "z", of=OTHER))
+        self.run_it()
+        rows = [(1, "x"), (2, "y"), (3, "z")]
+        self.assertEqual(self.rows("SELECT * FROM other"), rows)
+
 
 class Repaired(AsideCase):
     """The copy may have had rows that were never here."""
@@ -295,6 +312,32 @@ class Repaired(AsideCase):
             ],
         )
         self.assertEqual(self.rows("SELECT * FROM other"), [(1, "z")])
+
+    def test_what_waits_before_it(self) -> None:
+        """Changes of commits before the repair, which are there at once with it, are made as they
+        are: their rows are found."""
+        self.take(insert("2", "b", of=BAG), insert("2", "b", of=BAG))
+        self.take(delete("2", "b", of=BAG))
+        self.repaired(update(["1", "planted"], ["1", "z"], of=OTHER))
+        self.run_it()
+        self.assertEqual(self.rows("SELECT * FROM bag"), [(1, "a"), (2, "b")])
+        self.assertEqual(self.rows("SELECT * FROM other"), [(1, "z")])
+
+    def test_several_steps_of_a_row_before_it(self) -> None:
+        self.plant("CREATE UNIQUE INDEX mine ON stock (name)")
+        self.take(update(["1", "a"], ["1", "c"]))
+        self.take(update(["1", "c"], ["1", "d"]))
+        self.repaired(update(["1", "planted"], ["1", "z"], of=OTHER))
+        self.run_it()
+        self.assertEqual(self.rows("SELECT * FROM stock"), [(1, "d"), (2, "b")])
+
+    def test_without_a_key_that_was_empty_before_the_commit_before_it(self) -> None:
+        self.take(delete("1", "a", of=BAG))
+        self.run_it()
+        self.take(insert("1", "a", of=BAG))
+        self.repaired(insert("2", "b", of=BAG))
+        self.run_it(1)
+        self.assertEqual([it[:2] for it in self.asides()], [("public.bag", "0/400")])
 
     def test_a_table_that_is_added(self) -> None:
         self.repaired(

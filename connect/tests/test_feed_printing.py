@@ -50,17 +50,6 @@ OBJECTS = {
     "x": '{"id":"0/25504168:4","xid":742,"ts_us":1769508000123456,"op":"x","schema":"public","table":"stock","sent":"u",'
     '"old":{"id":7},"new":{"id":8}}',
 }
-DEBEZIUM = {
-    "c": '{"before":null,"after":{"id":1,"name":"a\\n\\"é"},"source":{"db":"shop","schema":"public","table":"stock","txId":742,'
-    '"lsn":626016512,"ts_us":1769508000123456},"op":"c","ts_ms":1769508000123,"transaction":{"id":"742:626016616","total_order":1}}',
-    "u": '{"before":{"id":1,"b":true,"y":"AP8=","f":1.5,"n":"1.50","t":"2026-11-26 10:00:00+00","x":"{1}"},"after":{"id":2,"b":false,'
-    '"y":null,"f":"NaN","n":null,"t":null,"x":"é"},"source":{"db":"shop","schema":"s","table":"many","txId":742,"lsn":626016512,'
-    '"ts_us":1769508000123456},"op":"u","ts_ms":1769508000123,"transaction":{"id":"742:626016616","total_order":2}}',
-    "d": '{"before":{"id":1,"name":null},"after":null,"source":{"db":"shop","schema":"public","table":"stock","txId":742,'
-    '"lsn":626016512,"ts_us":1769508000123456},"op":"d","ts_ms":1769508000123,"transaction":{"id":"742:626016616","total_order":3}}',
-    "t": '{"before":null,"after":null,"source":{"db":"shop","schema":"public","table":"stock","txId":742,"lsn":626016512,'
-    '"ts_us":1769508000123456},"op":"t","ts_ms":1769508000123,"transaction":{"id":"742:626016616","total_order":4}}',
-}
 
 
 class Terminal(io.TextIOWrapper):
@@ -99,14 +88,6 @@ class Formats(PrintingCase):
 
     def test_objects(self) -> None:
         self.assertEqual(self.print("--from", "0/100").splitlines(), list(OBJECTS.values()))
-
-    def test_debezium(self) -> None:
-        with logged() as told:
-            self.assertEqual(
-                self.print("--from", "0/100", "--format", "debezium").splitlines(),
-                list(DEBEZIUM.values()),
-            )
-        self.assertRegex(told[0], "0/25504168: a change that found no row is left out")
 
     def test_lines(self) -> None:
         self.feed.end()
@@ -191,15 +172,6 @@ class Formats(PrintingCase):
             with self.assertRaises(SystemExit) as ended, contextlib.redirect_stderr(io.StringIO()):
                 self.print(*words)
             self.assertEqual(ended.exception.code, USAGE)
-
-    def test_without_xid_and_time(self) -> None:
-        self.feed.commit(0x25504200, [insert("1", "b")])
-        last: dict[str, Any] = json.loads(
-            self.print("--from", "0/25504168", "--format", "debezium")
-        )
-        self.assertEqual(
-            (last["source"]["txId"], last["source"]["lsn"], last["ts_ms"]), (None, None, None)
-        )
 
     def test_values_of_another_type(self) -> None:
         self.feed.commit(

@@ -360,6 +360,22 @@ class Segments(Case):
         with self.assertRaisesRegex(Unfit, "the segment that begins at 0/200 is gone"):
             slow.next()
 
+    def test_what_is_cut_while_it_looks_for_the_next_one(self) -> None:
+        for end in (0x100, 0x200):
+            self.feed.commit(end)
+            self.feed.end()
+        reader = self.reader()
+        reader.next()
+        self.file(0x100).unlink()
+
+        def named(base: int) -> None:
+            if reader.listing.found:
+                self.file(0x200).unlink()
+                os.utime(self.path, ns=(0, 0))
+
+        with mock.patch.object(reader, "named", named), self.assertRaisesRegex(Unfit, "is gone"):
+            reader.next()
+
     def listings(self, reader: Reader, times: int = 5) -> int:
         """How often a reader that has all lists the folder."""
         with mock.patch("os.listdir", wraps=os.listdir) as listed:

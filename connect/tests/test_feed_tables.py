@@ -12,11 +12,11 @@ from collections.abc import Sequence
 from typing import Any
 from unittest import mock
 
-from feed_text import Cell, Column, Line
+from feed_text import About, Cell, Column, Line
 
 from pgsub_connect.cli import main
-from pgsub_connect.commands import beside
 from pgsub_connect.commands import tables as tables_module
+from pgsub_connect.commands.arguments import following
 from pgsub_connect.commands.tables import Options
 from pgsub_connect.commands.wait import Awaited
 from pgsub_connect.follow.retention import Limits, retire
@@ -34,6 +34,8 @@ from .feeds import ID, NAME, STOCK, FeedCase, delete, insert, table, truncate, u
 from .stores import Store
 from .vectors import logged
 
+REPAIR = 2
+
 
 class TablesCase(FeedCase):
     def setUp(self) -> None:
@@ -45,6 +47,12 @@ class TablesCase(FeedCase):
         """Adds a commit."""
         self.at += 0x100
         self.feed.commit(self.at, lines)
+
+    def repaired(self, *lines: Line) -> None:
+        """Adds the commit of a repair, or of a table that is added."""
+        self.at += 0x100
+        self.feed.commit(self.at, lines, About(self.at - 1, REPAIR, 0))
+        self.feed.confirm(self.at)
 
     def options(self, **more: Any) -> Options:
         return Options(feed=str(self.path), into=self.into, once=True, **more)
@@ -543,6 +551,33 @@ class Names(TablesCase):
         self.assertEqual(self.after(insert("3", "c")), [(2, "b"), (3, "c")])
         self.assertEqual(self.tables(), ["pgsub_old 2", "stock"])
 
+    def test_a_name_goes_and_comes_back_within_a_commit(self) -> None:
+        """A definition isn't told again there: that a row follows says whose the name is."""
+        for joins in (True, False):
+            if not joins:
+                self.plant_trigger()
+            rows = len(self.after(insert(f"1{joins:d}", "a")))
+            found = self.after(
+                insert(f"2{joins:d}", "b"),
+                insert(f"3{joins:d}", "other", of=table(2)),
+                insert(f"4{joins:d}", "c"),
+            )
+            with self.subTest(joins=joins):
+                self.assertEqual(len(found), rows + 2)
+                self.assertEqual(self.rows("SELECT oid FROM pgsub_tables"), [(1,)])
+
+    def test_back_to_a_name_that_came_back_within_a_commit(self) -> None:
+        other = table(2)
+        self.take(insert("1", "a"), insert("3", "other", of=other), insert("4", "c"))
+        self.after(insert("5", "d"))
+        with logged():
+            tables_module.follow_feed(self.options(at=0x100), never)
+        self.assertEqual(self.rows("SELECT * FROM stock ORDER BY 1"), [(1, "a"), (4, "c")])
+
+    def plant_trigger(self) -> None:
+        with contextlib.closing(sqlite3.connect(self.into)) as db:
+            db.execute("CREATE TRIGGER mine AFTER DELETE ON stock BEGIN SELECT 1; END")
+
     def test_a_name_comes_back_without_another_one_between(self) -> None:
         self.after(insert("1", "a"))
         self.after(insert("1", "new", of=table(2)))
@@ -733,7 +768,7 @@ class Beginning(TablesCase):
         patched: Any = (
             mock.patch.object(first_rows, "copy", copy_slowly)
             if "base" in more
-            else mock.patch.object(beside, "export_store", export_slowly)
+            else mock.patch.object(following, "export_store", export_slowly)
         )
         with mock.patch("pgsub_connect.store.export.log"), patched:
             self.run_it(reader="rows", **more)
@@ -745,7 +780,7 @@ class Beginning(TablesCase):
         return [base for base, _ in segments(str(self.path))]
 
     def test_what_a_new_reader_needs_stays(self) -> None:
-        with mock.patch.object(beside, "is_followed", lambda _: True):
+        with mock.patch.object(following, "is_followed", lambda _: True):
             self.assertEqual(
                 self.beside_another_reader(store=self.store(0x300)), [0x300, 0x400, 0x500]
             )
@@ -773,8 +808,8 @@ class Beginning(TablesCase):
             export_store(settings, check)
             retire(str(self.path), Limits(), self.at, 0.0)
 
-        with mock.patch.object(beside, "is_followed", lambda _: True), mock.patch.object(
-            beside, "export_store", export_slowly
+        with mock.patch.object(following, "is_followed", lambda _: True), mock.patch.object(
+            following, "export_store", export_slowly
         ):
             self.run_it(reader="rows", store=self.store(0x300, "b"), at=0x100)
         self.assertEqual(

@@ -20,20 +20,22 @@ from pgsub_connect.commands.arguments.feed import settled_feed
 from pgsub_connect.drift.remembered import Remembered
 from pgsub_connect.drift.tolerance import Tolerance
 from pgsub_connect.follow import feed as feed_module
-from pgsub_connect.follow import feed_keeper, process_beside, tables_process
-from pgsub_connect.follow.common import Common
+from pgsub_connect.follow import drift_watch, feed_keeper, process_beside, tables_process
 from pgsub_connect.follow.feed import Feeding, FeedSettings
 from pgsub_connect.follow.feed_keeper import Keeper
 from pgsub_connect.follow.follower import Follower
+from pgsub_connect.follow.retention import Limits
 from pgsub_connect.follow.tables_process import Beside, TablesSettings
 from pgsub_connect.server.subscription import Subscription
 from pgsub_connect.status.metrics import metrics_text
 from pgsub_connect.status.progress import Progress
 from pgsub_connect.status.status_file import status_fields
+from pgsub_connect.stream.common import Common
 from pgsub_connect.stream.filter_end import FilterEnded
 from pgsub_connect.stream.statuses import Reached
 from pgsub_feed.errors import FileError, Unfit, UsageError
 from pgsub_feed.files import replace_file
+from pgsub_feed.known_tables import read_keys
 from pgsub_feed.reader.positions import Noted, make_folder
 from pgsub_feed.reader.segments import CONFIRMED, Reader, read_confirmed, segments
 
@@ -43,7 +45,7 @@ from .settled import options_of
 from .test_following import Case
 from .vectors import begin, commit
 from .vectors import insert as inserted
-from .vectors import keepalive
+from .vectors import keepalive, relation
 
 # What a child's code has before it begins.
 QUICK = (
@@ -127,6 +129,29 @@ class Followed(Case):
         assert follower.life.feeding
         follower.life.feeding.finish()
         self.assertEqual((self.progress.feed.readers, self.progress.feed.bytes), ({}, 1024 + 256))
+
+    def test_keys_are_told_once_they_were_looked_at(self) -> None:
+        """Also at the end, where a look is due."""
+        looks, full = list[int](), relation(1, "t", identity="f")
+        self.patch(drift_watch, "LOOK", 600.0)
+
+        def compare(watch: drift_watch.Watch, *_: object) -> bool:
+            looks.append(self.keys())
+            watch.next_look = float("inf")
+            return True
+
+        self.patch(drift_watch.Watch, "compare", compare)
+        self.server.to_send = [begin(0x100, 7), full, inserted(1), commit(0x100, 0x108)]
+        follower = self.fed()
+        self.run_until(follower, lambda: read_confirmed(self.feed) == 0x108)
+        assert follower.life.feeding
+        # (nothing was told before either look; the keeper may tell at once after the last one)
+        self.assertEqual(looks, [0, 0])
+        follower.life.feeding.finish()
+        self.assertEqual(self.keys(), 0x108)
+
+    def keys(self) -> int:
+        return read_keys(self.feed) or 0
         self.assertEqual(Remembered(self.store).feed, self.feed)
         self.assertEqual(oct(stat.S_IMODE(os.stat(self.feed).st_mode)), "0o700")
 
@@ -359,6 +384,15 @@ class Refused(Quiet):
         self.folder = self.make_folder()
         self.store = self.folder + "/copy.db"
 
+    def test_what_a_copy_is_to_have_is_noted_once_the_next_start_goes_on_with_it(self) -> None:
+        feeding = self.feeding(self.folder + "/rows.db")
+        self.assertEqual(Remembered(self.store).feed, "")
+        feeding.rows_beside().note()
+        self.assertEqual(Remembered(self.store).feed, self.store + ".feed")
+        feeding.checkpoint.note_tables.assert_called_once_with(self.folder + "/rows.db")  # type: ignore[attr-defined]
+        self.feeding().rows_beside().begin(5)
+        self.assertEqual(self.said, [])
+
     def test_a_new_store_and_an_old_feed(self) -> None:
         os.makedirs(self.store + ".feed/readers")
         with self.assertRaisesRegex(
@@ -441,14 +475,8 @@ class Kept(FeedCase):
         self.progress.stream.position = 0x600
 
     def keeper(self, confirmed: int = 0x600, **settings: Any) -> Keeper:
-        chosen = FeedSettings("copy.db", str(self.path), **settings)
-        return Keeper(
-            str(self.path),
-            chosen.limits(),
-            chosen.mode,
-            self.progress,
-            lambda: Reached(confirmed, 0x600),
-        )
+        limits, reached = Limits(**settings), Reached(confirmed, 0x600)
+        return Keeper(str(self.path), limits, 0o600, self.progress, lambda: reached)
 
     def read(self, name: str, lsn: int) -> None:
         Noted(str(self.path), name, str(self.folder / "rows.db"), 0o600).note(lsn, is_last=True)
@@ -474,7 +502,7 @@ class Kept(FeedCase):
 
     def test_a_reader_that_loses_segments_is_named(self) -> None:
         self.read("slow", 0x100)
-        self.keeper(max_bytes=4000).tend(100.0)
+        self.keeper(most_bytes=4000).tend(100.0)
         self.assertEqual([base for base, _ in segments(str(self.path))][-1], 0x500)
         self.assertIn(
             "warning: the reader slow hadn't read all of that, and has to begin anew: the feed may have 4000 bytes",
@@ -500,6 +528,25 @@ class Kept(FeedCase):
             keeper.reached = lambda: Reached(0x700, 0x700)
             keeper.tend(103.0)
             self.assertEqual(read_confirmed(str(self.path)), 0x700)
+
+    def test_up_to_where_keys_are_known(self) -> None:
+        """Once in a run; where tables have others than messages tell, each time; and anew where less
+        is confirmed, as after a failover."""
+        keeper, folder, found = self.keeper(), str(self.path), list[int | None]()
+        self.assertIsNone(read_keys(folder))
+        keeper.start()
+        self.assertTrue(wait_until(lambda: read_keys(folder) == 0))
+        keeper.finish()
+        keeper = self.keeper()
+        steps = [(0x600, 0, False), (0x700, 0x700, False), (0x800, 0x800, False)]
+        steps += [(0x900, 0, True), (0xA00, 0xA00, True), (0xB00, 0xB00, True)]
+        steps += [(0xA80, 0, True), (0xA80, 0xA80, True)]
+        for now, (confirmed, keys, others) in enumerate(steps):
+            reached = Reached(confirmed, confirmed, keys, others)
+            keeper.reached = lambda: reached  # noqa: B023
+            keeper.tend(100.0 + now)
+            found.append(read_keys(folder))
+        self.assertEqual(found, [0, 0x700, 0x700, 0x700, 0xA00, 0xB00, 0, 0xA80])
 
     def test_a_disk_that_is_full_is_told_once(self) -> None:
         keeper = self.keeper()

@@ -137,6 +137,15 @@ class Ends(Case):
             )
             self.assertEqual((ended.is_full(), ended.is_unopened()), (status == 10, status == 12))
 
+    def test_a_store_that_another_program_has_open(self) -> None:
+        """What to do is told beside the words of the program."""
+        for status in (12, 13):
+            with self.assertRaises(FilterEnded) as raised:
+                self.shell(f"echo 'pgsub: store 8 Refused' >&2; exit {status}").start()
+            busy = "(another program may have the store open, as `pgsub dump`: let that end"
+            self.assertEqual(busy in str(raised.exception), status == 12)
+            self.assertEqual(raised.exception.said, "pgsub: store 8 Refused")
+
     def test_a_cause_before_its_fault(self) -> None:
         """It is passed on, and the fault stays what was said last."""
         child = self.shell(

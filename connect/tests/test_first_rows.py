@@ -220,10 +220,9 @@ class Process(Case):
         self.begin()
         child = self.it.child
         assert child and child.stdin
-        self.assertIn(
-            os.stat(self.lock).st_ino,
-            [it.stat().st_ino for it in Path(f"/proc/{child.pid}/fd").iterdir()],
-        )
+        # (it may close others meanwhile)
+        files = [os.path.realpath(it) for it in Path(f"/proc/{child.pid}/fd").iterdir()]
+        self.assertIn(os.path.realpath(f"/proc/self/fd/{self.lock}"), files)
         child.stdin.close()
         self.assertEqual((child.wait(20), self.left()), (7, []))
 

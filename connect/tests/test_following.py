@@ -29,6 +29,7 @@ from pgsub_connect.server.session import Server
 from pgsub_connect.server.transport import Protection
 from pgsub_connect.status.progress import Progress
 from pgsub_connect.store.checkpoint import Checkpoint
+from pgsub_connect.store.checkpoint_lines import FOLLOWING
 from pgsub_connect.stream import statuses
 from pgsub_connect.stream.awake import Awake
 from pgsub_connect.stream.filter import Filter
@@ -102,15 +103,9 @@ class Case(Quiet):
         self.addCleanup(child.kill)
         self.progress, remembered = Progress(), Remembered(self.store)
         remembered.begin_copy(a_catalog(a_table(1, "t")), 100)
-        return Follower(
-            *followed(self.store, self.server.dsn(), **options),
-            self.checkpoint,
-            child,
-            self.progress,
-            None,
-            snapshots_of(self, self.store),
-            remembered,
-        )
+        known = self.checkpoint, self.progress, remembered
+        told = followed(known, self.store, self.server.dsn(), **options)
+        return Follower(*told, child, None, snapshots_of(self, self.store))
 
     def run_until(
         self, follower: Follower, holds: Callable[[], bool], seconds: float = 20.0
@@ -690,23 +685,41 @@ class Fits(Case):
 
     def test_slots(self) -> None:
         cases: Sequence[tuple[list[Row], str, type[Exception], str]] = (
-            ([], "f", Unfit, "the server has no slot"),
+            ([], "f", Unfit, "the server has no slot .*: --create makes it"),
             ([], "t", ServerError, "a standby without the slot"),
             ([["pgoutput", "t", "t", "0"]], "f", Unfit, "two-phase"),
-            ([["test_decoding", "t", "f", "0"]], "f", Unfit, "not one of pgoutput"),
-            ([["pgoutput", "f", "f", "0"]], "f", Unfit, "not one of pgoutput in this database"),
+            (
+                [["test_decoding", "t", "f", "0"]],
+                "f",
+                Unfit,
+                "of the plugin test_decoding, and not",
+            ),
+            ([["pgoutput", "f", "f", "0"]], "f", Unfit, "is of the database other, and this is"),
             ([["pgoutput", "t", "f", None]], "f", ServerError, "still being made"),
         )
         for slots, standby, error, text in cases:
             with self.subTest(text):
                 self.patch(Checkpoint, "lock", lambda *_: None)
                 self.slots, self.standby = slots, standby
+                told = ([*it[:1], "other", "shop"] for it in slots)
+                self.brain.answer("SELECT s.plugin, s.database, pg_catalog.curr", list(told))
                 with self.assertRaisesRegex(Exception, text) as raised:
                     self.connect(self.follower())
                 self.assertIs(type(raised.exception), error)
                 if isinstance(raised.exception, ServerError):
                     self.assertFalse(raised.exception.is_lasting())
         self.assertEqual(self.brain.told("START_REPLICATION"), [])
+
+    def test_a_slot_that_was_dropped(self) -> None:
+        """What to do is told."""
+        self.slots = []
+        self.brain.answer("SELECT s.plugin, s.database, pg_catalog.curr", [])
+        follower, cure = self.follower(), f"`pgsub-connect drop --store {self.store}`, then a start"
+        self.checkpoint.write(False, phase=FOLLOWING)
+        with self.assertRaisesRegex(
+            Unfit, f"has no slot .*: it was dropped, .*{cure} with --create"
+        ):
+            self.connect(follower)
 
     def test_a_standby_that_cant_be_followed_yet(self) -> None:
         """Its slot is one that it keeps for its promotion, or it can't decode; but a slot that is
@@ -769,7 +782,7 @@ class Fits(Case):
         follower.watch.remembered.save()
         self.assertEqual(Remembered(self.store).database, (16384, "store"))
         self.brain.answer("FROM pg_catalog.pg_database", [["16385"]])
-        with self.assertRaisesRegex(Unfit, "not slot pgsub of store"):
+        with self.assertRaisesRegex(Unfit, "database store, and this is a later one: name"):
             self.connect(follower)
 
     def test_the_name_in_a_feed_stays(self) -> None:
@@ -786,7 +799,7 @@ class Fits(Case):
     def test_a_database_that_was_renamed_before_its_oid_was_noted(self) -> None:
         follower = self.follower_alone()
         self.checkpoint.write(False, system="77", database="shop", slot="pgsub")
-        with self.assertRaisesRegex(Unfit, "not slot pgsub of store"):
+        with self.assertRaisesRegex(Unfit, "database shop, and this is store: name that one"):
             follower.start.fitting.check_server(
                 Server("77", 1, 0x1000000, "store", False, 1000, 16384), 0, 0
             )

@@ -13,9 +13,8 @@ from unittest import mock
 
 from pgsub_connect.errors import ServerError
 from pgsub_connect.follow import snapshots
-from pgsub_connect.follow.ending import Ending
 from pgsub_connect.follow.requests import Requests as Asked
-from pgsub_connect.server.subscription import Subscription
+from pgsub_connect.follow.settings import Ending
 from pgsub_connect.status.progress import Progress
 from pgsub_connect.stream.hold import Hold, count_below
 from pgsub_connect.stream.statuses import Confirming
@@ -45,18 +44,16 @@ class Holds(unittest.TestCase):
         self.ending = Ending(self.progress, None)
         upkeep = mock.Mock(filter=self.filter, serve_server=self.ending.check_stop)
         upkeep.life.progress, upkeep.life.feeding = self.progress, None
-        upkeep.confirming = Confirming(
-            mock.Mock(), self.filter, self.progress, self.noting, mock.Mock()
-        )
+        upkeep.ending, misses = self.ending, mock.Mock(progress=self.progress)
+        upkeep.confirming = Confirming(self.filter, self.noting, misses)
         upkeep.confirming.position = 0x100
         self.noting.ends = collections.deque([0x108, 0x120])
         self.noting.confirm.side_effect = self.confirm
         self.snapshots.hold, self.snapshots.requests.waiting = Hold(), []
         self.filter.waiting = 0
         self.filter.confirmed.return_value = 0x100
-        self.requests = Asked(
-            Subscription(), self.snapshots, mock.Mock(), mock.Mock(), upkeep, self.ending
-        )
+        repairing = mock.Mock(snapshots=self.snapshots, hold=self.snapshots.hold)
+        self.requests = Asked(mock.Mock(), repairing, upkeep)
 
     def confirm(self, confirmed: int, position: int) -> int:
         while self.noting.ends and self.noting.ends[0] <= confirmed:

@@ -20,12 +20,14 @@ from pgsub_connect.drift.tolerance import Tolerance
 from pgsub_connect.errors import MISSED, ServerError
 from pgsub_connect.follow.follower import Follower
 from pgsub_connect.server.connection import Connection
+from pgsub_connect.server.subscription import Subscription
 from pgsub_connect.status.findings import Counted
 from pgsub_connect.status.progress import Progress
 from pgsub_connect.status.status_file import status_fields
 from pgsub_connect.store.checkpoint import Checkpoint
-from pgsub_connect.store.checkpoint_lines import Known
+from pgsub_connect.store.checkpoint_lines import Known, read_file
 from pgsub_connect.stream.awake import Awake
+from pgsub_connect.stream.common import Common
 from pgsub_connect.stream.filter_end import FilterEnded, Missing
 from pgsub_connect.stream.filter_input import FilterInput
 from pgsub_connect.stream.frames import flushed
@@ -48,6 +50,11 @@ def missing_commit(lsn: int, count: int = 1) -> list[bytes]:
 
 def status(confirmed: int) -> bytes:
     return b"r" + confirmed.to_bytes(8, "big") * 3 + bytes(9)
+
+
+def counted_in(checkpoint: Checkpoint) -> Counted | None:
+    """What the file of a checkpoint says of changes that found no row."""
+    return read_file(checkpoint.file, checkpoint.path).counted
 
 
 class FollowCase(Case):
@@ -77,7 +84,7 @@ class FollowCase(Case):
 
     def counted(self) -> Counted | None:
         """What the file says."""
-        return self.checkpoint.read_counted()
+        return counted_in(self.checkpoint)
 
     def lines(self) -> list[str]:
         return [it for it in self.said if "found: missing" in it]
@@ -93,7 +100,7 @@ class Order(FollowCase):
         send, write, sync = Connection.send, os.pwrite, os.fdatasync
 
         def note(what: str) -> None:
-            counted = follower.confirming.checkpoint.read_counted()
+            counted = counted_in(follower.confirming.checkpoint)
             happened.append(
                 (
                     what,
@@ -371,7 +378,7 @@ class Killed(FollowCase):
             follower, lambda: self.progress.server.sessions >= 2 and self.stored() == 0x108
         )
         self.assertIn(f"warning: found: missing at 0/0: {GAP}", self.said)
-        self.assertEqual(self.checkpoint.read_counted(), Counted(0, 0x108, gap=(0, 0x108)))
+        self.assertEqual(counted_in(self.checkpoint), Counted(0, 0x108, gap=(0, 0x108)))
         self.assertEqual(self.progress.findings.found, {"missing": GAP})
         shown = status_fields(self.progress, 0.0, 0.0)
         self.assertEqual(
@@ -499,7 +506,8 @@ class Told(FollowCase):
         self.addCleanup(os.close, self.checkpoint.file)
         self.progress, remembered = Progress(), Remembered(self.store)
         remembered.begin_copy(a_catalog(a_table(1, "t")), 100)
-        return Misses(Tolerance(accept), self.checkpoint, self.progress, remembered)
+        known = self.checkpoint, self.progress, remembered
+        return Misses(Common(Subscription(), Tolerance(accept), *known))
 
     def test_the_first_at_once_and_more_each_ten_seconds(self) -> None:
         misses = self.misses()
@@ -714,7 +722,7 @@ class Statuses(FollowCase):
         self.assertEqual(self.command("--strict", "--accept", "missing", "--until", "0/118"), 0)
 
     def test_help(self) -> None:
-        self.assertIn("9 ended as asked, but changes found no", ENDS)
+        self.assertIn("9 as 0, but changes", ENDS)
         self.assertIn("missing", ACCEPTED)
 
 

@@ -173,7 +173,7 @@ class Following(Case):
     def test_between_sessions(self) -> None:
         self.patch(schedule, "FIRST_DELAY", 60.0)
         follower = self.follower()
-        follower.begin_after(True)
+        follower.start.note_connected(True)
         error = ServerError("gone", "57P01")
         with mock.patch.object(follower.session, "run", side_effect=error):
             self.follow_for(follower, WITHIN)

@@ -278,13 +278,16 @@ class Relations(Case):
 
     def test_a_table_whose_primary_key_isnt_told(self) -> None:
         """It may have another one."""
-        for identity, xid, wants in (
-            ("d", 0, False),
-            ("f", 9, False),
-            ("f", 0, True),
-            ("i", 0, True),
+        for identity, xid, feed, wants in (
+            ("d", 0, "", False),
+            ("d", 9, "feed", False),
+            ("f", 9, "", False),
+            ("f", 9, "feed", True),
+            ("f", 0, "", True),
+            ("i", 0, "", True),
         ):
             with self.subTest(identity=identity, xid=xid):
+                self.remembered.feed = feed
                 for lsn in (500, 510):
                     self.noting.relation_log.wants_look = False
                     it = relation(1, "t", identity=identity, xid=xid or None)
@@ -294,6 +297,36 @@ class Relations(Case):
                     else:
                         self.note(begin(lsn, 7), it, insert(1), commit(lsn, lsn + 8))
                     self.assertEqual(self.noting.relation_log.wants_look, wants)
+
+    def test_until_a_look_keys_arent_known(self) -> None:
+        """Nor before the first one: of the run before one may have been due."""
+        relations = self.noting.relation_log
+        known = [relations.knows_keys()]
+        for wants_look in (True, False):
+            relations.note_look(wants_look)
+            known.append(relations.knows_keys())
+        full = relation(1, "t", identity="f")
+        self.note(begin(500, 7), full, insert(1), commit(500, 508))
+        known.append(relations.knows_keys())
+        for wants_look in (True, False):
+            relations.note_look(wants_look)
+            known.append(relations.knows_keys())
+        self.assertEqual(known, [False, False, True, False, False, True])
+
+    def test_a_name_that_goes_and_comes_back(self) -> None:
+        """In later commits, and within one: the table whose row came last has it."""
+        one, other = (relation(1, "t"), insert(1)), (relation(2, "t"), insert(2))
+        commits = iter(range(500, 2000, 100))
+
+        def note(*payloads: bytes) -> int | None:
+            at = next(commits)
+            self.note(begin(at, at), *payloads, commit(at, at + 8))
+            return self.remembered.names["public", "t"].oid
+
+        self.assertEqual([note(*it) for it in (one, other, one, other)], [1, 2, 1, 2])
+        self.assertEqual(note(*other, *one), 1)
+        self.assertEqual(note(*one, *other, *one), 1)
+        self.assertEqual(note(*one, *other), 2)
 
     def test_a_table_of_the_same_name(self) -> None:
         self.note(begin(500, 7), relation(3, "t"), insert(3), commit(500, 508))

@@ -67,15 +67,9 @@ class Case(unittest.TestCase):
         )
         self.recording = Recording(folder.name + "/r.pgx", False, 1 << 30)
         self.addCleanup(self.recording.out.close)
-        self.follower = Follower(
-            *followed(self.store, skip=0x210),
-            Checkpoint(self.store),
-            self.child,
-            Progress(),
-            Aside(self.recording),
-            snapshots_of(self, self.store),
-            remembered,
-        )
+        told = followed((Checkpoint(self.store), Progress(), remembered), self.store, skip=0x210)
+        asked = snapshots_of(self, self.store)
+        self.follower = Follower(*told, self.child, Aside(self.recording), asked)
 
     def take(self, source: Source) -> bool | None:
         """Takes as much as there is room for, as a session does."""

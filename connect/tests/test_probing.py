@@ -17,8 +17,8 @@ from unittest import mock
 
 from pgsub_connect import cli
 from pgsub_connect.commands import status as command
-from pgsub_connect.status.progress import Progress
 from pgsub_connect.status.files import STATUS, Reporter, ReportSettings
+from pgsub_connect.status.progress import Progress
 from pgsub_connect.status.status_file import status_fields, time_text
 from pgsub_feed.errors import Stopped
 from pgsub_feed.version import VERSION
@@ -113,10 +113,26 @@ class Probes(unittest.TestCase):
     def test_what_was_found(self) -> None:
         self.progress.findings.note({"values": "t.x has old values", "history": "y"})
         self.fails(
-            "found: history, values (following, ",
+            "the copy may be wrong: history, values (following, ",
             "\n  values: t.x has old values: `pgsub-connect add --store /s/copy.db --table T`, or",
             "\n  history: y: `pgsub-connect verify --repair --store /s/copy.db`, once it was started with --accept history\n",
         )
+
+    def test_one_finding_says_its_kind_once(self) -> None:
+        self.progress.findings.note({"publication": "table s.u (7) joined"})
+        self.fails(
+            "the copy may be wrong: publication (following, ",
+            "\n  table s.u (7) joined: `pgsub-connect refresh --store /s/copy.db`\n",
+        )
+        self.progress.findings.note_adding({"s.u": "waits"})
+        self.fails("\n  table s.u (7) joined: its rows are being copied: wait for that\n")
+
+    def test_a_follower_that_ended_says_how_it_goes_on(self) -> None:
+        again = "`pgsub-connect follow --store /s/copy.db`, with its --dsn, goes on\n"
+        self.status["state"] = "stopped"
+        self.fails("the follower has ended (", f"\n  {again}")
+        self.status["state"] = "failed"
+        self.fails("the follower has failed (", f"\n  mend what its last error says; then {again}")
 
     def test_tables_that_are_set_aside(self) -> None:
         self.progress.feed.note_tables_aside(
@@ -132,9 +148,12 @@ class Probes(unittest.TestCase):
         self.progress.feed.note_tables(os.path.dirname(self.path))
         self.assertEqual(self.probe()[0], 0)
         self.progress.feed.note_tables(self.path + ".rows")
-        self.fails(f"{self.path}.rows isn't there yet", ": wait until its first rows are copied")
+        told = (
+            "\n  wait until its first rows are copied, as the log tells; if it was removed, start"
+        )
+        self.fails(f"{self.path}.rows isn't there (", told)
         self.progress.feed.note_tables_error("t: its key is gone")
-        self.fails("the tables don't follow any more", ": t: its key is gone; then start")
+        self.fails("the tables don't follow any more", "\n  t: its key is gone; then start")
 
     def test_readers_that_stand_still(self) -> None:
         feed, now = self.progress.feed, time.time()
@@ -157,7 +176,13 @@ class Probes(unittest.TestCase):
         for wrong, code in (("begins", 0), ("", 0), ("ended: no such user", 1)):
             self.progress.feed.note_sink("redis://h/1", wrong)
             self.assertEqual(self.probe()[0], code, wrong)
-        self.fails("the sink redis://h/1 doesn't write", ": ended: no such user; its log")
+        self.fails("the sink redis://h/1 doesn't write", "\n  ended: no such user; its log")
+        self.progress.findings.note({"names": "y"})
+        self.fails(
+            "the copy may be wrong: names; the sink redis://h/1 doesn't write (following",
+            "\n  the copy may be wrong: names: y: `pgsub-connect names --store /s/copy.db`",
+            "\n  the sink redis://h/1 doesn't write: ended: no such user; its log",
+        )
 
     def test_a_filter_that_is_lost_again_and_again(self) -> None:
         now = time.time()
@@ -169,7 +194,8 @@ class Probes(unittest.TestCase):
                 self.assertEqual(self.probe()[0], code)
                 if code:
                     self.fails(
-                        "`pgsub` has ended 3 times in ten minutes: the filter has ended: the"
+                        "`pgsub` has ended 3 times in ten minutes (following, ",
+                        "\n  mend that: the filter has ended: the disk is full\n",
                     )
 
     def test_another_version_is_installed(self) -> None:
@@ -183,6 +209,9 @@ class Probes(unittest.TestCase):
         for status, code in (("extended", 0), ("unreserved", 0), ("lost", 1)):
             self.status["wal_status"] = status
             self.assertEqual(self.probe()[0], code)
+        self.status["state"] = "failed"
+        self.fails("the slot is lost (failed, ", "\n  `pgsub-connect drop --store /s/copy.db`, and")
+        self.assertNotIn("goes on", self.probe()[1])
 
     def test_no_such_file(self) -> None:
         self.assertEqual(

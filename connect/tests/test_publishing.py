@@ -329,6 +329,34 @@ class Making(Quiet):
             self.server.commands[self.server.index("CREATE") + 1], "SET LOCAL search_path = ''"
         )
 
+    def test_what_an_earlier_run_has_made(self) -> None:
+        """It is made anew, as it is wanted now; or stays, where nothing is said of it."""
+        for keeps in (False, True):
+            self.theirs = ("pgsub",)
+            maker = self.maker(keeps=keeps)
+            maker.left = {"pgsub": 777}
+            maker.make()
+            self.assertEqual(bool(self.server.told("DROP PUBLICATION")), not keeps)
+            self.server.commands.clear()
+        self.theirs = ()
+        self.refused(self.maker(keeps=True), "no publication pgsub any more: make it, or")
+
+    def test_a_name_that_is_no_tables(self) -> None:
+        """Which one may be meant is told; of others the error alone."""
+        known: list[Row] = [["public", "stock"], ["sales", "orders"], ["sales", "Old Stock"]]
+        self.server.answer("AND c.oid >= 16384 ORDER BY", known)
+        self.server.answer("CREATE PUBLICATION", ServerError("no such relation", "42P01"))
+        for name, told in (
+            ("stokc", r"^no such relation: did you mean stock\?$"),
+            ("orders", r"did you mean sales\.orders\?$"),
+            ("sales.orderz (id)", r"did you mean sales\.orders\?$"),
+            ('ONLY "Old Stock"', r"did you mean sales\.Old Stock\?$"),
+            ("quite_another", r"^no such relation$"),
+        ):
+            self.refused(self.maker(tables=["public.stock", name]), told)
+        self.server.answer("CREATE PUBLICATION", ServerError("permission denied", "42501"))
+        self.refused(self.maker(), "permission denied: `pgsub-connect check` .* which rights")
+
     def test_all_tables_only_where_asked_for(self) -> None:
         self.maker(all_tables=True).make()
         self.assertEqual(self.made(), ['CREATE PUBLICATION "pgsub" FOR ALL TABLES'])

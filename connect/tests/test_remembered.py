@@ -568,7 +568,9 @@ class Names(Case):
         )
 
     def test_nothing_to_print(self) -> None:
-        with self.assertRaisesRegex(FileError, "no such file yet"):
+        with self.assertRaisesRegex(FileError, "^there is no store .*x$"):
+            print_names(self.store + "x")
+        with open(self.store + "x", "w"), self.assertRaisesRegex(FileError, "no such file yet"):
             print_names(self.store + "x")
 
 

@@ -498,7 +498,7 @@ class Held(unittest.TestCase):
     def test_sessions(self) -> None:
         it, form, asked = mock.Mock(), mock.Mock(), mock.Mock()
         asked.hold = Hold()
-        repairing = Repairing(it, it, it, it, it, it, it, asked, it, form)
+        repairing = Repairing(it, it, it, asked, it, form)
         found = []
         for wants, streaming, streams, keeps in (
             (False, True, True, False),

@@ -6,10 +6,13 @@ import unittest
 from unittest import mock
 
 from pgsub_connect.commands.arguments.feed import settled_feed
+from pgsub_connect.errors import Unread
 from pgsub_connect.follow import process_beside
+from pgsub_connect.follow.feed import Feeding, FeedSettings
 from pgsub_connect.follow.sink_process import Sink, SinkSettings
 from pgsub_connect.status.progress import Progress
 from pgsub_connect.status.status_file import status_fields
+from pgsub_connect.stream.common import Common
 from pgsub_feed.sinks.following import WAITS
 
 from .beside import started
@@ -18,6 +21,7 @@ from .feeds import insert
 from .settled import options_of
 from .sinks import SinkCase
 from .small_world import wait_for
+from .vectors import logged
 
 
 class Started(unittest.TestCase):
@@ -117,6 +121,29 @@ class Runs(SinkCase):
         self.assertTrue(self.has("0/100:0", "0/100:commit"), self.said)
         self.assertTrue(wait_for(lambda: self.shown() is None), self.said)
 
+    def test_it_tells_what_is_written(self) -> None:
+        """That is asked of another one too, after a kill."""
+        self.take(insert("1", "a"))
+        self.server.accepts = 0
+        sink = self.sink()
+        self.assertFalse(sink.has(0x100))
+        self.assertTrue(wait_for(lambda: WAITS in str(self.shown())), self.said)
+        self.assertFalse(sink.has(0x100))
+        self.server.accepts = None
+        self.assertTrue(wait_for(lambda: sink.has(0x100)), self.said)
+        self.assertEqual(self.server.ids()[-1], "0/100:commit")
+        self.assertFalse(sink.has(0x200))
+        assert sink.child
+        sink.child.kill()
+        self.take(insert("2", "b"))
+        self.assertTrue(wait_for(lambda: sink.has(0x200)), self.said)
+        self.assertEqual((self.server.ids()[-1], sink.lasting), ("0/200:commit", 0))
+
+    def test_one_that_has_ended_is_waited_for_no_more(self) -> None:
+        sink = self.sink("raise SystemExit(4)")
+        sink.join(20)
+        self.assertEqual((sink.has(0x500), sink.lasting), (True, 4))
+
     def test_what_no_wait_cures_ends_it(self) -> None:
         sink = self.sink(
             "import sys; print('t pgsub-connect: error: wrong', file=sys.stderr); sys.exit(4)"
@@ -134,6 +161,44 @@ class Runs(SinkCase):
         sink.child.stdin.close()
         self.assertTrue(wait_for(lambda: sink.child is not None and sink.child.poll() is not None))
         self.assertEqual(sink.child.returncode, 0)
+
+
+class Awaited(SinkCase):
+    """A follower that ends by itself."""
+
+    def setUp(self) -> None:
+        super().setUp()
+        known = Common(*(mock.MagicMock() for _ in Common._fields))
+        settings = FeedSettings(str(self.folder / "copy.db"), str(self.path))
+        self.feeding = Feeding(settings, known)
+        self.tables, self.sink = (mock.Mock(lasting=0, **{"has.return_value": False}) for _ in "ab")
+        self.tables.name, self.sink.name = "rows.db", "redis://h"
+        self.feeding.beside, self.feeding.sinks = self.tables, [self.sink]
+
+    def test_tables_and_sinks_are_waited_for(self) -> None:
+        self.assertFalse(self.feeding.is_read(0x100))
+        self.tables.has.return_value = True
+        self.assertFalse(self.feeding.is_read(0x200))
+        self.sink.has.return_value = True
+        self.assertTrue(self.feeding.is_read(0x200))
+        asked = [*self.tables.has.call_args_list, *self.sink.has.call_args_list]
+        self.assertEqual(asked, [mock.call(0x100)] * 6)
+        self.feeding.check_read()
+
+    def test_what_is_waited_for_is_told_once(self) -> None:
+        with logged() as told, mock.patch("pgsub_connect.follow.feed.UNTOLD", -1.0):
+            for _ in range(3):
+                self.feeding.is_read(0x100)
+        text = "the store has all up to 0/100, and rows.db, redis://h not yet: that is waited for"
+        self.assertEqual(told, [text])
+
+    def test_the_end_tells_who_lacks_something(self) -> None:
+        self.sink.lasting = 4
+        self.feeding.check_read()
+        self.feeding.is_read(0x100)
+        with self.assertRaisesRegex(Unread, "^redis://h follows no more, as told above$") as found:
+            self.feeding.check_read()
+        self.assertEqual(found.exception.exit_status(), 4)
 
 
 if __name__ == "__main__":

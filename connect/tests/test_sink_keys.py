@@ -5,12 +5,17 @@ from __future__ import annotations
 
 import json
 import os
+import threading
 from pathlib import Path
 from typing import Any
 from unittest import mock
 
 from feed_text import About, Column, Line, Writer
 
+from pgsub_connect.follow.feed_keeper import Keeper
+from pgsub_connect.follow.retention import Limits
+from pgsub_connect.status.progress import Progress
+from pgsub_connect.stream.statuses import Reached
 from pgsub_feed.command import main
 from pgsub_feed.known_tables import KnownTables
 from pgsub_feed.reader.commits import XID
@@ -314,6 +319,45 @@ class BulkLines(KeysCase):
         for was, now in ways:
             with self.subTest(was=was, now=now):
                 self.check_another(was, now)
+
+    def test_a_key_that_is_dropped_just_now(self) -> None:
+        """Nothing is printed by it: the table is left out once it is known."""
+        self.look("id")
+        self.known_up_to(self.at)
+        self.take(put("1", "a"), gone("1", "a"))
+        self.take(put("2", "a"))
+        begin, first = self.at - 0x200, self.at - 0x100
+        self.known_up_to(first)
+
+        def looked() -> None:
+            self.look()
+            self.known_up_to(self.at)
+
+        later = threading.Timer(0.1, looked)
+        later.start()
+        self.addCleanup(later.join)
+        told = (
+            f"it has the key none, and had id, .* may be wrong, and the table is left out.* {ANEW}"
+        )
+        found = self.printed("--from", f"0/{begin:X}", told=told)
+        self.assertEqual([it["delete"]["version"] for it in found], [first])
+
+    def test_a_key_that_stays_unknown(self) -> None:
+        """That is told, and a later start goes on: no line of the commit is printed."""
+        self.known_up_to(self.at)
+        told = f"the primary keys aren't known that tables have at 0/{self.at + 0x100:X}: the follower of .*copy "
+        self.assertEqual(self.bulk(put("1", "a"), told=told, status=7), [])
+        self.assertEqual(
+            self.bulk(insert("1", "a", of=table(2, "other")))[1], {"id": 1, "name": "a"}
+        )
+        self.known_up_to(self.at)
+        begin = f"0/{self.at - 0x200:X}"
+        self.assertEqual(self.printed("--from", begin)[1], {"id": 1, "name": "a"})
+
+    def known_up_to(self, lsn: int) -> None:
+        """As the follower tells it."""
+        keeper = Keeper(str(self.path), Limits(), 0o600, Progress(), lambda: Reached(0, 0))
+        keeper.tell_keys(Reached(lsn, lsn, lsn, True))
 
     def check_another(self, was: tuple[str, ...], now: tuple[str, ...]) -> None:
         self.look(*was)

@@ -17,6 +17,7 @@ from pgsub_feed.errors import EngineError, FileError, Passing, Stopped, TooLarge
 from pgsub_feed.formats.keys import subject
 from pgsub_feed.interruption import never
 from pgsub_feed.sinks.connecting import is_loopback
+from pgsub_feed.sinks.nats_engine import each_server
 from pgsub_feed.sinks.nats_messages import read_id
 from pgsub_feed.sinks.nats_wire import Wire, header_bytes, read_headers
 from pgsub_feed.tables.values import ALL_TEXT
@@ -130,6 +131,20 @@ class Messages(NatsCase):
         )
         self.fails(Unfit, "what is kept there is of .* and this would be of", stream="mine")
 
+    def test_several_servers(self) -> None:
+        self.assertEqual(each_server("tls://u:p@one,two:1"), ["tls://u:p@one", "tls://u:p@two:1"])
+        self.take(insert("1", "a"))
+        with socket.socket() as free:
+            free.bind(("127.0.0.1", 0))
+            none = free.getsockname()[1]
+        self.url = f"nats://127.0.0.1:{none},127.0.0.1:{self.server.port}"
+        self.run_it(replicas=3)
+        self.assertEqual(self.server.config["num_replicas"], 3)
+        self.assertEqual(self.ids(), ["0/0:commit", "0/100:0", "0/100:commit"])
+        self.fails(
+            Passing, "NATS at 127.0.0.1:.*refused", url=f"nats://127.0.0.1:{none},127.0.0.1:{none}"
+        )
+
     def test_subjects(self) -> None:
         self.assertEqual(subject("s", "", "tä>%"), "s.pg_catalog.t%C3%A4%3E%25")
         self.assertEqual(
@@ -175,13 +190,13 @@ class GoesOn(NatsCase):
 
     def test_large_commits_are_read_twice(self) -> None:
         self.take(*(insert(str(it), "a") for it in range(50)))
-        with mock.patch("pgsub_feed.sinks.nats_engine.ROOM", 100), mock.patch(
+        with mock.patch("pgsub_feed.sinks.engine.ROOM", 100), mock.patch(
             "pgsub_feed.sinks.jetstream.MOST", 7
         ):
             self.run_it()
         self.assertEqual(len(self.server.ids()), 52)
         self.take(insert("1", "a"), insert("2", "x" * 2000), insert("3", "c"))
-        with mock.patch("pgsub_feed.sinks.nats_engine.ROOM", 100):
+        with mock.patch("pgsub_feed.sinks.engine.ROOM", 100):
             self.fails(TooLarge, "0/200:1: a change of public.stock")
         self.assertEqual(len(self.server.ids()), 52)
 

@@ -9,6 +9,7 @@ import os
 import random
 import signal
 import sqlite3
+import ssl
 import time
 import unittest
 from collections import Counter
@@ -24,7 +25,7 @@ from pgsub_connect.commands import sink as sink_module
 from pgsub_connect.commands.sink import Options
 from pgsub_connect.follow.retention import Limits, retire
 from pgsub_connect.store.export import ExportSettings, export_store
-from pgsub_feed.errors import EngineError, FileError, Passing, Stopped, Unfit, UsageError
+from pgsub_feed.errors import EngineError, Failure, FileError, Passing, Stopped, Unfit, UsageError
 from pgsub_feed.interruption import never
 from pgsub_feed.reader.commits import Commit
 from pgsub_feed.reader.following import Following
@@ -317,6 +318,19 @@ class Shapes(RedisCase):
                 "stock:7": {"id": "7", "name": "p"},
             },
         )
+
+    def test_a_name_that_another_table_has_in_between(self) -> None:
+        """Within a commit that tells the table once, since it is described as before."""
+        found = self.after(
+            insert("3", "c"),
+            insert("8", "x", of=table(2)),
+            insert("4", "d"),
+            delete("1", "a"),
+            insert("9", "y", of=table(2, "other")),
+            delete("4", "d"),
+        )
+        others = {f"other:{id}": {"id": id, "name": name} for id, name in (("8", "x"), ("9", "y"))}
+        self.assertEqual(found, {**stock(("2", "b"), ("3", "c")), **others})
 
     def test_truncated_between(self) -> None:
         found = self.after(
@@ -761,11 +775,19 @@ class Ends(RedisCase):
             self.run_it(reader="redis")[0], "doesn't tell whether it syncs its log .NOPERM"
         )
 
+    def test_a_cluster(self) -> None:
+        self.take(insert("1", "a"))
+        self.server.info = b"# Server\r\nredis_mode:cluster\r\n"
+        self.fails(EngineError, "it is of a Redis Cluster, in which a MULTI can't have the rows")
+        self.assertEqual(self.server.data, {})
+
     def test_urls(self) -> None:
-        for words, text in (
-            ({"stream": "s"}, "--stream is for NATS"),
+        several: tuple[tuple[dict[str, Any], str], ...] = (
+            ({"stream": "s"}, "--stream and --replicas are for NATS"),
+            ({"replicas": 3}, "--stream and --replicas are for NATS"),
             ({"url": "nats://h", "form": "streams"}, "--as is for Redis"),
-        ):
+        )
+        for words, text in several:
             self.take()
             self.fails(UsageError, text, **words)
         path = self.folder / "url"
@@ -898,6 +920,62 @@ class PlainText(unittest.TestCase):
             self.assertEqual(self.told(url, is_own), "")
 
 
+class Certificates(unittest.TestCase):
+    def raised_by(self, error: OSError, url: str) -> str:
+        """How a connection ends of which the library tells this error."""
+        import redis  # type: ignore[import]
+
+        def connect() -> None:
+            try:
+                raise error
+            except OSError:
+                raise redis.exceptions.ConnectionError("Error 1 connecting to h:6379") from None
+
+        with mock.patch("redis.ConnectionPool") as pool, mock.patch(
+            "pgsub_feed.sinks.redis_calls.addresses", return_value=[]
+        ), self.assertRaises(Failure) as found:
+            made = mock.Mock(host="h", port=6379, connect=connect)
+            pool.from_url.return_value.make_connection.return_value = made
+            Connection(url)
+        self.assertIn("Redis at h:6379: ", str(found.exception))
+        return type(found.exception).__name__
+
+    def test_a_wrong_one_isnt_waited_for(self) -> None:
+        """Nor one that the host rejects, or a file that isn't there."""
+        reasons = (
+            ("SSL", "TLSV13_ALERT_CERTIFICATE_REQUIRED", "EngineError"),
+            ("SSL", "SSLV3_ALERT_BAD_CERTIFICATE", "EngineError"),
+            ("SSL", "TLSV1_ALERT_UNKNOWN_CA", "EngineError"),
+            ("X509", "KEY_VALUES_MISMATCH", "EngineError"),
+            ("SSL", "UNEXPECTED_EOF_WHILE_READING", "Passing"),
+        )
+        errors: list[tuple[OSError, str]] = [
+            (ssl.SSLCertVerificationError("certificate verify failed"), "EngineError"),
+            (ConnectionRefusedError("refused"), "Passing"),
+            (FileNotFoundError(2, "No such file or directory"), "FileError"),
+        ]
+        for library, reason, kind in reasons:
+            error = ssl.SSLError(1, f"[{library}: {reason}]")
+            error.library, error.reason = library, reason
+            errors.append((error, kind))
+        for it, kind in errors:
+            with self.subTest(str(it)):
+                self.assertEqual(self.raised_by(it, "rediss://h"), kind)
+        self.assertEqual(
+            self.raised_by(FileNotFoundError(2, "No such file"), "unix:///s"), "Passing"
+        )
+
+    def test_the_name_of_the_host_is_looked_at(self) -> None:
+        """Unless the URL says otherwise."""
+        for more, checks in (("", True), ("?ssl_check_hostname=False", False)):
+            with mock.patch.object(Connection, "look_up"), mock.patch.object(Connection, "guarded"):
+                made = Connection(f"rediss://h/1{more}").connection
+            self.assertEqual(made.check_hostname, checks)
+        with mock.patch.object(Connection, "look_up"), mock.patch.object(Connection, "guarded"):
+            made = Connection("rediss://h/1?ssl_cert_reqs=none").connection
+        self.assertFalse(made.check_hostname)
+
+
 class Interrupted(unittest.TestCase):
     """Calls of a connection once the end was asked for."""
 
@@ -927,6 +1005,24 @@ class Interrupted(unittest.TestCase):
         with mock.patch("pgsub_feed.sinks.redis_calls.GRACE", 0.05), self.assertRaises(Stopped):
             self.calls.run([("PING",)])
         self.assertTrue(self.calls.is_lost)
+
+    def test_the_end_is_passed_over_at_first(self) -> None:
+        class Slow:
+            def __del__(self) -> None:
+                time.sleep(60)
+
+        def read() -> None:
+            Slow()
+            time.sleep(60)
+
+        self.checks = self.stop
+        self.library.read_response.side_effect = read
+        with mock.patch("pgsub_feed.sinks.redis_calls.GRACE", 0.05), mock.patch(
+            "pgsub_feed.interruption.AGAIN", 0.05
+        ), mock.patch("sys.unraisablehook") as passed_over, self.assertRaises(Stopped):
+            self.calls.run([("PING",)])
+        self.assertTrue(passed_over.called)
+        self.assertEqual(signal.getitimer(signal.ITIMER_REAL), (0, 0))
 
 
 class Errors(unittest.TestCase):

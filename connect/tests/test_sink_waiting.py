@@ -10,11 +10,14 @@ from unittest import mock
 
 from pgsub_connect.commands import sink
 from pgsub_connect.commands.sink import Options
-from pgsub_feed.errors import EngineError, Passing, Stopped, Unfit
+from pgsub_feed.errors import EngineError, FileError, Passing, Stopped, Unfit
+from pgsub_feed.faults import Damaged
 from pgsub_feed.interruption import Check, never
+from pgsub_feed.reader.polling import Poll
 from pgsub_feed.sinks.following import Outages
 from pgsub_feed.sinks.redis_calls import Command, Said
 from pgsub_feed.sinks.redis_engine import Writer
+from pgsub_feed.tables import first_rows
 
 from .fake_redis import FakeCalls, FakeRedis
 from .feeds import insert, update
@@ -79,6 +82,39 @@ class Case(RedisCase):
 
 
 class Waited(Case):
+    def test_a_feed_that_isnt_there_is_told_wherever_the_engine_is(self) -> None:
+        """Its follower may be started later: another start may do, unless it can't be a feed."""
+        with self.assertRaisesRegex(Passing, "there is no feed .*/nofeed: start .* --feed"):
+            sink.write_feed(Options(url=self.url, feed=f"{self.path}/nofeed"), never)
+        with self.assertRaisesRegex(FileError, "Not a directory"):
+            sink.write_feed(Options(url=self.url, feed=str(self.feed.path)), never)
+        self.assertEqual(self.tries, 0)
+        self.feed.path.write_text("no feed" * 500)
+        with mock.patch("pgsub_feed.reader.polling.PATIENCE", 0.0):
+            with self.assertRaises(Damaged) as found:
+                self.follow()
+        self.assertEqual(found.exception.exit_status(), 3)
+
+    def test_a_feed_that_begins_later(self) -> None:
+        """That it is waited for is told."""
+        self.take(insert("1", "a"))
+        self.take()
+        rest, rests, later = Poll.rest, list[int](), self.path.rename(self.folder / "later")
+        self.path.mkdir()
+
+        def rested(poll: Poll) -> None:
+            rests.append(1)
+            if len(rests) == 3:
+                self.path.rmdir()
+                later.rename(self.path)
+            rest(poll)
+
+        with mock.patch.object(Poll, "rest", rested), mock.patch.object(first_rows, "UNTOLD", -1.0):
+            told = self.follow()
+        text = f"{self.path} has no segment yet, as before a follower's first copy is done: it is waited for"
+        self.assertEqual((told[0], len(told)), (text, 3), told)
+        self.assertEqual(self.server.rows(), stock(("1", "a")))
+
     def test_it_isnt_there_at_first(self) -> None:
         self.take(insert("1", "a"))
         self.take()
@@ -87,7 +123,7 @@ class Waited(Case):
         self.assertEqual((self.tries, len(told)), (6, 3), told)
         self.assertEqual(
             told[0],
-            f"warning: {REFUSED}: it is waited for, and tried again each 60 seconds at least",
+            f"warning: {REFUSED}: it is waited for, and tried again at least every 60 seconds",
         )
         self.assertRegex(told[1], "is written from 0/0 on")
         self.assertEqual(self.server.rows(), stock(("1", "a")))

@@ -6,8 +6,11 @@ import tempfile
 import unittest
 
 from pgsub_connect.drift.remembered import Remembered
+from pgsub_connect.drift.tolerance import Tolerance
+from pgsub_connect.server.subscription import Subscription
 from pgsub_connect.status.progress import Progress
 from pgsub_connect.store.checkpoint import Checkpoint
+from pgsub_connect.stream.common import Common
 from pgsub_connect.stream.skip import Skipping
 
 from . import vectors
@@ -38,7 +41,8 @@ class Case(unittest.TestCase):
         self.remembered.begin_copy(a_catalog(a_table(1, "t"), a_table(2, "u")), 100)
 
     def skipping(self, lsn: int = LSN, at: int = 0x1_0000_0000) -> Skipping:
-        skipping = Skipping(lsn, self.checkpoint, self.progress, self.remembered)
+        known = self.checkpoint, self.progress, self.remembered
+        skipping = Skipping(lsn, Common(Subscription(), Tolerance(), *known))
         skipping.begin_session(at)
         return skipping
 

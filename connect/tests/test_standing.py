@@ -181,9 +181,8 @@ class Lasts(Case):
         follower = self.follower()
         follower.life.start()
         it = Standing(follower.life.filter, follower.progress)
+        stop(follower.life.filter.pid())
         it.found, it.is_left = it.look(), True
-        os.kill(follower.life.filter.pid(), signal.SIGSTOP)
-        it.found = it.look()
         self.assertTrue(it.lasts())
         follower.life.filter.kill()
         self.assertFalse(it.lasts())

@@ -205,7 +205,7 @@ class Sinks(FeedCase, Case):
     def test_redis_that_doesnt_answer(self) -> None:
         server = self.hanging(b"", {})
         status, _ = self.ends(
-            self.sink(f"redis://127.0.0.1:{server.port}"), lambda: b"pgsub:lsn" in server.heard
+            self.sink(f"redis://127.0.0.1:{server.port}"), lambda: b"INFO" in server.heard
         )
         self.assertEqual(status, 0)
 

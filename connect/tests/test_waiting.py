@@ -7,6 +7,7 @@ import os
 import select
 import subprocess
 import sys
+import threading
 import time
 import unittest
 from collections.abc import Iterator
@@ -14,11 +15,13 @@ from pathlib import Path
 from unittest import mock
 
 from pgsub_connect.cli import main
+from pgsub_connect.commands import wait
 from pgsub_connect.follow.request_socket import RequestSocket
 from pgsub_connect.follow.tables_process import Beside, TablesSettings
 from pgsub_connect.follow.waits import Waits
 from pgsub_connect.status.progress import Progress
 from pgsub_connect.store.asking import Asking
+from pgsub_connect.store.checkpoint import Checkpoint
 from pgsub_connect.stream.statuses import Reached
 from pgsub_feed.errors import Stopped
 from pgsub_feed.interruption import never
@@ -394,6 +397,46 @@ class Waited(FeedCase):
         RequestSocket(self.store).close()
         self.assertEqual(self.wait("0/200", "--within", "0.1"), 7)
         self.assertEqual(self.wait("0/100"), 0)
+
+    def test_a_file_that_is_to_come(self) -> None:
+        os.rename(self.into, self.into + ".later")
+        with mock.patch.object(wait, "STARTING", 0.0):
+            self.assertEqual((self.wait("0/100"), "there is no file" in self.told[-1]), (3, True))
+        checkpoint = Checkpoint(self.store)
+        checkpoint.note_tables(self.into)
+        os.close(checkpoint.file)
+        self.assertEqual(self.wait("0/100", "--within", "0.1"), 7)
+        self.assertIn(f"{self.into} isn't there yet: `pgsub-connect status`", self.told[-1])
+        threading.Timer(0.2, os.rename, (self.into + ".later", self.into)).start()
+        self.assertEqual(self.wait("0/100"), 0)
+
+    def test_a_follower_that_begins(self) -> None:
+        """It may be started at the same time, hasn't noted its tables yet, and may have its store
+        elsewhere; where it keeps others, the file isn't to come."""
+        os.rename(self.into, self.into + ".later")
+        os.unlink(self.store + ".connector")
+        made = list[Checkpoint]()
+        steps = (
+            lambda: made.append(Checkpoint(self.store)),
+            lambda: made[0].note_tables(self.into),
+            lambda: os.rename(self.into + ".later", self.into),
+        )
+        for at, step in enumerate(steps, 1):
+            threading.Timer(0.4 * at, step).start()
+        with mock.patch.object(wait, "STARTING", 0.6):
+            self.assertEqual(self.wait("0/100"), 0, self.told)
+            os.rename(self.into, self.into + ".later")
+            made[0].note_tables(self.into + ".other")
+            self.assertEqual(self.wait("0/100"), 3, self.told)
+            self.assertIn("no follower of a store in its folder makes it", self.told[-1])
+            (self.folder / "elsewhere").mkdir()
+            other = str(self.folder / "elsewhere" / "rows.db")
+            made[0].note_tables(other)
+            words = ("--feed", self.store + ".feed", "--within", "0.9")
+            with logged() as self.told:
+                self.assertEqual(main(["wait", "0/100", "--tables", other, *words]), 7)
+            self.assertIn("isn't there yet", self.told[-1])
+        os.close(made[0].file)
 
     def test_what_it_imports(self) -> None:
         """Who waits after each commit pays for its start: without psycopg, and without what gives

@@ -167,6 +167,9 @@ class Words(Quiet):
             ("status --zzz", "unrecognized arguments: --zzz\n"),
             ("help folow", "no command folow: did you mean follow?"),
             ("", "a command is needed: follow, status, "),
+            ("show first.pgx", "show is a command of `pgsub`: pgsub show\n"),
+            ("dump --store s", "dump is a command of `pgsub`: pgsub dump. While a follower has"),
+            ("help dump", "`pgsub-connect export` copies the rows, `snapshot` the store\n"),
         ):
             self.assertIn(told, self.rejected(words), words)
 
@@ -195,6 +198,18 @@ class Words(Quiet):
     def test_each_help_tells_the_exit_status(self) -> None:
         for name in cli.COMMANDS:
             self.assertRegex(cli.parser_of(name).format_help(), r"(?i)\bexit status\b", name)
+
+    def test_a_help_is_as_wide_as_the_terminal(self) -> None:
+        """Up to 100 columns. Examples stay as they are, and each exit status has a line."""
+        for columns, most in (("90", 90), ("300", 100)):
+            with mock.patch.dict(os.environ, COLUMNS=columns):
+                for name in cli.COMMANDS:
+                    _, *lines = self.helped(name, "--help").splitlines()
+                    wide = [it for it in lines if len(it) > most and not it.startswith("  pgsub")]
+                    self.assertEqual(wide, [], name)
+                ends = self.helped("follow", "--help").partition("\nexit status:\n")[2]
+        self.assertEqual(re.findall(r"^  (\d)  \S", ends, re.M), [*"012345679"])
+        self.assertNotRegex(ends, r"[^ ];|^\d")
 
     def test_limits_in_the_help(self) -> None:
         help_text = " ".join(cli.parser_of("follow").format_help().split())
@@ -257,7 +272,9 @@ class Words(Quiet):
         self.assertEqual(self.said, [])
 
     def test_limits(self) -> None:
-        with mock.patch("pgsub_connect.commands.arguments.sizes.default_buffered", lambda: 1 << 28):
+        with mock.patch(
+            "pgsub_connect.commands.arguments.program.default_buffered", lambda: 1 << 28
+        ):
             self.assertEqual(
                 (self.settled().max_buffered, self.settled().max_frame), (1 << 28, 1 << 28)
             )

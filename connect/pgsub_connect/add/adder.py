@@ -30,18 +30,14 @@ from pgsub_feed.texts import counted, lsn_text
 from ..copy.table_reader import GONE
 from ..copy.tries import PASSING
 from ..drift.findings import PUBLICATION, About
-from ..drift.remembered import Remembered
 from ..errors import NoSlot, Renewed, ServerError, Unconnected
-from ..server.subscription import Subscription
-from ..status.progress import Progress
-from ..store.checkpoint import Checkpoint
+from ..stream.common import Common
 from ..stream.hold import Hold
 from ..stream.memory_limit import BufferLimits
 from ..stream.statuses import Confirming
-from ..stream.stream_log import Noting
 from .addable import Publications, Stream, TooLarge
 from .left_out import LeftOut
-from .requests import Requests, Sources
+from .requests import Requests
 from .turn import SLOT, RowsSender, Turn
 
 IDLE, HELD, MAKING, GOING, SENT = "idle", "held", "making", "going", "sent"
@@ -84,12 +80,9 @@ class Retries:
     def is_over(self, oid: int, error: Exception) -> bool:
         """Notes what ended an attempt. Returns whether there is to be no other."""
         # (whom the server has let in before it may let in again)
-        if (
-            not isinstance(error, ServerError)
-            or isinstance(error, Unconnected)
-            or not error.sqlstate
-            or error.sqlstate.startswith((*PASSING, *GONE))
-        ):
+        if not isinstance(error, ServerError) or isinstance(error, Unconnected):
+            return False
+        if not error.sqlstate or error.sqlstate.startswith((*PASSING, *GONE)):
             return False
         self.counts[oid, error.sqlstate] += 1
         return error.is_lasting() or self.counts[oid, error.sqlstate] >= ATTEMPTS
@@ -100,25 +93,20 @@ class Adder:
 
     def __init__(
         self,
-        subscription: Subscription,
+        common: Common,
         store: str,
         limits: BufferLimits,
-        checkpoint: Checkpoint,
-        progress: Progress,
-        remembered: Remembered,
         watch: Publications,
-        noting: Noting,
         confirming: Confirming,
         hold: Hold,
         stream: Stream,
     ) -> None:
-        self.sources, self.stream = Sources(subscription, store, checkpoint), stream
-        self.checkpoint, self.progress, self.remembered = checkpoint, progress, remembered
-        self.watch, self.confirming, self.hold = watch, confirming, hold
-        self.left_out = LeftOut(checkpoint, remembered)
+        subscription, _, self.checkpoint, self.progress, self.remembered = common
+        self.watch, self.confirming, self.hold, self.stream = watch, confirming, hold, stream
+        self.left_out = LeftOut(self.checkpoint, self.remembered)
         self.leaving = self.left_out.leaving
-        self.requests = Requests(self.sources, limits, progress, remembered, stream)
-        self.sender = RowsSender(limits, progress, noting, stream, self.show)
+        self.requests = Requests(common, store, limits, stream)
+        self.sender = RowsSender(limits, self.progress, confirming.noting, stream, self.show)
         self.phase, self.turn, self.retries = IDLE, Turn(), Retries()
         # whether the session ends once the rows of a table are stored
         self.ends_session = False
@@ -176,19 +164,12 @@ class Adder:
             self.finish(self.turn.oid, self.turn.point)
             self.phase = IDLE
             self.retries.succeed()
-        elif (
-            self.phase == IDLE
-            and self.leaving.points
-            and not self.hold.is_held
-            and self.retries.is_time()
-        ):
-            self.prepare()
-        elif (
-            self.phase == HELD
-            and self.confirming.is_stored()
-            or self.phase == MAKING
-            and self.turn.is_made()
-        ):
+        elif self.phase == IDLE and self.leaving.points and not self.hold.is_held:
+            if self.retries.is_time():
+                self.prepare()
+        elif self.phase == HELD and self.confirming.is_stored():
+            self.meet()
+        elif self.phase == MAKING and self.turn.is_made():
             self.meet()
         elif self.phase == GOING and self.hold.is_there:
             self.send()
@@ -201,7 +182,7 @@ class Adder:
             return
         self.turn = turn = Turn(oid)
         try:
-            standbys = turn.open(self.sources.open(self.stream.attend))
+            standbys = turn.open(self.requests.open(self.stream.attend))
             turn.read(self.progress.server.note_standbys(standbys))
         except (ServerError, Passing, Unfit) as error:
             self.fail(error)
@@ -337,14 +318,11 @@ class Adder:
 
     def show(self, how: str = "") -> None:
         """Tells the progress which tables are being added."""
-        oids = dict.fromkeys((*self.checkpoint.adding(), *self.remembered.wanted))
-        self.progress.findings.note_adding(
-            {
-                self.remembered.text_of(oid): self.remembered.wanted.get(oid)
-                or (how if how and oid == self.turn.oid else "waits")
-                for oid in oids
-            }
-        )
+        texts, text_of = dict[str, str](), self.remembered.text_of
+        for oid in dict.fromkeys((*self.checkpoint.adding(), *self.remembered.wanted)):
+            waits = how if how and oid == self.turn.oid else "waits"
+            texts[text_of(oid)] = self.remembered.wanted.get(oid) or waits
+        self.progress.findings.note_adding(texts)
 
 
 def reason(error: Exception) -> str:

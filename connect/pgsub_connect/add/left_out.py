@@ -30,9 +30,8 @@ class LeftOut:
         for oid, why in wanted.items():
             if why or oid in adding or oid in self.remembered.partial:
                 continue
-            if sum(not wanted.get(it) for it in adding) < MOST and self.checkpoint.has_room_for(
-                oid
-            ):
+            is_full = sum(not wanted.get(it) for it in adding) >= MOST
+            if not is_full and self.checkpoint.has_room_for(oid):
                 adding[oid] = 0
                 self.checkpoint.write_adding(adding)
 
@@ -70,6 +69,5 @@ class LeftOut:
 
     def forget(self, oid: int) -> None:
         """The checkpoint has a table no longer."""
-        self.checkpoint.write_adding(
-            {it: lsn for it, lsn in self.checkpoint.adding().items() if it != oid}
-        )
+        adding = self.checkpoint.adding()
+        self.checkpoint.write_adding({it: lsn for it, lsn in adding.items() if it != oid})

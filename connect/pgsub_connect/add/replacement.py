@@ -166,11 +166,8 @@ class Leaving:
         left = [it for it in oids if not self.leaves_out(it)]
         if len(left) == len(oids):
             return payload
-        return (
-            payload[:26] + struct.pack(">I", len(left)) + payload[30:31] + b"".join(left)
-            if left
-            else b""
-        )
+        head = payload[:26] + struct.pack(">I", len(left)) + payload[30:31]
+        return head + b"".join(left) if left else b""
 
 
 class Rows:
@@ -199,10 +196,8 @@ class Rows:
         self.count += len(lines)
         self.cost += len(frames) - (AROUND - BUFFERED) * len(lines)
         # (a cell's head has five bytes, of which a separator is in the line)
-        self.longest = max(
-            self.longest,
-            len(max(lines, key=len)) + 4 * self.heads.width + len(self.heads.insert) + AROUND - 5,
-        )
+        heads = 4 * self.heads.width + len(self.heads.insert) + AROUND - 5
+        self.longest = max(self.longest, len(max(lines, key=len)) + heads)
         return frames
 
     def closing(self) -> bytes:

@@ -7,12 +7,9 @@ from pgsub_feed.errors import Passing, Stopped, Unfit
 from pgsub_feed.interruption import Check
 
 from ..copy.source import Source
-from ..drift.remembered import Remembered
 from ..errors import ServerError
 from ..server.publications import sizes_of
-from ..server.subscription import Subscription
-from ..status.progress import Progress
-from ..store.checkpoint import Checkpoint
+from ..stream.common import Common
 from ..stream.memory_limit import BufferLimits
 from .addable import Stream, too_large, too_long
 
@@ -20,39 +17,23 @@ from .addable import Stream, too_large, too_long
 FAR = 2
 
 
-class Sources:
-    """Connects to the server of a store."""
-
-    def __init__(self, subscription: Subscription, store: str, checkpoint: Checkpoint) -> None:
-        self.subscription, self.store, self.checkpoint = subscription, store, checkpoint
-
-    def open(self, check: Check) -> Source:
-        """`check` is called as long as the server is waited for."""
-        return Source(self.subscription, self.store, self.checkpoint.known, check, "add")
-
-
 class Requests:
     """Notes what is asked for, unless something is known to be in the way."""
 
-    def __init__(
-        self,
-        sources: Sources,
-        limits: BufferLimits,
-        progress: Progress,
-        remembered: Remembered,
-        stream: Stream,
-    ) -> None:
-        self.sources, self.limits = sources, limits
-        self.progress, self.remembered, self.stream = progress, remembered, stream
+    def __init__(self, common: Common, store: str, limits: BufferLimits, stream: Stream) -> None:
+        self.subscription, _, self.checkpoint, self.progress, self.remembered = common
+        self.store, self.limits, self.stream = store, limits, stream
+
+    def open(self, check: Check) -> Source:
+        """Connects to the server. `check` is called as long as that is waited for."""
+        return Source(self.subscription, self.store, self.checkpoint.known, check, "add")
 
     def take(self, asked: dict[str, Any]) -> str | None:
         """Takes a request for tables, by their OIDs. Returns why it is rejected."""
         adds, removes = asked.get("add"), asked.get("remove", [])
-        if not all(
-            isinstance(oids, list) and all(isinstance(it, int) for it in oids)
-            for oids in (adds, removes)
-        ):
-            return "malformed"
+        for oids in (adds, removes):
+            if not (isinstance(oids, list) and all(isinstance(it, int) for it in oids)):
+                return "malformed"
         errors = self.rejections(adds or [], removes)
         if not errors:
             self.remembered.want(adds or [], removes)
@@ -62,7 +43,7 @@ class Requests:
         """Why tables can't be added, or their rows removed. Where the server can't be asked just
         now, that shows later."""
         try:
-            with contextlib.closing(self.sources.open(self.stream.serve_server)) as source:
+            with contextlib.closing(self.open(self.stream.serve_server)) as source:
                 errors = [text for oid in adds if (text := self.rejection(source, oid))]
                 published = {it.oid for it in source.tables}
         except ServerError as error:
@@ -71,18 +52,15 @@ class Requests:
             return [str(error)]
         except Stopped:
             return ["it is about to end"]
-        return errors + [
-            f"table {oid} is published, or isn't known"
-            for oid in removes
-            if oid in published or not self.remembered.described(oid)
-        ]
+        left = [it for it in removes if it in published or not self.remembered.described(it)]
+        return errors + [f"table {oid} is published, or isn't known" for oid in left]
 
     def rejection(self, source: Source, oid: int) -> str:
         """Why a table can't be added, "" where nothing is known to be in the way."""
         table = next((it for it in source.tables if it.oid == oid), None)
         if table is None:
             return f"table {oid} isn't published"
-        if not self.sources.checkpoint.has_room_for(oid):
+        if not self.checkpoint.has_room_for(oid):
             return f"{table.text()}: the checkpoint has no room for it"
         size = sizes_of(source.plain, [table]).get(oid, 0)
         most = self.limits.max_buffered

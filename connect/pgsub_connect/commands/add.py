@@ -32,10 +32,10 @@ from ..server.subscription import Subscription
 from ..store.at_rest import check_there, follower_of, is_followed
 from ..store.checkpoint_at_rest import locked, read_known
 from .arguments.exit_status import ADDED
-from .arguments.store import StoreOptions, settled_store
+from .arguments.server import StoreOptions, settled_store
 from .arguments.texts import each
 
-ABOUT = "copy tables anew beside what is followed: new ones of the publication, or any whose rows are wrong"
+ABOUT = "copy tables anew beside what is followed: new ones, or any whose rows are wrong"
 ENDS = ADDED
 
 DONE, REFUSED = 0, 1
@@ -84,8 +84,8 @@ def add_tables(options: Options, check: Check) -> int:
 
 def read_published(subscription: Subscription, check: Check) -> list[Table]:
     """The tables that the publications have now."""
-    connection = Connection(subscription.dsn, name=f"{subscription.slot} tables", check=check)
-    with contextlib.closing(connection):
+    name = f"{subscription.slot} tables"
+    with contextlib.closing(Connection(subscription.dsn, name=name, check=check)) as connection:
         settle(connection)
         return published_tables(connection, subscription.publications)
 
@@ -100,10 +100,8 @@ def add(
     """Has tables added, by their OIDs, and the rows of others removed, and waits for it; the exit
     status."""
     tables = {**adds, **removes}
-    parts = [f"adds {names_of(list(adds.values()))}"] if adds else []
-    names = " and ".join(
-        [*parts, *([f"removes the rows of {names_of(list(removes.values()))}"] if removes else [])]
-    )
+    parts = (("adds", adds), ("removes the rows of", removes))
+    names = " and ".join(f"{what} {names_of(list(it.values()))}" for what, it in parts if it)
     while True:
         if is_followed(store):
             if ask(store, check, add=list(adds), remove=list(removes)):

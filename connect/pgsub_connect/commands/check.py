@@ -16,7 +16,7 @@ from ..preconditions.result import ERROR, Purpose
 from ..server.preflight import all_facts
 from ..server.transport import OWN
 from .arguments.publishing import CopyOptions, add_copying, check_publishing
-from .arguments.store import StoreOptions, settled_store
+from .arguments.server import StoreOptions, settled_store
 from .arguments.texts import each
 
 ABOUT = "tell what following needs of the server, and change nothing"
@@ -38,16 +38,10 @@ class Options(StoreOptions, CopyOptions):
     json: bool = option("--json", "print a JSON array", False)
 
     def purpose(self) -> Purpose:
+        has_store, copies = bool(self.store and os.path.exists(self.store)), not self.no_copy
+        more = self.failover, self.keyless, self.all_tables
         # (where nothing is said of a start without a store, it is one with --create)
-        return Purpose(
-            self.slot,
-            has_store=bool(self.store and os.path.exists(self.store)),
-            makes=bool(self.create) or not self.no_copy,
-            copies=not self.no_copy,
-            failover=self.failover,
-            keyless=self.keyless,
-            all_tables=self.all_tables,
-        )
+        return Purpose(self.slot, has_store, bool(self.create) or copies, copies, *more)
 
 
 def add_options(parser: argparse.ArgumentParser) -> None:

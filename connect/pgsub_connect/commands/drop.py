@@ -23,20 +23,20 @@ from pgsub_feed.options import option
 from pgsub_feed.program import check_signals
 from pgsub_feed.tables.position import read_position
 from pgsub_feed.tables.sqlite_files import is_tables
-from pgsub_feed.texts import identifier, literal
+from pgsub_feed.texts import literal
 
 from ..drift.remembered_lines import read_lines
 from ..errors import understood
 from ..follow.retention import remove_feed
 from ..server.connection import Connection
-from ..server.publication_content import oid_of, other_slots
+from ..server.publication_content import drop_publication, oid_of, other_slots
 from ..server.publication_setup import inserts_of
-from ..server.session import Server, database_oid, is_same_database, settle
+from ..server.session import Server, database_oid, is_same_database, other_slot, settle
 from ..server.ticks import TICK
 from ..status.files import STATUS
 from ..store.checkpoint_at_rest import locked, read_known
 from ..store.placing import OF_COPY, OF_STORE
-from .arguments.store import StoreOptions, settled_store
+from .arguments.server import StoreOptions, settled_store
 
 ABOUT = "drop slot, publications and files"
 ENDS = """\
@@ -86,26 +86,17 @@ def files_beside(path: str, suffixes: Iterable[str]) -> list[str]:
     patterns = [own_files(path + it) for it in suffixes]
     with contextlib.suppress(FileNotFoundError):
         there = sorted(os.listdir(folder or "."))
-    return [
-        os.path.join(folder, name) for name in there if any(it.fullmatch(name) for it in patterns)
-    ]
+    own = (name for name in there if any(it.fullmatch(name) for it in patterns))
+    return [os.path.join(folder, name) for name in own]
 
 
 def files_of(store: str) -> list[str]:
     """The files of a store that are there, the checkpoint last."""
     # (the program has its own ones beside what a link leads to)
-    linked = (
-        [meant(store) + it for it in (*OF_COPY, *OF_FILE[1:], "")] if os.path.islink(store) else []
-    )
-    return [
-        path
-        for path in (
-            *files_beside(store, ASKED),
-            *linked,
-            *(store + it for it in (STATUS, *OF_STORE)),
-        )
-        if os.path.lexists(path)
-    ]
+    linked = (*OF_COPY, *OF_FILE[1:], "") if os.path.islink(store) else ()
+    files = [*files_beside(store, ASKED), *(meant(store) + it for it in linked)]
+    files += [store + it for it in (STATUS, *OF_STORE)]
+    return [it for it in files if os.path.lexists(it)]
 
 
 Ask = Callable[[str], bool]
@@ -114,9 +105,8 @@ Ask = Callable[[str], bool]
 def ask_terminal(question: str, check: Check = never, command: str = "drop") -> bool:
     """Asks on the terminal. Nobody there is a no. What `check` raises meanwhile ends it."""
     if not sys.stdin.isatty():
-        raise Unfit(
-            f"{command} asks on the terminal, and there is none: say --yes to {command} without asking"
-        )
+        text = f"{command} asks on the terminal, and there is none"
+        raise Unfit(f"{text}: say --yes to {command} without asking")
     sys.stderr.write(f"{log.escaped(question)} [y/N] ")
     sys.stderr.flush()
     while not select.select([sys.stdin], [], [], TICK)[0]:
@@ -146,14 +136,12 @@ class Dropper:
         """Slot first, since the server's disk fills because of it; files last, since they say what
         else there is."""
         with locked(self.store + ".connector"):
-            connection = Connection(self.options.dsn, name=f"{self.slot} drop", check=self.check)
-            try:
+            dsn, name = self.options.dsn, f"{self.slot} drop"
+            with contextlib.closing(Connection(dsn, name=name, check=self.check)) as connection:
                 settle(connection)
                 self.check_server(connection)
                 done = self.drop_slot(connection)
                 self.drop_publications(connection)
-            finally:
-                connection.close()
             if done:
                 self.drop_files()
 
@@ -166,12 +154,9 @@ class Dropper:
         system, database = connection.rows(
             "SELECT s.system_identifier, pg_catalog.current_database() FROM pg_catalog.pg_control_system() s"
         )[0]
-        server = Server(
-            system or "", 0, 0, database or "", False, database_oid=database_oid(connection)
-        )
-        if system != known.system or not is_same_database(
-            known.database, noted_database(self.remembered), server
-        ):
+        oid, noted = database_oid(connection), noted_database(self.remembered)
+        server = Server(system or "", 0, 0, database or "", False, database_oid=oid)
+        if system != known.system or not is_same_database(known.database, noted, server):
             raise Unfit(
                 f"the store follows the database {known.database} of the server {known.system}, and this is {database} of {system}"
             )
@@ -192,15 +177,12 @@ class Dropper:
             self.check()
             time.sleep(0.2)
             rows = connection.rows(query)
+        slot, version = f"the slot {self.slot}", connection.parameter("server_version")
         if rows and rows[0][0] == "t":
-            raise Passing(
-                f"the slot {self.slot} is active: end the connector that follows it first"
-            )
+            raise Passing(f"{slot} is active: end the connector that follows it first")
         if rows and rows[0][1] != "t":
-            raise Unfit(f"the slot {self.slot} is not one of pgoutput in this database")
-        if not self.ask(
-            f"drop the slot {self.slot} of {connection.parameter('server_version')}, with all that it hasn't sent?"
-        ):
+            raise other_slot(connection, self.slot)
+        if not self.ask(f"drop {slot} of {version}, with all that it hasn't sent?"):
             log.info("the slot stays, and so do the files")
             return False
         connection.rows(f"SELECT pg_catalog.pg_drop_replication_slot({literal(self.slot)})")
@@ -214,32 +196,22 @@ class Dropper:
         followed = [str(it) for it in known] if isinstance(known, list) else []
         names = list(dict.fromkeys([*made, *self.options.publication, *followed]))
         names += [inserts_of(name) for name in list(names) if inserts_of(name) not in names]
-        found = []
-        for name in names:
-            oid = oid_of(connection, name)
-            if oid:
-                found.append((name, made.get(name) == oid))
-        return found
+        oids = {name: oid_of(connection, name) for name in names}
+        return [(name, made.get(name) == oid) for name, oid in oids.items() if oid]
 
     def drop_publications(self, connection: Connection) -> None:
         """Asks for each publication. Those that it isn't known to have made are dropped by a word
         on the terminal alone."""
         others = other_slots(connection, self.slot)
+        more = f"; other slots may use it: {', '.join(others)}" if others else ""
         for name, is_ours in self.candidates(connection):
-            more = f"; other slots may use it: {', '.join(others)}" if others else ""
-            if not is_ours and self.options.yes:
-                log.info(
-                    f"the publication {name} stays: it isn't known to be made by this connector{more}"
-                )
-            elif others and self.options.yes:
-                log.info(f"the publication {name} stays{more}")
-            elif self.ask(
-                f"drop the publication {name}{'' if is_ours else ', which somebody else may have made'}{more}?"
-            ):
-                connection.run(
-                    f"BEGIN READ WRITE; SET LOCAL synchronous_commit = local; DROP PUBLICATION {identifier(name)}; COMMIT"
-                )
-                log.info(f"dropped the publication {name}")
+            it, whose = f"the publication {name}", ", which somebody else may have made"
+            if self.options.yes and not is_ours:
+                log.info(f"{it} stays: it isn't known to be made by this connector{more}")
+            elif self.options.yes and others:
+                log.info(f"{it} stays{more}")
+            elif self.ask(f"drop {it}{'' if is_ours else whose}{more}?"):
+                drop_publication(connection, name)
 
     def drop_files(self) -> None:
         read = self.files_read()

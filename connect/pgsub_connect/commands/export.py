@@ -9,9 +9,8 @@ from pgsub_feed.tables.values import ALL_TEXT
 
 from ..store.export import ExportSettings, export_store
 from .arguments.exit_status import COPIED
-from .arguments.following import INDEXES
-from .arguments.numerics import numeric_option
-from .arguments.store_copy import StoreCopyOptions, settled_store_copy
+from .arguments.files import StoreCopyOptions, settled_store_copy
+from .arguments.following import INDEXES, numeric_option
 from .arguments.texts import check_texts, each
 
 ABOUT = "make ordinary tables of SQLite from the rows of a store, or of a copy of one"

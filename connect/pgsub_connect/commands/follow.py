@@ -4,6 +4,7 @@
 from __future__ import annotations
 
 import argparse
+import contextlib
 import dataclasses
 import os
 import signal
@@ -17,8 +18,7 @@ from ..copy.copier import Copier, CopySettings
 from ..copy.slots import create_slot
 from ..drift.remembered import Remembered
 from ..drift.tolerance import Tolerance
-from ..errors import MISSED
-from ..follow.common import Common
+from ..errors import MISSED, LostSlot
 from ..follow.feed import Feeding
 from ..follow.follower import Follower
 from ..follow.refused import leaving_nothing, own_files
@@ -29,31 +29,27 @@ from ..follow.snapshots import Snapshots
 from ..record.recording import Aside, Recording
 from ..server import transport
 from ..server.followed_publications import require_published
-from ..server.subscription import Subscription
 from ..status.files import STATUS, Reporter, ReportSettings
 from ..status.notify import notifier_of
 from ..status.progress import Progress
 from ..store.checkpoint import Checkpoint
-from ..store.checkpoint_lines import FOLLOWING
+from ..store.checkpoint_lines import FOLLOWING, INTERRUPTED
 from ..store.placing import check_meant
 from ..store.snapshot import part_of
+from ..stream.common import Common
 from ..stream.filter import Filter
 from .arguments import exit_status
-from .arguments.altering import AlterOptions
 from .arguments.feed import FeedOptions, settled_feed
 from .arguments.files import check_files
-from .arguments.needs import check_needs
-from .arguments.numerics import check_numeric
+from .arguments.following import check_numeric
+from .arguments.program import SizeOptions, settled_sizes
 from .arguments.publishing import CopyOptions, add_copying, check_creates, check_publishing
-from .arguments.recording import longest
 from .arguments.server import ServerOptions, settled_server
-from .arguments.session import SessionOptions, add_session
-from .arguments.sizes import SizeOptions, settled_sizes
-from .arguments.texts import each
-from .arguments.watching import WatchOptions
+from .arguments.session import AlterOptions, SessionOptions, WatchOptions, add_session, longest
+from .arguments.texts import check_needs, each
 from .snapshot import check_copied
 
-ABOUT = "follow into a store"
+ABOUT = "copy tables into a store, and follow their changes"
 ENDS = exit_status.ENDS
 
 
@@ -74,32 +70,17 @@ class Options(
     bytes: int = longest()
 
     def follow_settings(self) -> FollowSettings:
-        return FollowSettings(
-            self.store,
-            self.proto,
-            self.heartbeat,
-            self.silence,
-            self.skip,
-            self.until,
-            self.no_copy,
-            self.limits(),
-            self.renewed(),
-        )
+        more = self.skip, self.until, self.no_copy, self.limits(), self.renewed()
+        return FollowSettings(self.store, self.proto, self.heartbeat, self.silence, *more)
 
     def copy_settings(self) -> CopySettings:
         wanted = self.wanted(self.publication)
         return CopySettings(self.store, wanted, self.limits(), self.failover, self.jobs, self.mode)
 
     def report_settings(self) -> ReportSettings:
-        return ReportSettings(
-            self.store,
-            self.slot,
-            self.pgsub,
-            self.status_file or self.store + STATUS,
-            self.metrics_file,
-            self.mode,
-            bool(self.status_file or self.metrics_file),
-        )
+        is_asked_for = bool(self.status_file or self.metrics_file)
+        files = self.status_file or self.store + STATUS, self.metrics_file
+        return ReportSettings(self.store, self.slot, self.pgsub, *files, self.mode, is_asked_for)
 
 
 def add_options(parser: argparse.ArgumentParser) -> None:
@@ -121,14 +102,8 @@ def add_options(parser: argparse.ArgumentParser) -> None:
 def check_options(parser: argparse.ArgumentParser, options: Options) -> Options:
     """Rejects options that don't go together."""
     check_creates(parser, options)
-    check_needs(
-        parser,
-        options,
-        ("snapshot", "store"),
-        ("snapshot_every", "snapshot"),
-        ("skip", "store"),
-        ("strict", "store"),
-    )
+    of_store = ((it, "store") for it in ("snapshot", "skip", "strict"))
+    check_needs(parser, options, *of_store, ("snapshot_every", "snapshot"))
     if options.tables and options.without_tables:
         parser.error("--tables and --without-tables exclude each other")
     check_numeric(parser, options.numeric, options.digests)
@@ -141,26 +116,20 @@ def check_options(parser: argparse.ArgumentParser, options: Options) -> Options:
 def settled(options: Options) -> Options:
     """The options with what they leave out."""
     options = settled_feed(options, options.store)
-    check_files(
-        options.store,
-        {
-            "--snapshot": options.snapshot,
-            "--status-file": options.status_file or options.store + STATUS,
-            "--metrics-file": options.metrics_file,
-            "--record": options.record,
-            "--tables": options.tables,
-            "--feed": options.feed,
-        },
-        {"--dsn-file": options.dsn_file, "--init": options.init},
-    )
+    written = {
+        "--snapshot": options.snapshot,
+        "--status-file": options.status_file or options.store + STATUS,
+        "--metrics-file": options.metrics_file,
+        "--record": options.record,
+        "--tables": options.tables,
+        "--feed": options.feed,
+    }
+    read = {"--dsn-file": options.dsn_file, "--init": options.init}
+    check_files(options.store, written, read)
     # (the program is told the whole path of a feed)
     feed = os.path.abspath(options.feed) if options.feed else ""
-    told = [
-        *each("--table", options.table),
-        ("--store", options.store),
-        ("--pgsub", options.pgsub),
-        ("--feed", feed),
-    ]
+    told = [("--store", options.store), ("--pgsub", options.pgsub), ("--feed", feed)]
+    told = [*each("--table", options.table), *told]
     if not os.path.exists(options.store):
         told.append(("--store", part_of(options.store)))
     return settled_sizes(settled_server(options, options.store, options.keyless, told))
@@ -193,14 +162,17 @@ def follow_locked(options: Options, checkpoint: Checkpoint, start: Worker) -> in
             worker.ask_to_stop()
     for it in parts.threads:
         it.start()
+    progress = parts.common.progress
     try:
-        follow_with(options, parts)
-        parts.progress.enter("stopped")
-    except Stopped:
-        parts.progress.enter("stopped")
+        with contextlib.suppress(Stopped):
+            follow_with(options, parts)
+        parts.feeding.check_read()
+        progress.enter("stopped")
     except Exception as error:
-        parts.progress.note_error(str(error))
-        parts.progress.enter("failed")
+        progress.note_error(str(error))
+        if isinstance(error, LostSlot):
+            progress.slot.note("lost", None)
+        progress.enter("failed")
         raise
     finally:
         parts.finish()
@@ -228,11 +200,7 @@ class Parts:
     """What takes part in following. `threads`: what asks the server how far it is, and what shows
     that."""
 
-    subscription: Subscription
-    tolerance: Tolerance
-    checkpoint: Checkpoint
-    remembered: Remembered
-    progress: Progress
+    common: Common
     feeding: Feeding
     recording: Aside | None
     child: Filter
@@ -257,41 +225,18 @@ def made(options: Options, checkpoint: Checkpoint) -> Parts:
     store, mode = options.store, options.mode
     subscription, tolerance = options.subscription(), Tolerance(options.accept, options.strict)
     progress, remembered = Progress(notifier_of(os.environ)), Remembered(store, mode)
-    settings = options.feed_settings(store, mode)
-    feeding = Feeding(settings, Common(subscription, tolerance, checkpoint, progress, remembered))
+    common = Common(subscription, tolerance, checkpoint, progress, remembered)
+    feeding = Feeding(options.feed_settings(store, mode), common)
     feeding.check()
     part, child = (make_filter(options, checkpoint, it) for it in (part_of(store), store))
     told = subscription, checkpoint, part, progress, remembered
-    copier = Copier(options.copy_settings(), *told, feeding.first_rows)
+    copier = Copier(options.copy_settings(), *told, feeding.rows_beside())
     recording, requests = recording_of(options), RequestSocket(store, mode)
     snapshots = Snapshots(store, requests, options.snapshot, options.snapshot_every, mode)
-    follower = Follower(
-        options.follow_settings(),
-        subscription,
-        tolerance,
-        checkpoint,
-        child,
-        progress,
-        recording,
-        snapshots,
-        remembered,
-        feeding,
-    )
-    return Parts(
-        subscription,
-        tolerance,
-        checkpoint,
-        remembered,
-        progress,
-        feeding,
-        recording,
-        child,
-        requests,
-        snapshots,
-        copier,
-        follower,
-        threads_of(options, subscription, progress),
-    )
+    settings, report = options.follow_settings(), options.report_settings()
+    follower = Follower(settings, common, child, recording, snapshots, feeding)
+    threads = Asker(subscription, report.is_asked_for, progress), Reporter(report, progress)
+    return Parts(common, feeding, recording, child, requests, snapshots, copier, follower, threads)
 
 
 def checkpoint_of(options: Options, check: Check) -> Checkpoint:
@@ -307,13 +252,6 @@ def recording_of(options: Options) -> Aside | None:
     return Aside(Recording(options.record, True, options.bytes, options.mode))
 
 
-def threads_of(
-    options: Options, subscription: Subscription, progress: Progress
-) -> tuple[Asker | Reporter, ...]:
-    settings = options.report_settings()
-    return Asker(subscription, settings.is_asked_for, progress), Reporter(settings, progress)
-
-
 def make_filter(options: Options, checkpoint: Checkpoint, path: str) -> Filter:
     words = [options.pgsub, "follow", "--store", path]
     words += ["--max-buffered", str(options.max_buffered), "--max-frame", str(options.max_frame)]
@@ -326,10 +264,10 @@ def follow_with(options: Options, parts: Parts) -> None:
     follower = parts.follower
     if not os.path.exists(options.store):
         begin(options, parts)
-        follower.begin_after(parts.copier.was_connected)
+        follower.start.note_connected(parts.copier.was_connected)
     elif options.table or options.all_tables:
         wanted = options.wanted(options.publication)
-        require_published(parts.subscription, wanted, follower.ending.check_stop)
+        require_published(parts.common.subscription, wanted, follower.ending.check_stop)
     stored, wake = follower.confirming.stored, parts.requests.wake
     parts.feeding.begin(parts.child, stored, follower.ending.check_stop, wake)
     follower.run()
@@ -337,22 +275,18 @@ def follow_with(options: Options, parts: Parts) -> None:
 
 def begin(options: Options, parts: Parts) -> None:
     """What a start does where there is no store."""
-    known = parts.checkpoint.known
-    if options.create and not options.no_copy:
+    subscription, tolerance, checkpoint, _, remembered = parts.common
+    is_interrupted = checkpoint.known.phase in INTERRUPTED
+    if (options.create or is_interrupted) and not options.no_copy:
         return parts.copier.run()
-    if known.phase == FOLLOWING and not parts.tolerance.accepts("gap"):
+    if checkpoint.known.phase == FOLLOWING and not tolerance.accepts("gap"):
         raise Unfit(
-            f"{options.store} is gone, and the slot {known.slot} went on: remove {parts.checkpoint.path} to begin anew"
+            f"{options.store} is gone, and the slot {checkpoint.known.slot} went on: remove {checkpoint.path} to begin anew"
         )
     if not options.create and not options.no_copy:
         raise no_store(options)
     if options.create:
-        create_slot(
-            parts.subscription,
-            options.wanted(options.publication),
-            options.failover,
-            parts.follower.ending.check_stop,
-            parts.remembered,
-        )
+        wanted, check = options.wanted(options.publication), parts.follower.ending.check_stop
+        create_slot(subscription, wanted, options.failover, check, remembered)
     else:
-        parts.remembered.remove()
+        remembered.remove()

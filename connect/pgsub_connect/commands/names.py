@@ -6,7 +6,7 @@ from pgsub_feed.options import option
 
 from ..drift.remembered import print_names
 
-ABOUT = "tell which OID each name of a table has now, and which ones had it before"
+ABOUT = "tell which OID the name of each table has now, and which ones had it before"
 ENDS = """\
 exit status: 0 printed; 2 usage error; 3 a file can't be used; 6 a bug
 """

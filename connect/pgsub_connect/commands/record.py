@@ -12,14 +12,13 @@ from ..record.recorder import Recorder, RecordSettings
 from ..record.recording import Recording
 from .arguments import exit_status
 from .arguments.files import check_files
-from .arguments.needs import check_needs
 from .arguments.publishing import PublishingOptions, check_creates, check_publishing
-from .arguments.recording import longest
 from .arguments.server import ServerOptions, settled_server
-from .arguments.texts import each
+from .arguments.session import longest
+from .arguments.texts import check_needs, each
 from .arguments.types import any_seconds, lsn_or_now, within
 
-ABOUT = "only record"
+ABOUT = "record what a server sends, and confirm nothing"
 ENDS = exit_status.ENDS
 
 
@@ -69,17 +68,11 @@ class Options(ServerOptions, PublishingOptions):
     )
 
     def settings(self) -> RecordSettings:
-        return RecordSettings(
-            self.proto,
-            [it for it in ("streaming", "binary", "messages") if getattr(self, it)],
-            self.start,
-            self.until,
-            self.seconds,
-            self.transactions,
-            self.confirm,
-            self.heartbeat,
-            self.create == "temporary",
-        )
+        asks_for = [it for it in ("streaming", "binary", "messages") if getattr(self, it)]
+        ends = self.until, self.seconds, self.transactions, self.confirm
+        is_temporary = self.create == "temporary"
+        settings = RecordSettings(self.proto, asks_for, self.start, *ends)
+        return dataclasses.replace(settings, heartbeat=self.heartbeat, is_temporary=is_temporary)
 
 
 def add_options(parser: argparse.ArgumentParser) -> None:

@@ -14,6 +14,7 @@ changed since, and what was found and not accepted. Of the server only the catal
 
 import dataclasses
 import json
+from contextlib import closing
 from typing import NamedTuple
 
 from pgsub_feed import log
@@ -36,7 +37,7 @@ from ..store.at_rest import check_there
 from ..store.checkpoint_at_rest import read_known
 from . import add
 from .arguments.exit_status import ADDED
-from .arguments.store import StoreOptions, settled_store
+from .arguments.server import StoreOptions, settled_store
 from .drop import ask_terminal
 
 ABOUT = "tell which tables lack rows, were altered, or left the publication, and mend it"
@@ -56,11 +57,6 @@ class Options(StoreOptions):
     yes: bool = option("--yes", "mend it without asking", False)
 
 
-def run(options: Options) -> int:
-    """Compares, asks and has it done; the exit status."""
-    return refresh(settled_store(options), check_signals())
-
-
 class Told(NamedTuple):
     """What is wrong of a table, by its OID and name; 0 and "" of what is of no one table."""
 
@@ -71,9 +67,8 @@ class Told(NamedTuple):
 
     def line(self) -> str:
         named = {"table": self.table, "oid": self.oid} if self.oid else {}
-        return log.escaped(
-            json.dumps({"is": self.what, **named, "why": self.why}, ensure_ascii=False)
-        )
+        told: dict[str, object] = {"is": self.what, **named, "why": self.why}
+        return log.escaped(json.dumps(told, ensure_ascii=False))
 
 
 def compared(remembered: Remembered, now: Catalog) -> list[Told]:
@@ -96,17 +91,13 @@ def compared(remembered: Remembered, now: Catalog) -> list[Told]:
     told = []
     for oid in sorted(found.keys() & now.tables.keys()):
         is_missing = oid not in known or any(remembered.about(it).is_missing for it in found[oid])
-        told.append(
-            Told(MISSING if is_missing else CHANGED, oid, remembered.name_of(oid), found[oid])
-        )
+        what = MISSING if is_missing else CHANGED
+        told.append(Told(what, oid, remembered.name_of(oid), found[oid]))
     for text in others:
         about = remembered.about(text)
         is_left = bool(about.gone) and not remembered.left.isdisjoint(about.tables)
-        told.append(
-            Told(EXTRA, about.tables[0], about.gone, [text])
-            if is_left
-            else Told(OTHER, 0, "", [text])
-        )
+        of = (EXTRA, about.tables[0], about.gone) if is_left else (OTHER, 0, "")
+        told.append(Told(*of, [text]))
     return told
 
 
@@ -115,6 +106,11 @@ def texts_of(remembered: Remembered, kind: str) -> list[str]:
     if found is None:
         return []
     return [*found.texts, *([f"{kind}: and {found.more} more, see the log"] if found.more else [])]
+
+
+def run(options: Options) -> int:
+    """Compares, asks and has it done; the exit status."""
+    return refresh(settled_store(options), check_signals())
 
 
 def refresh(options: Options, check: Check) -> int:
@@ -135,25 +131,18 @@ def refresh(options: Options, check: Check) -> int:
     if not tables and not extra:
         log.info("there is nothing to do")
         return DONE
-    parts = (
-        [f"copy {counted(len(tables), 'table')} anew: {names_of(list(tables.values()))}"]
-        if tables
-        else []
-    )
-    parts += (
-        [f"remove the rows of {counted(len(extra), 'table')}: {names_of(list(extra.values()))}"]
-        if extra
-        else []
-    )
+    parts = [
+        text.format(counted(len(it), "table")) + names_of(list(it.values()))
+        for text, it in (("copy {} anew: ", tables), ("remove the rows of {}: ", extra))
+        if it
+    ]
     if not options.yes and not ask_terminal(f"{'; '.join(parts)}?", check, "refresh"):
         return LEFT
     return add.add(options.store, options.mode, tables, check, extra)
 
 
 def read_now(subscription: Subscription, check: Check, before: Catalog) -> Catalog:
-    connection = Connection(subscription.dsn, name=f"{subscription.slot} tables", check=check)
-    try:
+    name = f"{subscription.slot} tables"
+    with closing(Connection(subscription.dsn, name=name, check=check)) as connection:
         settle(connection)
         return resolved(connection, before, read_catalog(connection, subscription.publications))
-    finally:
-        connection.close()

@@ -1,5 +1,6 @@
 """`pgsub-connect snapshot`: a copy of a store in one file, which `pgsub dump` and `export` read."""
 
+import contextlib
 import dataclasses
 import os
 import sqlite3
@@ -16,7 +17,7 @@ from ..store.file import check_store, is_store
 from ..store.placing import check_into
 from ..store.snapshot import fold, position_in
 from .arguments.exit_status import COPIED
-from .arguments.store_copy import StoreCopyOptions, settled_store_copy
+from .arguments.files import StoreCopyOptions, settled_store_copy
 
 ABOUT = "copy a store into one file"
 ENDS = COPIED
@@ -29,11 +30,7 @@ class Options(StoreCopyOptions):
 
 def is_snapshot(path: str) -> bool:
     """Whether a file is a store that nobody follows into."""
-    return (
-        is_store(path)
-        and not os.path.exists(path + ".connector")
-        and not os.path.exists(path + LOG)
-    )
+    return is_store(path) and not any(os.path.exists(path + it) for it in (".connector", LOG))
 
 
 def check_copied(store: str, path: str, option: str = "--into") -> None:
@@ -42,8 +39,7 @@ def check_copied(store: str, path: str, option: str = "--into") -> None:
     check_into(store, path, is_snapshot, "an earlier copy of a store", option)
 
 
-def settled(options: Options) -> Options:
-    return settled_store_copy(options)
+settled = settled_store_copy
 
 
 def run(options: Options) -> int:
@@ -71,11 +67,8 @@ def copy_store(options: Options, check: Check) -> None:
 def put(path: str, new: str, is_own: bool, check: Check) -> None:
     """Moves a copy to its new name, or copies it where that lies on another disk."""
     if is_own:
-        try:
-            os.rename(path, new)
-            return
-        except OSError:
-            pass
+        with contextlib.suppress(OSError):
+            return os.rename(path, new)
     remove(new)
     copy(path, new, 0o600, check)
     try:

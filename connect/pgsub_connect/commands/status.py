@@ -53,11 +53,9 @@ def lag_limit(text: str) -> Limit:
             f"{text!r} is no time and no size, as 60s, 5min, 10MB or 1GB"
         )
     number, unit = float(found[1]), found[2]
-    return (
-        Limit(text, "lag_seconds", number * SECONDS[unit])
-        if unit in SECONDS
-        else Limit(text, "lag_bytes", number * BYTES[unit])
-    )
+    if unit in SECONDS:
+        return Limit(text, "lag_seconds", number * SECONDS[unit])
+    return Limit(text, "lag_bytes", number * BYTES[unit])
 
 
 @dataclasses.dataclass(frozen=True)
@@ -144,13 +142,9 @@ def look(path: str, options: Options, text: Text) -> tuple[int, list[str]]:
 
 def look_at_all(options: Options, text: Text) -> tuple[int, str]:
     """Looks at each of the followers."""
-    found = [(path, *look(path, options, text)) for path in files(options)]
-    several = len(found) > 1
-    lines = [
-        line
-        for path, _, told in found
-        for line in ([f"{log.escaped(path)}:"] if several else []) + told
-    ]
+    found, lines = [(path, *look(path, options, text)) for path in files(options)], list[str]()
+    for path, _, told in found:
+        lines += [f"{log.escaped(path)}:", *told] if len(found) > 1 else told
     return max(code for _, code, _ in found), "\n".join(lines)
 
 
@@ -190,12 +184,14 @@ def keys() -> Iterator[Callable[[float], bool]]:
         return
     before = termios.tcgetattr(sys.stdin)
     tty.setcbreak(sys.stdin)
+    # (Ctrl-C takes back the letters before it: whoever has seen one doesn't wait for it)
+    now = termios.tcgetattr(sys.stdin)
+    now[6][termios.VMIN] = 0
+    termios.tcsetattr(sys.stdin, termios.TCSANOW, now)
 
     def has_ended(seconds: float) -> bool:
-        file = sys.stdin.fileno()
-        return (
-            bool(select.select([file], [], [], seconds)[0]) and b"q" in os.read(file, 100).lower()
-        )
+        ready = select.select([sys.stdin], [], [], seconds)[0]
+        return bool(ready) and b"q" in os.read(sys.stdin.fileno(), 100).lower()
 
     try:
         yield has_ended

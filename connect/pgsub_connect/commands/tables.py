@@ -23,16 +23,23 @@ from pgsub_feed.texts import lsn_text
 from ..server.publication_setup import names_of
 from .arguments.exit_status import FED
 from .arguments.files import check_files, use_mode
-from .arguments.following import INDEXES, FollowingOptions, add_beginning, add_end, add_reader
-from .arguments.numerics import check_numeric, numeric_option
+from .arguments.following import (
+    INDEXES,
+    FollowingOptions,
+    add_beginning,
+    add_end,
+    add_reader,
+    check_numeric,
+    numeric_option,
+)
 from .arguments.texts import check_texts, each
 
 ABOUT = """\
 keep ordinary tables of SQLite that follow a feed
 
 FILE gets one table for each published table, and keeps the LSN of the last commit whose changes are in it. Any SQLite from 3.37 on may
-read it meanwhile, and sees whole commits. It is gone on with where it is there; a new one begins with the feed's first commit, or with
-the rows of an export.
+read it meanwhile, and sees whole commits. It is gone on with where it is there; a new one begins with the feed's first rows, or those
+of an export.
 """
 ENDS = FED
 # The exit status where tables are set aside.

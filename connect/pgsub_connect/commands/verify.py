@@ -20,8 +20,8 @@ from ..verify.store import StoreComparison, compare, repair
 from ..verify.tables_comparison import TablesComparison
 from ..verify.tables_file import compare_tables, store_of
 from . import add
-from .arguments.store import StoreOptions, settled_store
-from .arguments.texts import each
+from .arguments.server import StoreOptions, settled_store
+from .arguments.texts import check_needs, each
 from .arguments.types import within, within_seconds
 
 ABOUT = "compare the copy of a follower that runs with its server, both at one LSN"
@@ -78,30 +78,15 @@ class Options(StoreOptions):
         return StoreComparison(self.subscription(), self.store, self.hold, self.show)
 
     def tables_comparison(self) -> TablesComparison:
-        return TablesComparison(
-            self.subscription(),
-            self.tables,
-            self.other,
-            self.store,
-            self.feed,
-            self.digests,
-            self.table,
-            self.hold,
-            self.show,
-        )
+        files, how = (self.tables, self.other, self.store, self.feed), (self.digests, self.table)
+        return TablesComparison(self.subscription(), *files, *how, self.hold, self.show)
 
 
 def check_options(parser: argparse.ArgumentParser, options: Options) -> Options:
     """Rejects options that don't go together."""
     if not (options.store or options.tables):
         parser.error("--store or --tables is needed")
-    for given, name in (
-        (options.other, "with"),
-        (options.feed, "feed"),
-        (options.digests, "digests"),
-    ):
-        if given and not options.tables:
-            parser.error(f"--{name} needs --tables")
+    check_needs(parser, options, *((it, "tables") for it in ("other", "feed", "digests")))
     if options.tables and options.repair:
         parser.error(
             "--repair is for a store: rows of --tables come anew by `pgsub-connect add --store STORE --table T`"
@@ -144,10 +129,9 @@ def verify(options: Options, check: Check) -> int:
     found, comparison = Compared(), options.store_comparison()
     for choose in found.tries(lambda it: it.chosen(list(options.table))):
         compare(comparison, choose, found, check)
-    status = DIFFERENT if found.different else EQUAL
     if found.different and options.repair:
-        status = repaired(options, comparison, found, check)
-    return found.ended(status)
+        return found.ended(repaired(options, comparison, found, check))
+    return found.ended(DIFFERENT if found.different else EQUAL)
 
 
 def repaired(options: Options, comparison: StoreComparison, found: Compared, check: Check) -> int:
@@ -156,8 +140,5 @@ def repaired(options: Options, comparison: StoreComparison, found: Compared, che
     except Unrepaired as error:
         log.error(str(error))
         return DIFFERENT
-    return (
-        add.add(options.store, options.mode, {it.oid: it.text() for it in left}, check)
-        if left
-        else EQUAL
-    )
+    adds = {it.oid: it.text() for it in left}
+    return add.add(options.store, options.mode, adds, check) if adds else EQUAL

@@ -6,6 +6,7 @@ follower runs, file and feed are looked at again and again.
 
 import contextlib
 import dataclasses
+import glob
 import os
 import sqlite3
 import time
@@ -23,16 +24,23 @@ from pgsub_feed.tables.sqlite_files import is_tables
 from pgsub_feed.texts import lsn_text
 
 from ..store.asking import Asking
-from .arguments.exit_status import FED
+from ..store.checkpoint_at_rest import is_at_work, read_known
+from ..store.checkpoint_lines import FOLLOWING
 
 ABOUT = """\
 wait until tables that follow a feed have all that was committed up to an LSN
 
-Who has written reads it by: SELECT pg_current_wal_insert_lsn(). It ends with status 0, or with 7 where that took too long.
+Who has written reads it by: SELECT pg_current_wal_insert_lsn().
 """
-ENDS = FED
+ENDS = """\
+exit status: 0 they have it; 2 usage error; 3 a file can't be used; 5 the feed lacks commits after those that the file has; 6 a bug; 7 that took
+too long, or was interrupted
+"""
 # How often file and feed are looked at, in seconds.
 LOOK = 0.02
+# The same of a file that isn't there, and for how many seconds it is while nothing tells that a
+# follower is to make it.
+SLEEP, STARTING = 0.1, 3.0
 
 
 @dataclasses.dataclass(frozen=True)
@@ -95,13 +103,19 @@ def run(options: Options) -> int:
 
 
 def wait(options: Options, check: Check) -> None:
-    path, lsn = options.tables, options.lsn
-    if not os.path.isfile(path):
-        raise FileError(f"there is no file {path}")
+    path, lsn, until = options.tables, options.lsn, time.monotonic() + options.within
+    try:
+        began = time.monotonic()
+        while not os.path.isfile(path):
+            check_comes(path, options.feed, began, until)
+            check()
+            time.sleep(SLEEP)
+    except Stopped:
+        raise Passing(f"ended before {path} was there") from None
     if not is_tables(path):
         raise FileError(f"{path} has no tables that follow a feed")
     try:
-        if not waited(path, options.feed, lsn, time.monotonic() + options.within, check):
+        if not waited(path, options.feed, lsn, until, check):
             at = lsn_text(read_position(path)[0])
             raise Passing(
                 f"{path} is at {at}, and {lsn_text(lsn)} wasn't reached in {options.within:g} seconds"
@@ -110,6 +124,31 @@ def wait(options: Options, check: Check) -> None:
         raise Passing(f"ended before {path} has reached {lsn_text(lsn)}") from None
     except sqlite3.Error as error:
         raise FileError(f"{path}: {error}") from None
+
+
+def check_comes(path: str, feed: str | None, began: float, until: float) -> None:
+    """Rejects a file that isn't there, unless a follower is to make it, of a store in its folder or
+    beside the feed; or may have been started just now."""
+    at, now = os.path.abspath(path), time.monotonic()
+    checkpoints = glob.glob(f"{glob.escape(os.path.dirname(at))}/*.connector")
+    if feed and (store := store_at(os.path.abspath(feed))):
+        checkpoints.append(store + ".connector")
+    if not any(may_make(it, at) for it in checkpoints) and now > began + STARTING:
+        raise FileError(
+            f"there is no file {path}, and no follower of a store in its folder makes it: --feed names the feed of one elsewhere"
+        )
+    if now > until:
+        raise Passing(f"{path} isn't there yet: `pgsub-connect status` tells why")
+
+
+def may_make(checkpoint: str, tables: str) -> bool:
+    """Whether the follower of a store makes these tables, or is about to begin and may. (It notes
+    which ones before it copies rows. Other accounts than its own don't know.)"""
+    if os.path.lexists(checkpoint) and not os.access(checkpoint, os.R_OK):
+        return True
+    known = read_known(checkpoint)
+    begins = not known.tables and known.phase != FOLLOWING
+    return known.tables == tables or begins and is_at_work(checkpoint)
 
 
 def waited(path: str, feed: str | None, lsn: int, until: float, check: Check) -> bool:

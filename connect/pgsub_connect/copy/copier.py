@@ -244,7 +244,7 @@ class Copier(Worker):
 
     def copy(self, plain: Connection) -> None:
         """Makes the slot, and reads the tables under its snapshot."""
-        subscription = self.subscription
+        subscription, beside = self.subscription, self.beside
         # (from 16 on the server locks a table to say what is published of it)
         waiting = Waiting(
             subscription.dsn,
@@ -263,13 +263,13 @@ class Copier(Worker):
             tables = self.tables.choose(plain, tables, before, point)
         self.remembered.note_made(self.maker.made)
         self.remembered.save()
+        beside.prepare()
         self.make_lasting(temporary, point)
         log.info(f"copying {counted(len(tables), 'table')} as of {lsn_text(point)}")
         read = [it for it in tables if it.oid not in self.tables.later]
         # (from here on another thread asks the connection)
-        jobs, beside = self.settings.jobs, self.beside
         with plain.checked_by(self.check_stop), contextlib.closing(
-            Readers(subscription, jobs, snapshot, read, files, plain, beside)
+            Readers(subscription, self.settings.jobs, snapshot, read, files, plain, beside)
         ) as readers:
             self.send(readers, point)
         if self.tables.forget_gone(plain):
@@ -360,7 +360,7 @@ class Copier(Worker):
             self.filter.kill()
             return False
         log.info(
-            f"{counted(len(whole), 'table')} of an interrupted copy are kept; {counted(len(missing), 'table')} are added one by one"
+            f"an interrupted copy goes on: {counted(len(whole), 'table')} stored, {counted(len(missing), 'table')} to be added one by one"
         )
         if position == point:
             self.sender.finish()

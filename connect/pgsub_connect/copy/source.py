@@ -9,6 +9,7 @@ import time
 from collections.abc import Iterable, Mapping
 
 from pgsub_feed.errors import Passing, Unfit
+from pgsub_feed.help_form import meant
 from pgsub_feed.interruption import Check
 from pgsub_feed.tables.names import names_of
 
@@ -228,7 +229,9 @@ def chosen(tables: Iterable[Table], names: list[str]) -> list[Table]:
     """The published tables with these names; those of the schema `public` have short ones too."""
     known = {name: it for it in tables for name in names_of(it.namespace, it.name)}
     if unknown := [name for name in names if name not in known]:
-        raise Unfit(f"there is no published table {unknown[0]}")
+        like = meant(unknown[0], known) or ":"
+        cure = f"ALTER PUBLICATION .. ADD TABLE {unknown[0]} publishes one that is there"
+        raise Unfit(f"there is no published table {unknown[0]}{like} {cure}")
     return list({known[name].oid: known[name] for name in names}.values())
 
 

@@ -42,6 +42,8 @@ class Baseline:
         self.made: dict[str, int] = {}
         # the folder of the store's feed
         self.feed = ""
+        # whether the rows that are copied first are to lie beside it
+        self.has_base = False
         # the OID and the name of the database; None where they weren't noted yet
         self.database: tuple[int, str] | None = None
         self.sent: dict[int, Sent] = {}
@@ -90,17 +92,13 @@ class Baseline:
     def is_unpublished(self, oid: int, lsn: int) -> bool:
         """Whether a table wasn't published under its own name at the last look, which was before a
         commit with this LSN."""
-        return (
-            self.catalog is not None and lsn > self.catalog.lsn and oid not in self.catalog.tables
-        )
+        catalog = self.catalog
+        return catalog is not None and lsn > catalog.lsn and oid not in catalog.tables
 
     def is_partition(self, oid: int) -> bool:
         """Whether this is a partition whose rows are sent under another name."""
-        return (
-            self.catalog is not None
-            and oid in self.catalog.partitions
-            and oid not in self.catalog.tables
-        )
+        catalog = self.catalog
+        return catalog is not None and oid in catalog.partitions and oid not in catalog.tables
 
     def last_sent(self, oid: int) -> int:
         """The LSN of the commit with the last Relation message of this OID, -1 where none has
@@ -124,9 +122,9 @@ class Baseline:
     def begin(self, catalog: Catalog, copied: int | None = None) -> None:
         """Remembers what a server has, and nothing else. `copied`: as of which LSN all rows of it
         are in the store."""
-        made, feed = self.made, self.feed
+        made, feed, has_base = self.made, self.feed, self.has_base
         self.forget()
-        self.catalog, self.made, self.feed = catalog, made, feed
+        self.catalog, self.made, self.feed, self.has_base = catalog, made, feed, has_base
         for oid, table in catalog.tables.items():
             if copied is not None:
                 self.sent[oid] = Sent(copied, table.shape)
@@ -201,6 +199,10 @@ class Baseline:
         if table:
             catalog.tables[oid] = described(table, relation, bool(told))
 
+    def has_name(self, oid: int) -> bool:
+        """Whether no other table has the name by which this one was described last."""
+        return oid in self.names.held
+
     def note_again(self, oid: int, lsn: int) -> None:
         """A Relation message has come again as it was."""
         if lsn > self.sent[oid].lsn:
@@ -262,17 +264,14 @@ class Baseline:
         before, self.database = self.database, (oid, name)
         if before != self.database:
             self.unsaved.note()
-        return (
-            f"the database {before[1]} was renamed: it is {name} now"
-            if before and before[1] != name
-            else ""
-        )
+        was = before[1] if before else name
+        return f"the database {was} was renamed: it is {name} now" if was != name else ""
 
     def restore(self, said: dict[str, Any]) -> None:
         """Takes what the first line of a file says."""
         self.made = {str(name): int(oid) for name, oid in said["made"].items()}
         # (an earlier version of this program had no feeds)
-        self.feed = text_of(said.get("feed", ""))
+        self.feed, self.has_base = text_of(said.get("feed", "")), said.get("base", False) is True
         if "followed" not in said:
             # (nothing was copied yet)
             return
@@ -291,36 +290,27 @@ class Baseline:
 
     def written(self) -> dict[str, Any]:
         begun = {"format": FORMAT, "made": self.made, "feed": self.feed}
+        if self.has_base:
+            begun["base"] = True
         if self.catalog is None:
             return begun
         sent = {
             oid: [lsn_text(it.lsn), it.shape and [it.shape.identity, it.shape.columns]]
             for oid, it in self.sent.items()
         }
-        return {
-            **begun,
-            "database": self.database,
-            **catalog_written(self.catalog),
-            "sent": sent,
-            "names": self.names.written(),
-            **self.found.written(),
-            **self.outstanding.written(),
-            "left": sorted(self.left),
-        }
+        begun |= {"database": self.database, **catalog_written(self.catalog), "sent": sent}
+        begun |= {"names": self.names.written(), **self.found.written()}
+        return {**begun, **self.outstanding.written(), "left": sorted(self.left)}
 
 
 def described(table: Table, relation: Relation, is_told: bool) -> Table:
     """A table as a Relation message describes it. `is_told`: what changed by that was found."""
     numbers = {it.name: it.number for it in table.columns}
     columns = tuple(it._replace(number=numbers.get(it.name, 0)) for it in relation.shape.columns)
-    return dataclasses.replace(
-        table,
-        namespace=relation.namespace,
-        name=relation.name,
-        shape=Shape(relation.shape.identity, columns),
-        # (the next look isn't to tell it in other words)
-        altered="" if is_told else table.altered,
-    )
+    named = {"namespace": relation.namespace, "name": relation.name}
+    # (the next look isn't to tell it in other words)
+    altered, shape = "" if is_told else table.altered, Shape(relation.shape.identity, columns)
+    return dataclasses.replace(table, **named, shape=shape, altered=altered)
 
 
 def text_of(it: object) -> str:

@@ -19,23 +19,15 @@ def json_text(it: object) -> bytes:
 
 
 def noted_written(relation: Relation, lsn: int) -> list[Any]:
-    shape = relation.shape
-    return [
-        lsn_text(lsn),
-        relation.oid,
-        relation.namespace,
-        relation.name,
-        shape.identity,
-        shape.columns,
-    ]
+    it, shape = relation, relation.shape
+    return [lsn_text(lsn), it.oid, it.namespace, it.name, shape.identity, shape.columns]
 
 
 def noted_of(said: list[Any]) -> Noted:
     """A Relation message that was noted, and the LSN of its commit."""
     lsn, oid, namespace, name, identity, columns = said
-    return Relation(int(oid), str(namespace), str(name), shape_of(identity, columns)), parse_lsn(
-        lsn
-    )
+    shape = shape_of(identity, columns)
+    return Relation(int(oid), str(namespace), str(name), shape), parse_lsn(lsn)
 
 
 def catalog_written(catalog: Catalog) -> dict[str, Any]:
@@ -79,99 +71,42 @@ def catalog_of(said: dict[str, Any]) -> Catalog:
     # (an earlier version of this program didn't keep these two, nor what ran)
     unlogged = {int(oid) for oid in said.get("unlogged", [])}
     toast = {int(oid): int(it) for oid, it in said.get("toast", {}).items()}
-    tables = {
-        it["oid"]: dataclasses.replace(
-            table_of(it), logged=it["oid"] not in unlogged, toast=toast.get(it["oid"], 0)
-        )
-        for it in said["tables"]
-    }
-    partitions = {
-        it[0]: partition_of(
-            *it,
-            since=attached.get(str(it[0]), ""),
-            logged=it[0] not in unlogged,
-            toast=toast.get(it[0], 0),
-        )
-        for it in said["partitions"]
-    }
-    types = {
-        int(oid): {str(part): str(text) for part, text in it.items()}
-        for oid, it in said["types"].items()
-    }
-    names = tuple(str(it) for it in said["followed"])
-    return Catalog(
-        names,
-        parse_lsn(said["lsn"]),
-        int(said["highest"]),
-        publications,
-        tables,
-        partitions,
-        types,
-        int(said.get("running", 0)),
-    )
+    tables, partitions = dict[int, Table](), dict[int, Partition]()
+    for it in said["tables"]:
+        more = {"logged": it["oid"] not in unlogged, "toast": toast.get(it["oid"], 0)}
+        tables[it["oid"]] = dataclasses.replace(table_of(it), **more)
+    # (an earlier version of this program didn't keep the number of a file)
+    for oid, parent, name, leaf, *node in said["partitions"]:
+        since, logged = attached.get(str(oid), ""), oid not in unlogged
+        about = int(oid), int(parent), str(name), bool(leaf), False, int(node[0]) if node else 0
+        partitions[oid] = Partition(*about, since, logged, toast.get(oid, 0))
+    types = {int(oid): dict(it) for oid, it in said["types"].items()}
+    names, at = tuple(str(it) for it in said["followed"]), parse_lsn(said["lsn"])
+    running = int(said.get("running", 0))
+    both = tables, partitions
+    return Catalog(names, at, int(said["highest"]), publications, *both, types, running)
 
 
 def publication_of(said: dict[str, Any]) -> Publication:
     """A publication; an earlier version of this program didn't keep whose it is and who has written
     it."""
-    return Publication(
-        int(said["oid"]),
-        bool(said["whole"]),
-        tuple(said["actions"]),
-        bool(said["via_root"]),
-        bool(said["generated"]),
-        int(said.get("owner", 0)),
-        str(said.get("since", "")),
-    )
-
-
-def partition_of(
-    oid: int,
-    parent: int,
-    name: str,
-    leaf: bool,
-    node: int = 0,
-    *,
-    since: str,
-    logged: bool,
-    toast: int,
-) -> Partition:
-    """A partition; an earlier version of this program didn't keep the number of its file, nor who
-    has attached it."""
-    return Partition(
-        int(oid),
-        int(parent),
-        str(name),
-        bool(leaf),
-        node=int(node),
-        since=since,
-        logged=logged,
-        toast=toast,
-    )
+    whole, via_root, generated = (bool(said[it]) for it in ("whole", "via_root", "generated"))
+    more = int(said.get("owner", 0)), str(said.get("since", ""))
+    actions = tuple(said["actions"])
+    return Publication(int(said["oid"]), whole, actions, via_root, generated, *more)
 
 
 def table_of(said: dict[str, Any]) -> Table:
     """A table; an earlier version of this program didn't keep when its columns were altered, nor by
     what publications have it, nor its primary key and indexes."""
-    since = {
-        name: tuple(str(it) for it in entries)
-        for name, entries in said.get("since", {}).items()
-        if entries is not None
-    }
-    parts = {
-        name: Part(
-            row_filter, None if listed is None else tuple(listed), bool(whole), since.get(name)
-        )
-        for name, (row_filter, listed, whole) in said["parts"].items()
-    }
+    parts, since = dict[str, Part](), said.get("since", {})
+    for name, (row_filter, listed, whole) in said["parts"].items():
+        columns, ways = (None if it is None else tuple(it) for it in (listed, since.get(name)))
+        parts[name] = Part(row_filter, columns, bool(whole), ways)
     shape = shape_of(said["identity"], said["columns"])
+    schema, name, kind = (str(said[it]) for it in ("schema", "name", "kind"))
     return Table(
-        int(said["oid"]),
-        str(said["schema"]),
-        str(said["name"]),
-        str(said["kind"]),
-        shape,
-        parts,
+        *(int(said["oid"]), schema, name, kind, shape, parts),
         node=int(said.get("node", 0)),
         altered=str(said.get("altered", "")),
         primary=tuple(str(it) for it in said.get("primary", ())),
@@ -180,10 +115,8 @@ def table_of(said: dict[str, Any]) -> Table:
 
 
 def shape_of(identity: str, columns: list[Any]) -> Shape:
-    return Shape(
-        str(identity),
-        tuple(
-            Column(str(name), int(oid), int(modifier), bool(key), int(number))
-            for name, oid, modifier, key, number in columns
-        ),
+    several = (
+        Column(str(name), int(oid), int(modifier), bool(key), int(number))
+        for name, oid, modifier, key, number in columns
     )
+    return Shape(str(identity), tuple(several))

@@ -10,7 +10,6 @@ Each difference has the kind of fault that it may be in the copy:
 | `values` | values in rows that were there before were changed by a command that isn't in the stream |
 """
 
-import itertools
 import re
 from collections.abc import Iterable, Iterator
 
@@ -57,16 +56,11 @@ def publication_differences(
     if before.oid != now.oid:
         text = f"publication {name} was dropped and made anew: changes in between aren't sent"
         yield Difference(PUBLICATION, text, about._replace(is_missing=True))
-    for word in before.actions:
-        if word not in now.actions:
-            yield Difference(
-                PUBLICATION,
-                f"publication {name} has no {word}s any more",
-                about._replace(lacks=word),
-            )
-    for word in now.actions:
-        if word not in before.actions:
-            yield Difference(PUBLICATION, f"publication {name} has {word}s only from now on", about)
+    for word in [it for it in before.actions if it not in now.actions]:
+        text = f"publication {name} has no {word}s any more"
+        yield Difference(PUBLICATION, text, about._replace(lacks=word))
+    for word in [it for it in now.actions if it not in before.actions]:
+        yield Difference(PUBLICATION, f"publication {name} has {word}s only from now on", about)
     if before.via_root != now.via_root:
         names = "the root's name" if now.via_root else "their own names"
         text = f"publication {name} has rows of partitions under {names} now: the older rows stay as they were"
@@ -75,10 +69,8 @@ def publication_differences(
         text = f"publication {name} was altered, and has the options that it had: changes in between may be missing"
         yield Difference(PUBLICATION, text, about)
     if before.generated != now.generated:
-        generated = "only from now on" if now.generated else "no more"
-        yield Difference(
-            PUBLICATION, f"publication {name} has generated columns {generated}", about
-        )
+        text = f"publication {name} has generated columns {'only from now on' if now.generated else 'no more'}"
+        yield Difference(PUBLICATION, text, about)
 
 
 def table_differences(oid: int, before: Catalog, now: Catalog) -> Iterator[Difference]:
@@ -90,9 +82,8 @@ def table_differences(oid: int, before: Catalog, now: Catalog) -> Iterator[Diffe
         elif not new.logged:
             yield Difference("", f"table {new.text_with_oid()} is new. {UNLOGGED}")
         elif is_complete(new, before, now):
-            yield Difference(
-                "", f"table {new.text_with_oid()} is new, and followed from its first row on"
-            )
+            text = f"table {new.text_with_oid()} is new, and followed from its first row on"
+            yield Difference("", text)
         else:
             text = f"table {new.text_with_oid()} joined: the rows that it had before are missing"
             yield Difference(PUBLICATION, text, About((oid,), is_missing=True))
@@ -103,29 +94,31 @@ def table_differences(oid: int, before: Catalog, now: Catalog) -> Iterator[Diffe
         else:
             yield gone(oid, f"{old.namespace}.{old.name}")
     elif old is not None and new is not None:
-        yield from logging_differences(
-            f"table {new.text_with_oid()}", (oid,), old.logged, new.logged
-        )
-        parts = (
-            part_differences(new, old.parts[name], new.parts[name])
-            for name in sorted(old.parts.keys() & new.parts.keys())
-        )
-        told = [*itertools.chain.from_iterable(parts), *sent_differences(old, new, before, now)]
-        if not told and has_left(old, new, before, now):
-            text = f"table {new.text_with_oid()} left and joined again: changes in between weren't sent"
-            told.append(Difference(PUBLICATION, text, About((oid,))))
-        yield from told
-        shapes = list(shape_differences(oid, new.text_with_oid(), old.shape, new.shape))
-        if not shapes and is_computed_anew(oid, before, now):
-            text = f"table {new.text_with_oid()} was written anew, and columns of it were altered: values that were there may be others now"
-            shapes.append(Difference(VALUES, text, About((oid,))))
-        yield from shapes
+        yield from altered_differences(oid, old, new, before, now)
 
 
-def is_computed_anew(oid: int, before: Catalog, now: Catalog) -> bool:
-    """Whether an ALTER TABLE may have computed values of a table that has the same columns: by
-    USING, without another type."""
-    return oid not in now.kept and bool(written_anew(oid, before, now))
+def altered_differences(
+    oid: int, old: Table, new: Table, before: Catalog, now: Catalog
+) -> Iterator[Difference]:
+    """Those of a table that is there in both readings."""
+    table, about = f"table {new.text_with_oid()}", About((oid,))
+    yield from logging_differences(table, (oid,), old.logged, new.logged)
+    told = []
+    for name in sorted(old.parts.keys() & new.parts.keys()):
+        if old.parts[name].listed != new.parts[name].listed:
+            text = f"{table} has another column list: rows that were there have nulls in the columns that joined"
+            told.append(Difference(PUBLICATION, text, about))
+    told += sent_differences(old, new, before, now)
+    if not told and has_left(old, new, before, now):
+        text = f"{table} left and joined again: changes in between weren't sent"
+        told.append(Difference(PUBLICATION, text, about))
+    yield from told
+    shapes = list(shape_differences(oid, new.text_with_oid(), old.shape, new.shape))
+    # (by USING, without another type)
+    if not shapes and oid not in now.kept and written_anew(oid, before, now):
+        text = f"{table} was written anew, and columns of it were altered: values that were there may be others now"
+        shapes.append(Difference(VALUES, text, about))
+    yield from shapes
 
 
 def written_anew(oid: int, before: Catalog, now: Catalog) -> list[Table | Partition]:
@@ -141,30 +134,22 @@ def written_anew(oid: int, before: Catalog, now: Catalog) -> list[Table | Partit
     pairs: list[tuple[Table | Partition, Table | Partition]] = [(old, new)]
     if not new.node:
         both = sorted(before.partitions.keys() & now.partitions.keys())
-        pairs = [
-            (before.partitions[it], now.partitions[it])
-            for it in both
-            if root_of(it, now) == oid == root_of(it, before)
-        ]
-    return [
-        are
-        for was, are in pairs
-        if was.node not in (0, are.node) and (not are.toast or are.toast != was.toast)
-    ]
+        own = [it for it in both if root_of(it, now) == oid == root_of(it, before)]
+        pairs = [(before.partitions[it], now.partitions[it]) for it in own]
+    pairs = [(was, are) for was, are in pairs if was.node not in (0, are.node)]
+    return [are for was, are in pairs if not are.toast or are.toast != was.toast]
 
 
 def asks_rows(oid: int, before: Catalog, now: Catalog) -> list[int]:
     """Those of them of which only their rows tell whether it was done; none where it is certain of
     one."""
-    found = written_anew(oid, before, now)
-    if any(it.toast and toast_of(it.oid, before) for it in found):
-        return []
-    return [it.oid for it in found]
-
-
-def toast_of(oid: int, catalog: Catalog) -> int:
-    it = catalog.tables.get(oid) or catalog.partitions.get(oid)
-    return it.toast if it else 0
+    oids = []
+    for it in written_anew(oid, before, now):
+        was = before.tables.get(it.oid) or before.partitions.get(it.oid)
+        if it.toast and was and was.toast:
+            return []
+        oids.append(it.oid)
+    return oids
 
 
 def gone(oid: int, name: str) -> Difference:
@@ -191,21 +176,14 @@ def is_complete(table: Table, before: Catalog, now: Catalog) -> bool:
     return False
 
 
-def part_differences(table: Table, old: Part, new: Part) -> Iterator[Difference]:
-    if old.listed != new.listed:
-        text = f"table {table.text_with_oid()} has another column list: rows that were there have nulls in the columns that joined"
-        yield Difference(PUBLICATION, text, About((table.oid,)))
-
-
 def sent_differences(old: Table, new: Table, before: Catalog, now: Catalog) -> Iterator[Difference]:
     """What is sent of a table otherwise, by whichever publication. What one of them has altered for
     all its tables is told by that."""
     was, are = ways_of(old, before, now), ways_of(new, now, before)
     table, about = f"table {new.text_with_oid()}", About((new.oid,))
     for word in sorted(was.keys() - are.keys(), key=ACTIONS.index):
-        yield Difference(
-            PUBLICATION, f"{table} has no {word}s any more", about._replace(lacks=word)
-        )
+        text = f"{table} has no {word}s any more"
+        yield Difference(PUBLICATION, text, about._replace(lacks=word))
     if joined := are.keys() - was.keys():
         yield Difference(PUBLICATION, f"{table} has {words_text(joined)} only from now on", about)
     both = was.keys() & are.keys()
@@ -215,11 +193,8 @@ def sent_differences(old: Table, new: Table, before: Catalog, now: Catalog) -> I
             others.setdefault((filter_text(was[word]), filter_text(are[word])), []).append(word)
     for (earlier, later), words in sorted(others.items()):
         which = "" if len(words) == len(both - {TRUNCATE}) else f" for {words_text(words)}"
-        yield Difference(
-            PUBLICATION,
-            f"{table} has the row filter {later}{which} now, and before {earlier}",
-            about,
-        )
+        text = f"{table} has the row filter {later}{which} now, and before {earlier}"
+        yield Difference(PUBLICATION, text, about)
 
 
 # By action and row filter, None for all rows: the parts of publications by which these rows of a
@@ -231,13 +206,11 @@ def ways_of(table: Table, catalog: Catalog, other: Catalog) -> Ways:
     """Those of the actions that the publications have in both readings."""
     found: Ways = {}
     for name, part in table.parts.items():
-        actions = [
-            set(it.publications[name].actions) for it in (catalog, other) if name in it.publications
-        ]
-        for word in set(ACTIONS).intersection(*actions) if actions else ():
-            found.setdefault(word, {}).setdefault(
-                part.row_filter if word != TRUNCATE else None, {}
-            )[name] = part
+        there = [it.publications[name] for it in (catalog, other) if name in it.publications]
+        actions = set(ACTIONS).intersection(*(it.actions for it in there)) if there else ()
+        for word in actions:
+            row_filter = part.row_filter if word != TRUNCATE else None
+            found.setdefault(word, {}).setdefault(row_filter, {})[name] = part
     return {word: {None: it[None]} if None in it else it for word, it in found.items()}
 
 
@@ -260,15 +233,11 @@ def stays(old: Part | None, new: Part) -> bool:
     """Whether a publication had a table all the time between two readings."""
     if old is None or old.since is None or new.since is None:
         return old is not None
-    return old.since == new.since or any(
-        is_same_way(one, other) for one in old.since for other in new.since
-    )
-
-
-def is_same_way(one: str, other: str) -> bool:
-    """Whether by both a publication has a table all the time. An earlier version of this program
-    didn't keep who put it into a schema."""
-    return one == other or ("@" in one) != ("@" in other) and PUT.sub("", one) == PUT.sub("", other)
+    if old.since == new.since or set(old.since) & set(new.since):
+        return True
+    # (an earlier version of this program didn't keep who put it into a schema)
+    ways = ((one, other) for one in old.since for other in new.since)
+    return any(("@" in a) != ("@" in b) and PUT.sub("", a) == PUT.sub("", b) for a, b in ways)
 
 
 def filter_text(ways: Iterable[str | None]) -> str:

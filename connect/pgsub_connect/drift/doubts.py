@@ -36,11 +36,8 @@ OLDEST = 1 << 31
 
 def resolved(connection: Connection, before: Catalog, now: Catalog) -> Catalog:
     """A reading with what its rows tell beside it, as far as it leaves in doubt what is new."""
-    tables = {
-        oid: asked
-        for oid in before.tables.keys() & now.tables.keys()
-        if (asked := asks_rows(oid, before, now))
-    }
+    both = before.tables.keys() & now.tables.keys()
+    tables = {oid: asked for oid in both if (asked := asks_rows(oid, before, now))}
     partitions, written = attached(before, now), written_partitions(before, now)
     if not (tables or partitions or written):
         return now
@@ -53,11 +50,8 @@ def resolved(connection: Connection, before: Catalog, now: Catalog) -> Catalog:
             if all(has_its_values(connection, it, since, until) for it in asked)
         }
         kept |= {oid for oid in written if has_older(connection, oid, since, until)}
-        fresh = {
-            oid
-            for oid, ways in partitions.items()
-            if has(connection, oid, up_to(ways), until) is False
-        }
+        doubted = ((oid, up_to(ways)) for oid, ways in partitions.items())
+        fresh = {oid for oid, it in doubted if has(connection, oid, it, until) is False}
     return dataclasses.replace(now, kept=frozenset(kept), fresh=frozenset(fresh))
 
 
@@ -127,21 +121,17 @@ def has_older(connection: Connection, oid: int, since: str, until: float) -> boo
 @understood("rows")
 def has(connection: Connection, oid: int, condition: str, until: float) -> bool | None:
     """Whether a table has a row for which a condition holds; None where that can't be said."""
-    names = (
-        connection.rows(
-            "SELECT n.nspname, c.relname FROM pg_catalog.pg_class c"
-            f" JOIN pg_catalog.pg_namespace n ON n.oid = c.relnamespace WHERE c.oid = {oid}"
-        )
-        if time.monotonic() < until
-        else []
+    query = (
+        "SELECT n.nspname, c.relname FROM pg_catalog.pg_class c"
+        f" JOIN pg_catalog.pg_namespace n ON n.oid = c.relnamespace WHERE c.oid = {oid}"
     )
+    names = connection.rows(query) if time.monotonic() < until else []
     if not names:
         return None
     name = ".".join(identifier(it or "") for it in names[0])
+    query = f"SELECT EXISTS (SELECT FROM ONLY {name} r WHERE {condition})"
     try:
-        return (
-            connection.value(f"SELECT EXISTS (SELECT FROM ONLY {name} r WHERE {condition})") == "t"
-        )
+        return connection.value(query) == "t"
     except ServerError as error:
         if not error.sqlstate:
             raise

@@ -10,7 +10,7 @@ from typing import Any, NamedTuple
 
 from pgsub_feed.texts import lsn_text, parse_lsn, shortened
 
-from ..server.catalog import Catalog
+from ..server.catalog import Catalog, types_having
 
 NAMES, PUBLICATION, VALUES = "names", "publication", "values"
 KINDS = (NAMES, PUBLICATION, VALUES)
@@ -43,16 +43,13 @@ NOTHING = About()
 
 
 def about_of(said: dict[str, Any]) -> About:
-    """What a file has kept of one."""
-    return About(
-        tuple(int(it) for it in said.get("tables", ())),
-        str(said.get("publication", "")),
-        int(said.get("type_oid", 0)),
-        str(said.get("lacks", "")),
-        bool(said.get("is_missing", False)),
-        str(said.get("gone", "")),
-        str(said.get("added", "")),
-    )
+    """What a file has kept of one. What only a later version has is left to that."""
+    known = {name: it for name, it in said.items() if name in About._fields}
+    numbers = {
+        "tables": tuple(map(int, said.get("tables", ()))),
+        "type_oid": int(said.get("type_oid", 0)),
+    }
+    return About(**{**known, **numbers})
 
 
 class Difference(NamedTuple):
@@ -175,14 +172,10 @@ class Findings(dict[str, Found]):
 
     def written(self) -> dict[str, Any]:
         """What is kept of it in a file."""
-        kept = {
-            kind: [
-                lsn_text(it.lsn),
-                {text: about.written() for text, about in it.texts.items()},
-                it.more,
-            ]
-            for kind, it in self.items()
-        }
+        kept: dict[str, Any] = {}
+        for kind, it in self.items():
+            texts = {text: about.written() for text, about in it.texts.items()}
+            kept[kind] = [lsn_text(it.lsn), texts, it.more]
         told = {text: lsn_text(lsn) for text, lsn in self.told.items()}
         return {"found": kept, "mended": self.mended, "told": told}
 
@@ -198,11 +191,9 @@ class Findings(dict[str, Found]):
 
 def texts_of(said: dict[str, Any] | list[str]) -> dict[str, About]:
     """The texts of a kind; an earlier version of this program didn't keep what they are about."""
-    return (
-        {str(it): NOTHING for it in said}
-        if isinstance(said, list)
-        else {text: about_of(it) for text, it in said.items()}
-    )
+    if isinstance(said, list):
+        return dict.fromkeys(said, NOTHING)
+    return {text: about_of(it) for text, it in said.items()}
 
 
 def lasts(about: About, catalog: Catalog | None) -> bool:
@@ -210,10 +201,8 @@ def lasts(about: About, catalog: Catalog | None) -> bool:
     only for now."""
     if catalog is None or not about.lacks:
         return False
-    parts = (
-        name for oid in about.tables if oid in catalog.tables for name in catalog.tables[oid].parts
-    )
-    names = {about.publication} if about.publication else set(parts)
+    tables = (catalog.tables[oid] for oid in about.tables if oid in catalog.tables)
+    names = {about.publication} if about.publication else {it for t in tables for it in t.parts}
     there = [it for name, it in catalog.publications.items() if name in names]
     return bool(there) and not any(about.lacks in it.actions for it in there)
 
@@ -232,11 +221,8 @@ def tables_of_several(about: About, catalog: Catalog | None) -> list[int] | None
     or of what isn't sent; None of any other."""
     tables = catalog.tables.values() if catalog else ()
     if about.type_oid:
-        return [
-            it.oid
-            for it in tables
-            if any(column.type_oid == about.type_oid for column in it.columns)
-        ]
+        types = types_having([about.type_oid], catalog.types if catalog else {})
+        return [it.oid for it in tables if not types.isdisjoint(c.type_oid for c in it.columns)]
     if catalog and about.publication in catalog.publications:
         return [it.oid for it in tables if about.publication in it.parts]
     if about.lacks and not about.publication:

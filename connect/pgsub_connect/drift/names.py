@@ -48,9 +48,8 @@ class Names(dict[Key, Name]):
 
     def key_of(self, oid: int) -> Key | None:
         """The name that a table has, or had; None where that isn't known."""
-        return self.held.get(oid) or next(
-            (key for key, name in self.items() if oid in name.before), None
-        )
+        had = (key for key, name in self.items() if oid in name.before)
+        return self.held.get(oid) or next(had, None)
 
     def release(self, key: Key) -> None:
         name = self[key]
@@ -119,16 +118,8 @@ class Names(dict[Key, Name]):
 
     def lines(self) -> list[dict[str, Any]]:
         """What `pgsub-connect names` prints."""
-        return [
-            {
-                "schema": schema,
-                "table": table,
-                "oid": it.oid,
-                "since": lsn_text(it.since),
-                "before": it.before,
-            }
-            for (schema, table), it in sorted(self.items())
-        ]
+        fields = "schema", "table", "oid", "since", "before"
+        return [dict(zip(fields, it)) for it in self.written()]
 
 
 def names_text(key: tuple[str, str], oid: int, before: int) -> str:

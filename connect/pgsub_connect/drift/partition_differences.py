@@ -27,12 +27,8 @@ def attached(before: Catalog, now: Catalog) -> dict[int, list[str]]:
     weren't sent."""
     found = {}
     for oid, partition in now.partitions.items():
-        if (
-            oid in before.partitions
-            or oid in before.tables
-            or not (partition.leaf and partition.logged)
-            or is_made_in(oid, before, now)
-        ):
+        is_known = oid in before.partitions or oid in before.tables
+        if is_known or not (partition.leaf and partition.logged) or is_made_in(oid, before, now):
             continue
         ways, at = [partition.since], partition.parent
         while at and at not in before.partitions and at in now.partitions:
@@ -62,9 +58,8 @@ def partition_differences(before: Catalog, now: Catalog) -> Iterator[Difference]
         was, root = root_of(oid, before), root_of(oid, now)
         if was != root and was in now.tables:
             partition = f"partition {before.partitions[oid].name} ({oid}) of {now.tables[was].text_with_oid()}"
-            yield Difference(
-                PUBLICATION, f"{partition} was detached or dropped: its rows stay", About((was,))
-            )
+            text = f"{partition} was detached or dropped: its rows stay"
+            yield Difference(PUBLICATION, text, About((was,)))
         if was != root and root in before.tables:
             partition = f"partition {now.partitions[oid].name} ({oid}) of {now.tables[root].text_with_oid()}"
             if not now.partitions[oid].logged:
@@ -88,16 +83,11 @@ def detachments(before: Catalog, now: Catalog) -> Iterator[Difference]:
         root, at = root_of(oid, now), oid
         while root == root_of(oid, before) and root and at != root:
             old, new = before.partitions.get(at), now.partitions[at]
-            if (
-                old
-                and "" not in (old.since, new.since)
-                and (old.parent, old.since) != (new.parent, new.since)
-            ):
+            is_known = old and "" not in (old.since, new.since)
+            if old and is_known and (old.parent, old.since) != (new.parent, new.since):
                 partition = f"partition {new.name} ({at}) of {now.tables[root].text_with_oid()}"
-                text = (
-                    f"{partition} was detached and attached again: changes in between weren't sent"
-                )
-                yield Difference(PUBLICATION, text, About((root,)))
+                how = "was detached and attached again: changes in between weren't sent"
+                yield Difference(PUBLICATION, f"{partition} {how}", About((root,)))
             at = new.parent
 
 
@@ -119,13 +109,8 @@ def written_partitions(before: Catalog, now: Catalog) -> dict[int, int]:
     """
     parts: dict[int, list[int]] = {}
     for oid in sorted(before.partitions.keys() & now.partitions.keys() - now.tables.keys()):
-        root = root_of(oid, now)
-        if (
-            root
-            and root == root_of(oid, before)
-            and now.partitions[oid].logged
-            and before.partitions[oid].logged
-        ):
+        root, is_logged = root_of(oid, now), all(it.partitions[oid].logged for it in (before, now))
+        if root and root == root_of(oid, before) and is_logged:
             parts.setdefault(root, []).append(oid)
     found = dict[int, int]()
     for root, oids in parts.items():

@@ -9,6 +9,7 @@ synced. So a reader (`pgsub-connect names`) may look at it at any time.
 
 import contextlib
 import json
+import os
 from collections.abc import Iterable
 
 from pgsub_feed.errors import FileError
@@ -29,10 +30,11 @@ class Remembered(Baseline):
         with contextlib.suppress(FileNotFoundError):
             self.read()
 
-    def note_feed(self, folder: str) -> None:
-        """Notes durably which folder has the store's feed, "" where it has none any more."""
-        if folder != self.feed:
-            self.feed = folder
+    def note_feed(self, folder: str, has_base: bool = False) -> None:
+        """Notes durably which folder has the store's feed, "" where it has none any more.
+        `has_base`: the rows that are being copied are to lie beside it."""
+        if (folder, has_base) != (self.feed, self.has_base):
+            self.feed, self.has_base = folder, has_base
             self.save()
 
     def keep_made(self, made: dict[str, int]) -> None:
@@ -167,6 +169,8 @@ class Remembered(Baseline):
 def print_names(store: str) -> None:
     """Prints which OID each name has now and which ones had it before, a JSON object per line."""
     remembered = Remembered(store)
+    if remembered.catalog is None and not os.path.exists(store):
+        raise FileError(f"there is no store {store}")
     if remembered.catalog is None:
         raise FileError(f"{remembered.path}: there is no such file yet: the next session makes it")
     for line in remembered.names.lines():

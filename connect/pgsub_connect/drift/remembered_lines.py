@@ -9,6 +9,7 @@ alone.
 | `made` | the publications that were made for this store, with their OIDs |
 | `database` | the OID of the database that is followed, and its name at the last session |
 | `feed` | the folder of the feed that has all commits of the store up to its position, "" where none has |
+| `base` | while rows are copied first: whether they are to lie beside the feed |
 | `lsn`, `highest`, `running` | when the server was looked at last: nothing that was committed above that LSN was seen, nor an OID above that one; and the first transaction that may have run then |
 | `followed`, `publications` | the names that are followed, and the options of those that were there |
 | `tables`, `partitions`, `types` | what the server had then, changed by what Relation messages said since |
@@ -172,7 +173,7 @@ def texts(value: Any) -> None:
 
 
 NOTED = each(row(lsn_of, oid_of, name, name, name, each(COLUMN)))
-BEGUN = fields({"made": mapped(name, oid_of)}, feed=name)
+BEGUN = fields({"made": mapped(name, oid_of)}, feed=name, base=flag_of)
 COPIED = fields(
     {
         "followed": each(name),

@@ -40,20 +40,15 @@ def shape_texts(table: str, old: Shape, new: Shape) -> Iterator[str]:
         same = was.get(column.name)
         if same is not None and column.number and same.number and column.number != same.number:
             yield f"column {column.name} of {table} was dropped and made anew: its values may be the old ones"
-        elif same is not None and (same.type_oid, same.modifier) != (
-            column.type_oid,
-            column.modifier,
-        ):
+        elif same is not None and same[1:3] != column[1:3]:
             yield f"column {column.name} of {table} has another type: its values may be written in another way"
-    kept = {it.name for it in new.columns}
-    if [it.name for it in old.columns if it.name in kept] != [
-        it.name for it in new.columns if it.name in was
-    ]:
+    kept = {it.name for it in new.columns} & was.keys()
+    names, before = ([it.name for it in shape.columns if it.name in kept] for shape in (new, old))
+    if names != before:
         yield f"columns of {table} have changed their names among each other, or were made anew"
     if (old.identity, keys_of(old)) != (new.identity, keys_of(new)):
-        key = (
-            "all columns" if new.identity == "f" else ", ".join(keys_of(new)[:NAMED]) or "no column"
-        )
+        key = ", ".join(keys_of(new)[:NAMED]) or "no column"
+        key = "all columns" if new.identity == "f" else key
         yield f"table {table} has another replica identity: {key}"
 
 
@@ -71,14 +66,9 @@ def type_differences(oid: int, old: dict[str, str], new: dict[str, str]) -> Iter
         if it.isdigit() and old[it] != new[it]
     )
     if renamed:
-        yield Difference(
-            VALUES,
-            f"{name}: {', '.join(renamed[:NAMED])}: values that were there have the old labels",
-            about,
-        )
+        labels = ", ".join(renamed[:NAMED])
+        text = f"{name}: {labels}: values that were there have the old labels"
+        yield Difference(VALUES, text, about)
     if {it: old[it] for it in old if it[0] == "#"} != {it: new[it] for it in new if it[0] == "#"}:
-        yield Difference(
-            VALUES,
-            f"{name} consists of other parts: values that were there have the old ones",
-            about,
-        )
+        text = f"{name} consists of other parts: values that were there have the old ones"
+        yield Difference(VALUES, text, about)

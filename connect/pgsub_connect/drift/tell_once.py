@@ -8,7 +8,7 @@ from collections.abc import Iterator
 
 from ..errors import understood
 from ..server.catalog import ACTIONS, Catalog
-from ..server.catalog_reader import listed_oids, number
+from ..server.catalog_reader import PARTS, listed_oids, number
 from ..server.connection import QUICK, Connection
 from ..server.publication_setup import names_of
 from .partition_differences import root_of
@@ -37,12 +37,9 @@ def warnings(connection: Connection, now: Catalog, made: dict[str, int]) -> Iter
 
 def unlogged_names(now: Catalog) -> list[str]:
     """The tables and partitions whose changes are in no log, though they are published."""
-    tables = [f"{it.namespace}.{it.name}" for it in now.tables.values() if not it.logged]
-    partitions = [
-        it.name
-        for oid, it in now.partitions.items()
-        if not it.logged and root_of(oid, now) and oid not in now.tables
-    ]
+    tables = [it.text() for it in now.tables.values() if not it.logged]
+    others = ((oid, it) for oid, it in now.partitions.items() if oid not in now.tables)
+    partitions = [it.name for oid, it in others if not it.logged and root_of(oid, now)]
     return sorted({*tables, *partitions})
 
 
@@ -50,30 +47,14 @@ def unlogged_names(now: Catalog) -> list[str]:
 def naming_columns(connection: Connection, now: Catalog) -> list[str]:
     """The published columns with such types in them: in arrays, domains, ranges and composites
     too."""
-    used = sorted(
-        {column.type_oid for table in now.tables.values() for column in table.shape.columns}
+    columns = [(table, column) for table in now.tables.values() for column in table.columns]
+    used = sorted({column.type_oid for _, column in columns})
+    query = (
+        "WITH RECURSIVE t (used, oid) AS ("
+        f" SELECT y.oid, y.oid FROM pg_catalog.pg_type y WHERE y.oid IN ({listed_oids(used)})"
+        f" UNION SELECT t.used, u.oid FROM t JOIN pg_catalog.pg_type y ON y.oid = t.oid, LATERAL ({PARTS}) u"
+        " WHERE u.oid <> 0)"
+        f" SELECT DISTINCT t.used FROM t WHERE t.oid IN ({listed_oids(list(NAMES))})"
     )
-    rows = (
-        connection.rows(
-            "WITH RECURSIVE t (used, oid) AS ("
-            f" SELECT y.oid, y.oid FROM pg_catalog.pg_type y WHERE y.oid IN ({listed_oids(used)})"
-            " UNION SELECT t.used, u.oid FROM t JOIN pg_catalog.pg_type y ON y.oid = t.oid,"
-            " LATERAL ("
-            "  SELECT y.typelem AS oid UNION ALL SELECT y.typbasetype"
-            "  UNION ALL SELECT r.rngsubtype FROM pg_catalog.pg_range r WHERE r.rngtypid = y.oid"
-            "  UNION ALL SELECT a.atttypid FROM pg_catalog.pg_attribute a"
-            "   WHERE a.attrelid = y.typrelid AND a.attnum > 0 AND NOT a.attisdropped) u"
-            " WHERE u.oid <> 0)"
-            f" SELECT DISTINCT t.used FROM t WHERE t.oid IN ({listed_oids(list(NAMES))})",
-            QUICK,
-        )
-        if used
-        else []
-    )
-    naming = {number(row[0]) for row in rows}
-    return sorted(
-        f"{table.namespace}.{table.name}.{column.name}"
-        for table in now.tables.values()
-        for column in table.shape.columns
-        if column.type_oid in naming
-    )
+    naming = {number(row[0]) for row in connection.rows(query, QUICK)} if used else set[int]()
+    return sorted(f"{table.text()}.{it.name}" for table, it in columns if it.type_oid in naming)

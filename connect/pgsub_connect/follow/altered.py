@@ -129,12 +129,10 @@ class Altered:
     def is_left(self, oid: int, texts: set[str]) -> bool:
         """Whether nothing is done about a table yet. What was rejected is tried again because of
         something new alone."""
-        if self.remembered.wanted.get(oid):
-            if texts <= self.tries.texts.get(oid, set()):
-                self.lasting |= texts
-                return False
-            return True
-        return oid not in self.remembered.wanted
+        if self.remembered.wanted.get(oid) and texts <= self.tries.texts.get(oid, set()):
+            self.lasting |= texts
+            return False
+        return self.remembered.wanted.get(oid) != ""
 
     def table(self, oid: int) -> Table | None:
         return self.remembered.catalog.tables.get(oid) if self.remembered.catalog else None
@@ -154,9 +152,8 @@ class Altered:
         cure = f"pgsub-connect refresh --store {self.store} copies it anew"
         if (key := (table.oid, frozenset(texts))) not in self.told:
             self.told.add(key)
-            log.warning(
-                f"{table.text_with_oid()} was altered, and isn't copied anew unasked: {why}. {cure}"
-            )
+            text = f"{table.text_with_oid()} was altered, and isn't copied anew unasked"
+            log.warning(f"{text}: {why}. {cure}")
 
     def is_right(self, connection: Connection, table: Table, texts: set[str]) -> bool:
         """Whether it is certain that the rows are right all the same: of one with many findings not
@@ -172,9 +169,7 @@ class Altered:
             return
         for it in tables:
             self.tries.note(it.oid, found[it.oid])
-        names = names_of([it.text() for it in tables])
-        log.info(
-            f"{counted(len(tables), 'table')} altered, copied anew beside what is followed: {names}"
-        )
+        names, many = names_of([it.text() for it in tables]), counted(len(tables), "table")
+        log.info(f"{many} altered, copied anew beside what is followed: {names}")
         self.remembered.want([it.oid for it in tables])
         self.due = min(self.due, time.monotonic() + LATER)

@@ -2,6 +2,7 @@
 accepts it, and tells it."""
 
 import time
+from contextlib import closing
 
 from pgsub_feed import log
 from pgsub_feed.errors import Passing, Unfit
@@ -16,9 +17,9 @@ from ..server.catalog_reader import read_catalog
 from ..server.connection import QUICK, Connection
 from ..server.session import settle
 from ..store.checkpoint import MISSING
+from ..stream.common import Common
 from ..stream.missed_rows import texts_of
 from .altered import Altered
-from .common import Common
 
 # After how many seconds the file is written where nothing in it is urgent, the publications are
 # looked at again, and that is tried again where it failed; and after how many they are looked at
@@ -49,11 +50,8 @@ class Watch:
 
     def begin(self) -> None:
         """Accepts what is to be accepted, and tells what else was found up to now."""
-        kinds = [
-            it
-            for it in {*self.checkpoint.findings(), *self.remembered.found}
-            if self.tolerance.accepts(it)
-        ]
+        found = {*self.checkpoint.findings(), *self.remembered.found}
+        kinds = [it for it in found if self.tolerance.accepts(it)]
         self.checkpoint.accept(kinds)
         self.remembered.accept(kinds)
         if self.remembered.is_urgent:
@@ -80,31 +78,24 @@ class Watch:
     def lasting_of(self, kind: str) -> list[str]:
         """What was found of this kind but for tables whose rows are being added, or may be, by
         which it goes."""
-        going = {oid for oid, why in self.remembered.wanted.items() if not why}
-        return [
-            it
-            for it in self.texts_of(kind)
-            if kind == NAMES
-            or going.isdisjoint(self.remembered.about(it).tables)
-            and not self.altered.is_open(kind, it)
-        ]
+        going, texts = {it for it, why in self.remembered.wanted.items() if not why}, self.texts_of(
+            kind
+        )
+        if kind == NAMES:
+            return texts
+        texts = [it for it in texts if going.isdisjoint(self.remembered.about(it).tables)]
+        return [it for it in texts if not self.altered.is_open(kind, it)]
 
     def show(self) -> None:
         """Tells the progress what was found, and ends the following where it is to be strict."""
         began = time.monotonic()
-        self.progress.findings.note(
-            {kind: "; ".join(self.texts_of(kind)) for kind in self.checkpoint.findings()}
-        )
-        lasting = {
-            kind: text
-            for kind in self.checkpoint.findings()
-            if (text := "; ".join(self.lasting_of(kind)))
-        }
+        kinds = self.checkpoint.findings()
+        self.progress.findings.note({kind: "; ".join(self.texts_of(kind)) for kind in kinds})
+        lasting = {kind: it for kind in kinds if (it := "; ".join(self.lasting_of(kind)))}
         if lasting and self.tolerance.is_strict:
             texts = "\n".join(f"{kind}: {text}" for kind, text in lasting.items())
-            raise Unfit(
-                f"the copy may be wrong (copy anew, or take it as it is by --accept KIND)\n{texts}"
-            )
+            told = "the copy may be wrong (copy anew, or take it as it is by --accept KIND)"
+            raise Unfit(f"{told}\n{texts}")
         took = time.monotonic() - began
         self.is_shown, self.next_show = True, began + (PART * took if took > LITTLE else 0.0)
 
@@ -163,14 +154,10 @@ class Watch:
     def look_again(self, check: Check, position: int) -> bool:
         """Compares on a connection of its own. Returns whether that was possible."""
         try:
-            connection = Connection(
-                self.subscription.dsn, name=f"{self.subscription.slot} tables", check=check
-            )
-            try:
+            dsn, name = self.subscription.dsn, f"{self.subscription.slot} tables"
+            with closing(Connection(dsn, name=name, check=check)) as connection:
                 settle(connection)
                 return self.compare(connection, position)
-            finally:
-                connection.close()
         except ServerError as error:
             self.tell_hindered(error)
             return False

@@ -8,7 +8,7 @@ loop only sets what is confirmed.
 
 | The store | The feed |
 |---|---|
-| is made by an initial copy, or without one | begins where the store does, in an empty folder; the copied rows are no part of it |
+| is made by an initial copy, or without one | begins where the store does, in an empty folder; the copied rows are no part of it, but files beside it |
 | gets rows of a table that is added or copied anew, or rows that are repaired | has these commits as any other |
 | goes on behind a gap that was accepted | goes on as the store does: what the store lacks, it lacks |
 | was put back from a backup | is left as it is, since opening both would cut off what the store lacks; where a gap is accepted, it is cut |
@@ -23,40 +23,41 @@ import os
 import shlex
 import time
 from collections.abc import Callable
-from typing import TYPE_CHECKING
 
 from pgsub_feed import log
 from pgsub_feed.errors import FileError, Unfit
 from pgsub_feed.faults import Damaged
 from pgsub_feed.interruption import Check
+from pgsub_feed.reader.base import remove_begun
 from pgsub_feed.reader.positions import make_folder
 from pgsub_feed.reader.segments import Reader, read_confirmed, segments
 from pgsub_feed.texts import counted, lsn_text
 
-from ..copy.rows_beside import RowsBeside
+from ..copy.rows_beside import RowsBeside, Several
+from ..errors import Unread
 from ..server.connection import Connection
 from ..server.session import identify, settle
 from ..store.at_rest import has_log
+from ..store.checkpoint_lines import COPIED, FOLLOWING
 from ..store.snapshot import position_in
+from ..stream.common import Common
 from ..stream.filter import Filter
 from ..stream.filter_end import FilterEnded
 from ..stream.statuses import Reached
-from .common import Common
 from .feed_keeper import Keeper
-from .first_rows import FirstRows
+from .first_rows import BaseRows, FirstRows
+from .process_beside import ProcessBeside
 from .retention import Limits
 from .sink_process import Sink, SinkSettings
 from .tables_process import Beside, TablesSettings
 from .tables_process import check as check_tables
 
-if TYPE_CHECKING:
-    from ..status.progress import Progress
-
-
 # How long a filter that is to end is waited for, before it is looked whether the end was asked for.
 STEP = 0.5
 # After how many seconds a store that can't be opened is tried again, in steps of how many.
 AGAIN, SLEEP = 5, 0.2
+# For how many seconds tables and sinks are waited for until that is told.
+UNTOLD = 5.0
 # What the filter says of a feed that doesn't fit its store.
 NOT_A_FEED = "pgsub: feed 1 NotAFeed"
 
@@ -68,7 +69,8 @@ def has_segments(folder: str) -> bool:
 @dataclasses.dataclass(frozen=True)
 class FeedSettings:
     """Where the feed of a store is and how it is kept, and the tables and sinks that follow it.
-    `is_left`: the store goes on without the feed that it has had."""
+    `is_left`: the store goes on without the feed that it has had; `has_base`: the feed gets the rows
+    of the initial copy, too."""
 
     store: str
     folder: str = ""
@@ -76,13 +78,10 @@ class FeedSettings:
     mode: int = 0o600
     segment_bytes: int = 0
     segment_seconds: int = 0
-    max_bytes: int = 0
-    max_age: float | None = None
+    limits: Limits = Limits()
     tables: TablesSettings | None = None
     sinks: tuple[SinkSettings, ...] = ()
-
-    def limits(self) -> Limits:
-        return Limits(self.max_bytes or None, self.max_age)
+    has_base: bool = False
 
 
 class Feeding:
@@ -95,13 +94,25 @@ class Feeding:
         self.first_rows = (
             FirstRows(settings.tables, self.checkpoint.file) if settings.tables else RowsBeside()
         )
+        self.base = self.base_rows() if settings.has_base else None
         self.keeper: Keeper | None = None
         self.beside: Beside | None = None
         self.sinks: list[Sink] = []
-        # what the tables are to have before the follower ends by itself
+        # what tables and sinks are to have before the follower ends by itself, and from when on it is
+        # told that this is waited for
         self.wanted: int | None = None
+        self.tells_from = 0.0
         # the end of the last commit of which the tables were told
         self.told: int | None = None
+
+    def base_rows(self) -> BaseRows:
+        it = self.settings
+        return BaseRows(self.folder, it.store, it.mode, self.checkpoint)
+
+    def rows_beside(self) -> Several:
+        """What gets the rows of an initial copy."""
+        parts = (self.first_rows, self.base) if self.base else (self.first_rows,)
+        return Several(parts, self.note_begun)
 
     def check(self) -> None:
         """Rejects a folder that can't have the store's feed, before anything is made; and makes the
@@ -118,18 +129,12 @@ class Feeding:
     def check_followed(self) -> None:
         """Rejects to leave the feed that the store has had behind."""
         was, now = self.remembered.feed, self.folder
-        if (
-            not was
-            or self.settings.is_left
-            or now
-            and (os.path.realpath(was) == os.path.realpath(now) or has_segments(now))
-        ):
+        if not was or self.settings.is_left:
             return
-        other = (
-            f", and {now} has none of its commits: move its files there, or"
-            if now
-            else f": say --feed {was}, or"
-        )
+        if now and (os.path.realpath(was) == os.path.realpath(now) or has_segments(now)):
+            return
+        other = f", and {now} has none of its commits: move its files there, or"
+        other = other if now else f": say --feed {was}, or"
         raise Unfit(
             f"the feed {was} has all commits of {self.settings.store}, and following without it would leave a gap in it{other}"
             " --without-feed, which ends that feed for good"
@@ -139,6 +144,8 @@ class Feeding:
         """Rejects what an older copy has left: the feed of a new store has nothing of an older
         one's, nor have its readers and tables."""
         tables = self.settings.tables.path if self.settings.tables else ""
+        if self.folder:
+            remove_begun(self.folder)
         has_feed = os.path.isdir(self.folder) and os.listdir(self.folder)
         left = [self.folder] if has_feed else []
         if left := left + [tables] if os.path.lexists(tables) else left:
@@ -152,6 +159,13 @@ class Feeding:
             make_folder(self.folder, self.settings.mode)
         except OSError as error:
             raise FileError(f"--feed {self.settings.folder}: {error.strerror}") from None
+
+    def note_begun(self) -> None:
+        """Notes durably which feed, first rows and tables the store is to have: so the next start of
+        a copy that is cut off knows them."""
+        tables = self.settings.tables
+        self.checkpoint.note_tables(os.path.abspath(tables.path) if tables else "")
+        self.remembered.note_feed(self.folder, self.settings.has_base)
 
     def begin(
         self, child: Filter, reached: Callable[[], Reached], check: Check, wake: Callable[[], None]
@@ -167,16 +181,19 @@ class Feeding:
                 )
             self.remembered.note_feed("")
             return
-        if self.remembered.feed and not has_segments(self.folder):
+        is_new = self.checkpoint.known.phase != FOLLOWING
+        if self.remembered.feed and not is_new and not has_segments(self.folder):
             log.warning(
                 f"the feed {self.folder} has no segment any more, or is another one: a new one begins"
             )
         self.check_position(child, check)
+        if self.base and not has_segments(self.folder):
+            # (readers find them once there is a segment)
+            self.base.complete(self.checkpoint.known.phase == COPIED, check)
         self.remembered.note_feed(self.folder)
         child.add_words(self.words(check))
-        self.keeper = Keeper(
-            self.folder, self.settings.limits(), self.settings.mode, self.progress, reached
-        )
+        how = self.settings.limits, self.settings.mode
+        self.keeper = Keeper(self.folder, *how, self.progress, reached)
         if tables:
             self.beside = Beside(tables, self.progress, wake, self.first_rows.wait)
         self.sinks = [Sink(it, self.progress) for it in self.settings.sinks]
@@ -211,22 +228,13 @@ class Feeding:
 
     def words(self, check: Check) -> list[str]:
         """What the filter is told."""
-        settings = self.settings
         system, database, slot = self.source(check)
-        words = [
-            "--feed",
-            self.folder,
-            "--feed-system",
-            system,
-            "--feed-database",
-            database,
-            "--feed-slot",
-            slot,
-        ]
-        if settings.segment_bytes:
-            words += ["--feed-segment-bytes", str(settings.segment_bytes)]
-        if settings.segment_seconds:
-            words += ["--feed-segment-seconds", str(settings.segment_seconds)]
+        words = ["--feed", self.folder, "--feed-system", system]
+        words += ["--feed-database", database, "--feed-slot", slot]
+        if size := self.settings.segment_bytes:
+            words += ["--feed-segment-bytes", str(size)]
+        if seconds := self.settings.segment_seconds:
+            words += ["--feed-segment-seconds", str(seconds)]
         return words
 
     def source(self, check: Check) -> tuple[str, str, str]:
@@ -234,19 +242,17 @@ class Feeding:
         known, subscription = self.checkpoint.known, self.subscription
         if known.system:
             return known.system, known.database, known.slot
-        connection = Connection(
-            subscription.dsn, replication=True, name=f"{subscription.slot} feed", check=check
-        )
-        try:
+        slot = subscription.slot
+        with contextlib.closing(
+            Connection(subscription.dsn, replication=True, name=f"{slot} feed", check=check)
+        ) as connection:
             settle(connection)
             server = identify(connection)
-        finally:
-            connection.close()
-        return server.system, server.database, subscription.slot
+        return server.system, server.database, slot
 
     def note_opened(self) -> None:
         """A filter has opened the feed, so what looks after it and follows it may begin."""
-        for it in (self.keeper, self.beside, *self.sinks):
+        for it in (self.keeper, *self.readers()):
             if it and it.ident is None:
                 it.start()
 
@@ -256,15 +262,34 @@ class Feeding:
             self.keeper.changed.set()
         if reached.position != self.told:
             self.told = reached.position
-            for it in (self.beside, *self.sinks):
-                if it:
-                    it.tell()
+            for it in self.readers():
+                it.tell()
+
+    def readers(self) -> list[ProcessBeside]:
+        """The processes that follow the feed."""
+        return [*([self.beside] if self.beside else []), *self.sinks]
 
     def is_read(self, position: int) -> bool:
-        """Whether the tables have what the store had when this was asked first. One that is to end
-        by itself waits for that."""
-        self.wanted = position if self.wanted is None else self.wanted
-        return self.beside is None or self.beside.has(self.wanted)
+        """Whether tables and sinks have what the store had when this was asked first. One that is to
+        end by itself waits for that."""
+        if self.wanted is None:
+            self.wanted, self.tells_from = position, time.monotonic() + UNTOLD
+        wanted = self.wanted
+        lacking = [it.name for it in self.readers() if not it.has(wanted)]
+        if lacking and time.monotonic() > self.tells_from:
+            self.tells_from = float("inf")
+            log.info(
+                f"the store has all up to {lsn_text(wanted)}, and {', '.join(lacking)} not yet: that is waited for"
+            )
+        return not lacking
+
+    def check_read(self) -> None:
+        """Raises where one that is to end by itself has waited for nothing: who reads had ended for
+        good."""
+        ended = [it for it in self.readers() if it.lasting]
+        if ended and self.wanted is not None:
+            names = ", ".join(it.name for it in ended)
+            raise Unread(f"{names} follows no more, as told above", ended[0].lasting)
 
     def text_of(self, said: str) -> str:
         """What to do where the filter has ended with these words; "" where they aren't about a feed
@@ -278,8 +303,8 @@ class Feeding:
         )
 
     def finish(self) -> None:
-        self.first_rows.abandon()
-        for it in (self.beside, *self.sinks, self.keeper):
+        self.rows_beside().abandon()
+        for it in (*self.readers(), self.keeper):
             if it and it.ident is not None:
                 it.finish()
 
@@ -294,11 +319,10 @@ def confirmed_above(folder: str, position: int) -> int | None:
     confirmed = read_confirmed(folder) or 0
     if confirmed <= position:
         return None
-    with contextlib.suppress(Damaged, Unfit), contextlib.closing(
-        Reader(folder, position)
-    ) as reader:
-        if (commit := reader.next()) is not None:
-            return commit.end if commit.end <= confirmed else None
+    with contextlib.suppress(Damaged, Unfit):
+        with contextlib.closing(Reader(folder, position)) as reader:
+            if (commit := reader.next()) is not None:
+                return commit.end if commit.end <= confirmed else None
     return next((base for base, _ in segments(folder) if position < base <= confirmed), None)
 
 

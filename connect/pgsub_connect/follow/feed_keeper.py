@@ -1,5 +1,6 @@
 """What is done in the folder of a feed while its store is followed: it tells readers what is
-confirmed, looks where they are, and removes old segments."""
+confirmed and up to where the primary keys in `STORE.tables` are right, looks where they are, and
+removes old segments."""
 
 from __future__ import annotations
 
@@ -12,6 +13,7 @@ from typing import TYPE_CHECKING
 from pgsub_feed import log
 from pgsub_feed.errors import FileError, Passing
 from pgsub_feed.files import replace_file
+from pgsub_feed.known_tables import KEYS
 from pgsub_feed.reader.segments import CONFIRMED, read_confirmed
 from pgsub_feed.texts import counted, lsn_text
 
@@ -40,6 +42,7 @@ class Keeper(threading.Thread):
     ) -> None:
         super().__init__(daemon=True)
         self.folder, self.limits, self.mode = folder, limits, mode
+        self.keys_file = os.path.join(folder, KEYS)
         self.progress, self.reached = progress, reached
         self.ended = threading.Event()
         # set where the store has more
@@ -48,9 +51,14 @@ class Keeper(threading.Thread):
         self.causes = dict[str, str]()
         # what was written last, and when; when the readers were looked at, and segments looked for
         self.confirmed, self.written = -1, 0.0
+        # the same of the LSN up to which primary keys are known
+        self.keys, self.told_keys = -1, 0.0
         self.looked = self.retired = 0.0
 
     def run(self) -> None:
+        if not os.path.exists(self.keys_file):
+            # (before there is a commit: who finds none doesn't wait for it)
+            self.attempt(self.tell_keys, Reached(0, 0))
         while not self.ended.is_set():
             is_told = self.changed.wait(QUIET if self.lags() else LOOK)
             self.changed.clear()
@@ -68,7 +76,7 @@ class Keeper(threading.Thread):
         self.ended.set()
         self.changed.set()
         self.join()
-        self.written = self.looked = -BUSY
+        self.written = self.looked = self.told_keys = -BUSY
         self.tend(time.monotonic())
 
     def tend(self, now: float) -> None:
@@ -85,6 +93,9 @@ class Keeper(threading.Thread):
         if reached.confirmed != self.confirmed and now - self.written >= wait:
             self.written = now
             self.attempt(self.confirm, reached)
+        if self.has_keys_to_tell(reached) and now - self.told_keys >= QUIET:
+            self.told_keys = now
+            self.attempt(self.tell_keys, reached)
 
     def attempt(self, step: Callable[[Reached], None], reached: Reached) -> None:
         """Does one of these. What can't be done is told, once for each cause, and is tried again;
@@ -104,12 +115,21 @@ class Keeper(threading.Thread):
         if self.confirmed < 0:
             self.confirmed = read_confirmed(self.folder) or 0
         if reached.confirmed != self.confirmed:
-            replace_file(
-                os.path.join(self.folder, CONFIRMED),
-                f"{lsn_text(reached.confirmed)}\n".encode(),
-                self.mode,
-            )
+            text = f"{lsn_text(reached.confirmed)}\n".encode()
+            replace_file(os.path.join(self.folder, CONFIRMED), text, self.mode)
             self.confirmed = reached.confirmed
+
+    def has_keys_to_tell(self, reached: Reached) -> bool:
+        """Where tables have keys that no message tells, and once in a run: that of the run before
+        may lack a look. After a failover less may be confirmed, and other commits follow."""
+        if reached.confirmed < self.keys:
+            return True
+        return reached.keys > max(self.keys, 0) and (reached.tells_keys or self.keys <= 0)
+
+    def tell_keys(self, reached: Reached) -> None:
+        """Tells readers up to which commit it is known which primary keys tables have."""
+        replace_file(self.keys_file, f"{lsn_text(reached.keys)}\n".encode(), self.mode)
+        self.keys = reached.keys
 
     def look(self, reached: Reached) -> None:
         """Shows how far behind each reader is, and how large the feed."""
@@ -119,6 +139,8 @@ class Keeper(threading.Thread):
         gone = retire(self.folder, self.limits, reached.position, time.time())
         if gone.segments:
             log.info(f"removed {counted(gone.segments, 'segment')} of the feed {self.folder}")
+        if gone.base:
+            log.info(f"removed the first rows of the feed {self.folder}")
         for name in sorted(gone.readers):
             log.warning(
                 f"the reader {name} hadn't read all of that, and has to begin anew: the feed may have {self.limits.most_bytes} bytes"

@@ -2,7 +2,6 @@
 means."""
 
 import contextlib
-import functools
 import itertools
 import time
 
@@ -12,16 +11,14 @@ from pgsub_feed.meter import Meter
 from pgsub_feed.texts import counted
 
 from ..errors import FilterFault
-from ..status.progress import Progress
 from ..stream import too_large
 from ..stream.awake import Awake, Numbers, Served
-from ..stream.filter import Filter
 from ..stream.filter_end import MISSED, FilterEnded
 from ..stream.memory_limit import BufferLimits
 from ..stream.statuses import Confirming
 from .drift_watch import Watch
-from .ending import Ending
 from .feed import Feeding
+from .settings import Ending
 from .stream_form import StreamForm
 
 # How long the filter is waited for, and how long it is slept, before it is looked whether the end
@@ -38,15 +35,13 @@ class FilterLife:
     def __init__(
         self,
         limits: BufferLimits,
-        child: Filter,
-        progress: Progress,
         confirming: Confirming,
         watch: Watch,
         form: StreamForm,
         ending: Ending,
         feeding: Feeding | None,
     ) -> None:
-        self.limits, self.filter, self.progress = limits, child, progress
+        self.limits, self.filter, self.progress = limits, confirming.filter, confirming.progress
         self.confirming, self.noting, self.misses = confirming, confirming.noting, confirming.misses
         self.watch, self.form, self.ending, self.feeding = watch, form, ending, feeding
         self.kills = too_large.Kills()
@@ -68,8 +63,15 @@ class FilterLife:
         """Starts the filter. A store that somebody else has open, to dump it say, is waited for."""
         for tried in itertools.count():
             meter = Meter("opening the store", "MB")
+
+            def check() -> None:
+                self.ending.check_stop()
+                with contextlib.suppress(OSError, LookupError):
+                    read, size = self.filter.opening()
+                    meter.note(read >> 20, size >> 20)
+
             try:
-                return self.filter.start(functools.partial(self.check_opening, meter))
+                return self.filter.start(check)
             except FilterEnded as ended:
                 if not ended.is_unopened():
                     raise
@@ -80,12 +82,6 @@ class FilterLife:
             )
             self.sleep(delay)
         raise AssertionError
-
-    def check_opening(self, meter: Meter) -> None:
-        self.ending.check_stop()
-        with contextlib.suppress(OSError, LookupError):
-            read, size = self.filter.opening()
-            meter.note(read >> 20, size >> 20)
 
     def sleep(self, seconds: float) -> None:
         until = time.monotonic() + seconds
@@ -146,10 +142,8 @@ class FilterLife:
 
     def note_end(self, ended: FilterEnded) -> None:
         """Notes why the filter ended. Raises where the same would come of another try."""
-        if not (
-            ended.is_full()
-            and self.form.stop_streaming("open transactions were too much at a time")
-        ):
+        why = "open transactions were too much at a time"
+        if not (ended.is_full() and self.form.stop_streaming(why)):
             largest = self.noting.largest()
             if text := too_large.text_of(ended, self.limits, largest, self.noting.longest):
                 log.error(text)

@@ -1,7 +1,9 @@
-"""The process that makes the tables of `--tables` of the rows of an initial copy while they are
-read, as the module `store.copied_rows` says.
+"""The processes that get the rows of an initial copy while they are read: they make the tables of
+`--tables`, as the module `store.copied_rows` says, and the first rows of a feed (`store.base_files`).
+A copy that goes on after it was interrupted has rows that no process got: then these are made from
+the store, once that is whole.
 
-It has the checkpoint open, as the filter has: the next start of a connector that was killed waits
+Each has the checkpoint open, as the filter has: the next start of a connector that was killed waits
 until it has ended.
 """
 
@@ -13,38 +15,51 @@ import os
 import subprocess
 import sys
 import threading
+import time
 
 from pgsub_feed import log
 from pgsub_feed.files import meant, remove_files
+from pgsub_feed.interruption import Check
+from pgsub_feed.reader.base import has_base, remove_begun
 
 from ..copy.rows_beside import RowsBeside
+from ..store import base_files
+from ..store.checkpoint import Checkpoint
 from ..store.copied_rows import DONE, Wanted
 from .process_beside import START, environment
 from .tables_process import TablesSettings
 
-CODE = f"{START}from pgsub_connect.store.copied_rows import run; run()"
+CODE = f"{START}from pgsub_connect.store.%s import run; run()"
 # How much may wait for the process, in bytes, and how long it may take once it has all rows and the
 # follower ends, in seconds.
 ROOM, PATIENCE = 1 << 20, 20.0
+# How often it is looked whether to end, in seconds.
+STEP = 0.1
 
 
-class FirstRows(RowsBeside):
-    """The process. Where it fails, the tables are made as if it hadn't been: from the store."""
+class FromCopy(RowsBeside):
+    """A process, by the module of `store` that it runs. `name`: what it makes."""
 
-    def __init__(self, settings: TablesSettings, checkpoint: int) -> None:
-        self.settings, self.checkpoint = settings, checkpoint
+    def __init__(self, name: str, module: str, checkpoint: int) -> None:
+        self.name, self.module, self.checkpoint = name, module, checkpoint
         self.child: subprocess.Popen[bytes] | None = None
         self.has_all = False
         self.writing = threading.Lock()
 
+    def words(self, point: int) -> list[str]:
+        """What it is told."""
+        raise NotImplementedError
+
+    def forget(self, child: int) -> None:
+        """Removes what such a process has left that was killed."""
+        raise NotImplementedError
+
     def begin(self, point: int) -> None:
         self.abandon()
-        it = self.settings
-        words = Wanted(it.path, it.store, it.feed, it.numeric, it.mode, point).words()
         try:
             # (a session of its own: an interrupt at the terminal is for the follower)
             self.child = child = subprocess.Popen(
-                [sys.executable, "-c", CODE, *words],
+                [sys.executable, "-c", CODE % self.module, *self.words(point)],
                 bufsize=0,
                 stdin=subprocess.PIPE,
                 start_new_session=True,
@@ -53,7 +68,7 @@ class FirstRows(RowsBeside):
             )
         except OSError as error:
             # (processes or memory may be too few)
-            log.warning(f"{it.path} can't be made while rows are copied: {error.strerror}")
+            log.warning(f"{self.name} can't be made while rows are copied: {error.strerror}")
             return
         assert child.stdin
         with contextlib.suppress(OSError):
@@ -76,12 +91,12 @@ class FirstRows(RowsBeside):
                 self.child.stdin.close()
                 self.has_all = True
 
-    def wait(self) -> None:
-        if child := self.child:
-            is_made, path = is_whole(child, self.settings.path), self.settings.path
-            log.info(
-                f"tables: {path} {'was made with the copy' if is_made else 'is made from the store'}"
-            )
+    def is_whole(self, child: subprocess.Popen[bytes]) -> bool:
+        """Waits for a process, and returns whether it has made what it should."""
+        if child.wait() == 0:
+            return True
+        self.forget(child.pid)
+        return False
 
     def abandon(self) -> None:
         child = self.child
@@ -91,17 +106,70 @@ class FirstRows(RowsBeside):
             with contextlib.suppress(subprocess.TimeoutExpired):
                 child.wait(PATIENCE)
         child.kill()
-        is_whole(child, self.settings.path)
+        self.is_whole(child)
         with self.writing:
             assert child.stdin
             child.stdin.close()
         self.child, self.has_all = None, False
 
 
-def is_whole(child: subprocess.Popen[bytes], path: str) -> bool:
-    """Waits for a process, and returns whether it has made the file. One that was killed may have
-    left what it had begun."""
-    if child.wait() == 0:
-        return True
-    remove_files(f"{meant(path)}.pgsub-{child.pid}")
-    return False
+class FirstRows(FromCopy):
+    """That which makes tables. Where it fails, they are made as if it hadn't been: from the
+    store."""
+
+    def __init__(self, settings: TablesSettings, checkpoint: int) -> None:
+        super().__init__(settings.path, "copied_rows", checkpoint)
+        self.settings = settings
+
+    def words(self, point: int) -> list[str]:
+        it = self.settings
+        return Wanted(it.path, it.store, it.feed, it.numeric, it.mode, point).words()
+
+    def forget(self, child: int) -> None:
+        remove_files(f"{meant(self.name)}.pgsub-{child}")
+
+    def wait(self) -> None:
+        if child := self.child:
+            how = "was made with the copy" if self.is_whole(child) else "is made from the store"
+            log.info(f"tables: {self.name} {how}")
+
+
+class BaseRows(FromCopy):
+    """That which makes the first rows of a feed: before the feed begins."""
+
+    def __init__(self, feed: str, store: str, mode: int, checkpoint: Checkpoint) -> None:
+        super().__init__(feed, "base_files", checkpoint.file)
+        self.store, self.mode, self.known = store, mode, checkpoint
+
+    def words(self, point: int) -> list[str]:
+        it = self.known.known
+        source = it.system, it.database, it.slot
+        return base_files.Wanted(self.name, self.store, self.mode, point, *source).words()
+
+    def forget(self, child: int) -> None:
+        remove_begun(self.name)
+
+    def wait(self) -> None:
+        if self.child:
+            self.is_whole(self.child)
+        remove_begun(self.name)
+
+    def complete(self, is_copied: bool, check: Check) -> None:
+        """Has them be there, before anything follows. `is_copied`: the store has what was copied and
+        nothing else, and nobody has it open."""
+        self.wait()
+        if is_copied and not has_base(self.name):
+            self.make_from_store(check)
+        if not has_base(self.name):
+            log.warning(
+                f"{self.name} has no first rows: its readers begin with an export, by --base"
+            )
+
+    def make_from_store(self, check: Check) -> None:
+        log.info(f"{self.name}: its first rows are read from {self.store}")
+        self.module = "base_of_store"
+        self.begin(self.known.known.position)
+        while self.child and self.child.poll() is None:
+            check()
+            time.sleep(STEP)
+        self.wait()

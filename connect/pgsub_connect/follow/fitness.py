@@ -6,18 +6,18 @@ Unfit. A history or a slot that doesn't fit is a finding, too. The position is e
 the store: the end of its last commit.
 """
 
+from contextlib import closing
+
 from pgsub_feed import log
 from pgsub_feed.errors import Unfit
 from pgsub_feed.interruption import Check
 from pgsub_feed.texts import lsn_text
 
-from ..drift.tolerance import Tolerance
 from ..errors import ServerError
 from ..server import transport
 from ..server.connection import Connection
 from ..server.session import Server, is_same_database, left_at, settle, slot_position
-from ..server.subscription import Subscription
-from ..store.checkpoint import Checkpoint, check_gap
+from ..store.checkpoint import check_gap
 from ..store.checkpoint_lines import FOLLOWING, NEW
 from .drift_watch import Watch
 
@@ -26,16 +26,9 @@ class Fitting:
     """Compares what a store's checkpoint says with a server, and notes there whose changes the
     store has."""
 
-    def __init__(
-        self,
-        subscription: Subscription,
-        tolerance: Tolerance,
-        no_copy: bool,
-        checkpoint: Checkpoint,
-        watch: Watch,
-    ) -> None:
-        self.subscription, self.tolerance, self.no_copy = subscription, tolerance, no_copy
-        self.checkpoint, self.watch = checkpoint, watch
+    def __init__(self, no_copy: bool, watch: Watch) -> None:
+        self.no_copy, self.watch, self.checkpoint = no_copy, watch, watch.checkpoint
+        self.subscription, self.tolerance = watch.subscription, watch.tolerance
 
     def check_server(self, server: Server, confirmed: int, position: int) -> None:
         """Checks that this is the server whose changes the store has, and that it has all of them.
@@ -46,6 +39,10 @@ class Fitting:
         slot = self.subscription.slot
         is_same = is_same_database(known.database, remembered.database, server)
         if known.system and ((server.system, slot) != (known.system, known.slot) or not is_same):
+            if (server.system, slot) == (known.system, known.slot):
+                other = server.database if server.database != known.database else "a later one"
+                text = f"the store follows the database {known.database}, and this is {other}"
+                raise Unfit(f"{text}: name that one by --dsn, or another store")
             raise Unfit(
                 f"the store follows slot {known.slot} of database {known.database} of the server {known.system}, "
                 f"and not slot {slot} of {server.database} of {server.system}: name its server by --dsn, or another store"
@@ -69,7 +66,12 @@ class Fitting:
             return slot_at
         if server.is_standby:
             raise ServerError(f"the server is a standby without the slot {self.subscription.slot}")
-        raise Unfit(f"the server has no slot {self.subscription.slot}")
+        text = f"the server has no slot {self.subscription.slot}"
+        if self.checkpoint.known.phase == NEW:
+            raise Unfit(f"{text}: --create makes it, --slot names another one")
+        store = self.checkpoint.path.removesuffix(".connector")
+        cure = f"`pgsub-connect drop --store {store}`, then a start with --create, copies anew"
+        raise Unfit(f"{text}: it was dropped, so what has changed since may be gone: {cure}")
 
     def check_timeline(self, connection: Connection, server: Server, position: int) -> int | None:
         """Checks that what the store has is in the server's history too, where its timeline isn't
@@ -91,20 +93,16 @@ class Fitting:
                 f"the server was promoted while it was followed: it is on the timeline {server.timeline} now"
             )
             return None
-        left = (
-            left_at(connection, server.timeline, known.timeline)
-            if server.timeline > known.timeline
-            else None
-        )
+        is_later = server.timeline > known.timeline
+        left = left_at(connection, server.timeline, known.timeline) if is_later else None
         if left is None or position > left:
             self.note_history(server, left, position)
         shared = max(left or 0, position)
         log.warning(
             f"the server went on from the timeline {known.timeline} to {server.timeline} at {lsn_text(left or 0)}"
         )
-        self.checkpoint.write(
-            True, timeline=server.timeline, confirmed=min(known.confirmed, shared)
-        )
+        confirmed = min(known.confirmed, shared)
+        self.checkpoint.write(True, timeline=server.timeline, confirmed=confirmed)
         self.watch.show()
         return shared
 
@@ -162,14 +160,10 @@ class Fitting:
     def check_slot(self, position: int, check: Check) -> None:
         """Checks the slot again once it is ours: what somebody confirmed since it was looked at
         would be passed over."""
-        connection = Connection(
-            self.subscription.dsn, name=f"{self.subscription.slot} check", check=check
-        )
-        try:
+        dsn, slot = self.subscription.dsn, self.subscription.slot
+        with closing(Connection(dsn, name=f"{slot} check", check=check)) as connection:
             settle(connection)
-            slot_at = slot_position(connection, self.subscription.slot)
-        finally:
-            connection.close()
+            slot_at = slot_position(connection, slot)
         if slot_at is None:
             raise ServerError("another server answered")
         try:

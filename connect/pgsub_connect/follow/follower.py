@@ -6,23 +6,17 @@ from pgsub_feed import log
 from pgsub_feed.errors import FileError, Passing, Stopped, Unfit
 
 from ..add.adder import Adder
-from ..drift.remembered import Remembered
-from ..drift.tolerance import Tolerance
 from ..errors import LOGIN, Renewed, ServerError, Unconnected
 from ..server.lost_slot import Repeats
 from ..server.publications import with_cure
-from ..server.subscription import Subscription
-from ..status.progress import Progress
-from ..store.checkpoint import Checkpoint
+from ..stream.common import Common
 from ..stream.filter import Filter
 from ..stream.filter_end import FilterEnded
 from ..stream.missed_rows import Misses
 from ..stream.skip import Skipping
 from ..stream.statuses import Confirming
 from ..stream.stream_log import Noting
-from .common import Common
 from .drift_watch import Watch
-from .ending import Ending
 from .feed import Feeding
 from .filter_life import SLEEP, STEP, FilterLife
 from .fitness import Fitting
@@ -31,7 +25,7 @@ from .requests import Requests
 from .schedule import Delay, Schedule
 from .session import Session
 from .session_start import Recording, SessionStart
-from .settings import FollowSettings
+from .settings import Ending, FollowSettings
 from .snapshots import Snapshots
 from .stall import Standing
 from .stream_form import StreamForm
@@ -49,57 +43,33 @@ class Follower:
     def __init__(
         self,
         settings: FollowSettings,
-        subscription: Subscription,
-        tolerance: Tolerance,
-        checkpoint: Checkpoint,
+        common: Common,
         child: Filter,
-        progress: Progress,
         recording: Recording | None,
         snapshots: Snapshots,
-        remembered: Remembered,
         feeding: Feeding | None = None,
     ) -> None:
-        self.subscription, self.progress, self.snapshots = subscription, progress, snapshots
-        self.ending = ending = Ending(progress, settings.until)
-        self.noting = noting = Noting(progress.stream, remembered)
-        known, store, limits = (checkpoint, progress, remembered), settings.store, settings.limits
-        common = Common(subscription, tolerance, *known)
+        self.subscription, self.progress, self.snapshots = common[0], common.progress, snapshots
+        progress, store, limits = common.progress, settings.store, settings.limits
+        self.ending = Ending(progress, settings.until)
+        self.noting = Noting(progress.stream, common.remembered)
         self.watch = watch = Watch(common, settings.on_alter, store)
-        self.misses = misses = Misses(tolerance, *known)
-        self.confirming = confirming = Confirming(checkpoint, child, progress, noting, misses)
-        form = StreamForm(settings.proto, Skipping(settings.skip, *known))
-        told = child, progress, confirming, watch, form, ending
-        self.life = life = FilterLife(limits, *told, feeding)
-        schedule = Schedule(settings, progress, confirming, snapshots.hold)
-        self.standing = standing = Standing(child, progress)
-        upkeep = Upkeep(settings.silence, subscription, life, schedule, standing, ending)
-        passing = watch, noting, confirming
-        self.adder = Adder(subscription, store, limits, *known, *passing, snapshots.hold, upkeep)
-        repairing = Repairing(limits, *known, *passing, snapshots, upkeep, form)
-        self.serve_copies(form)
-        others = snapshots, self.adder, repairing
-        self.requests = requests = Requests(subscription, *others, upkeep, ending)
-        fitting = Fitting(subscription, tolerance, settings.no_copy, checkpoint, watch)
-        begun = settings, subscription, tolerance
-        self.start = SessionStart(*begun, life, fitting, requests, schedule, ending, recording)
-        self.delay, self.repeats = Delay(), Repeats(settings.store)
-        self.session = Session(
-            subscription, self.start, life, requests, schedule, standing, self.delay, ending
-        )
-
-    def serve_copies(self, form: StreamForm) -> None:
-        """Tells who copies the store for others what that depends on."""
-        self.snapshots.note_follower(
-            self.adder.take,
-            form.is_streaming,
-            self.confirming.reached,
-            self.progress.server.note_standbys,
-        )
-
-    def begin_after(self, was_connected: bool) -> None:
-        """Begins after what may have reached the server already: one that is lost from now on is
-        waited for."""
-        self.start.note_connected(was_connected)
+        self.misses = Misses(common)
+        self.confirming = confirming = Confirming(child, self.noting, self.misses)
+        form = StreamForm(settings.proto, Skipping(settings.skip, common))
+        self.life = FilterLife(limits, confirming, watch, form, self.ending, feeding)
+        schedule = Schedule(settings, confirming, snapshots.hold)
+        self.standing = Standing(child, progress)
+        upkeep = Upkeep(self.life, schedule, self.standing)
+        self.adder = Adder(common, store, limits, watch, confirming, snapshots.hold, upkeep)
+        repairing = Repairing(limits, watch, confirming, snapshots, upkeep, form)
+        asked = form.is_streaming, confirming.reached, progress.server.note_standbys
+        snapshots.note_follower(self.adder.take, *asked)
+        self.requests = Requests(self.adder, repairing, upkeep)
+        fitting = Fitting(settings.no_copy, watch)
+        self.start = SessionStart(settings, fitting, self.requests, recording)
+        self.delay, self.repeats = Delay(), Repeats(store)
+        self.session = Session(self.start, self.delay)
 
     def run(self) -> None:
         """Follows until a signal asks for the end. Raises where going on makes no sense."""

@@ -3,7 +3,8 @@
 It is a reader of the feed with a name, so that the feed has what it lacks, and begins with a copy
 of the store, for which it asks the follower as any other program does. It ends with the follower: a
 signal ends it, and where the follower is killed, the end of its input. A line of its input tells
-that the feed has more: until then it sleeps.
+that the feed has more: until then it sleeps. One with an LSN asks for a line of its output with the
+LSN that it has reached, once that is this one.
 """
 
 from __future__ import annotations
@@ -15,10 +16,11 @@ import subprocess
 import sys
 import threading
 import time
-from collections.abc import Mapping, Sequence
+from collections.abc import Callable, Mapping, Sequence
 from typing import IO
 
 from pgsub_feed import log
+from pgsub_feed.texts import lsn_text, parse_lsn
 
 from ..stream.filter import KEPT
 
@@ -38,29 +40,35 @@ CODE = f"{START}from pgsub_connect.cli import run; run()"
 
 def environment() -> dict[str, str]:
     """What each such process needs of the environment: not the passwords of a server."""
-    return {
-        name: value
-        for name, value in os.environ.items()
-        if name in KEPT or name.startswith("PYTHON")
-    }
+    names = [it for it in os.environ if it in KEPT or it.startswith("PYTHON")]
+    return {it: os.environ[it] for it in names}
 
 
 class ProcessBeside(threading.Thread):
     """Starts it, again and again where that may help, and tells how it ended. `name`: what it
     writes; `head`: what goes before its lines in the log; `environment`: what it has beside what
-    each has."""
+    each has; `wake` has the main loop look what it has told."""
 
     child: subprocess.Popen[bytes] | None
 
     def __init__(
-        self, name: str, head: str, words: Sequence[str], environment: Mapping[str, str] = {}
+        self,
+        name: str,
+        head: str,
+        words: Sequence[str],
+        environment: Mapping[str, str] = {},
+        wake: Callable[[], None] = lambda: None,
     ) -> None:
         super().__init__(daemon=True, name=name)
-        self.head, self.environment = head, environment
+        self.head, self.environment, self.wake = head, environment, wake
         self.words = [sys.executable, "-c", CODE, *words, "--while-input"]
         self.child = None
         self.lock, self.ended = threading.Lock(), threading.Event()
+        # the LSN that it has told, and the LSNs at which it is to tell its own
+        self.at, self.asked = 0, set[int]()
         self.said = ""
+        # the status with which it has ended for good
+        self.lasting = 0
 
     def run(self) -> None:
         delay = FIRST_DELAY
@@ -71,7 +79,7 @@ class ProcessBeside(threading.Thread):
             if self.ended.is_set():
                 return
             if status in LASTING:
-                error = self.said or f"status {status}"
+                self.lasting, error = status, self.said or f"status {status}"
                 self.note_error(error)
                 log.error(f"{self.name} follows no more, status {status}: {error}")
                 return
@@ -96,7 +104,10 @@ class ProcessBeside(threading.Thread):
                 log.warning(f"{self.name}: what follows can't be started now: {error.strerror}")
                 return PASSING
             self.child = child
+            # (what is waited for is asked of this one too)
+            self.asked = set()
             self.note_started()
+            self.wake()
         assert child.stdin and child.stdout and child.stderr
         telling = threading.Thread(target=self.hear_output, args=(child.stdout,), daemon=True)
         telling.start()
@@ -113,14 +124,9 @@ class ProcessBeside(threading.Thread):
     def launched(self) -> subprocess.Popen[bytes]:
         """A process of it, whose input doesn't block. (A session of its own: an interrupt at the
         terminal is for the follower, which ends it.)"""
-        pipe = subprocess.PIPE
+        pipe, own = subprocess.PIPE, {**environment(), **self.environment}
         child = subprocess.Popen(
-            self.words,
-            stdin=pipe,
-            stdout=pipe,
-            stderr=pipe,
-            start_new_session=True,
-            env={**environment(), **self.environment},
+            self.words, stdin=pipe, stdout=pipe, stderr=pipe, start_new_session=True, env=own
         )
         assert child.stdin
         os.set_blocking(child.stdin.fileno(), False)
@@ -133,6 +139,18 @@ class ProcessBeside(threading.Thread):
             if self.child and self.child.stdin and not self.child.stdin.closed:
                 return os.write(self.child.stdin.fileno(), f"{text}\n".encode()) > 0
         return False
+
+    def ask(self, lsn: int) -> None:
+        """Has it tell its LSN once it is this one or above."""
+        if lsn not in self.asked and self.tell(lsn_text(lsn)):
+            self.asked.add(lsn)
+
+    def hear_output(self, said: IO[bytes]) -> None:
+        """Notes what it tells of its LSN."""
+        for line in said:
+            with contextlib.suppress(ValueError):
+                self.at = parse_lsn(line.decode(errors="replace").strip())
+            self.wake()
 
     def hear(self, line: str) -> None:
         """Passes a line on, without its time and the name of this program."""
@@ -174,7 +192,9 @@ class ProcessBeside(threading.Thread):
     def note_error(self, error: str) -> None:
         """It has ended for good."""
 
-    def hear_output(self, said: IO[bytes]) -> None:
-        """Takes what it tells."""
-        for _ in said:
-            pass
+    def has(self, lsn: int) -> bool:
+        """Whether it has all up to this LSN, or follows no more."""
+        if self.at < lsn and self.is_alive():
+            self.ask(lsn)
+            return False
+        return True

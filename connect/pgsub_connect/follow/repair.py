@@ -25,14 +25,12 @@ What was found of the tables' rows before they were compared, and may have made 
 with the repair.
 """
 
-from __future__ import annotations
-
 import contextlib
 import os
 import stat
 import time
 from collections.abc import Iterator
-from typing import TYPE_CHECKING, Protocol
+from typing import Protocol
 
 from pgsub_feed import log
 from pgsub_feed.reader.commits import XID
@@ -41,20 +39,13 @@ from pgsub_feed.texts import counted, lsn_text
 from ..add.replacement import payload_of
 from ..copy.messages import begin, commit, frame
 from ..errors import ServerError
-from ..status.progress import Progress
 from ..stream.hold import CHANGES
 from ..stream.memory_limit import BufferLimits
 from ..stream.messages import EPOCH, relation_of
-
-if TYPE_CHECKING:
-    from ..drift.remembered import Remembered
-    from ..store.checkpoint import Checkpoint
-    from ..stream.statuses import Confirming
-    from ..stream.stream_log import Noting
-    from .drift_watch import Watch
-    from .snapshots import Snapshots
-    from .stream_form import StreamForm
-
+from ..stream.statuses import Confirming
+from .drift_watch import Watch
+from .snapshots import Snapshots
+from .stream_form import StreamForm
 
 # How many bytes of the file are passed on at a time.
 BLOCK = 1 << 17
@@ -113,31 +104,16 @@ class Repairing:
     def __init__(
         self,
         limits: BufferLimits,
-        checkpoint: Checkpoint,
-        progress: Progress,
-        remembered: Remembered,
         watch: Watch,
-        noting: Noting,
         confirming: Confirming,
         snapshots: Snapshots,
         stream: Stream,
         form: StreamForm,
     ) -> None:
-        self.limits, self.checkpoint, self.progress, self.remembered, self.watch = (
-            limits,
-            checkpoint,
-            progress,
-            remembered,
-            watch,
-        )
-        self.form = form
-        self.noting, self.confirming, self.snapshots, self.hold, self.stream = (
-            noting,
-            confirming,
-            snapshots,
-            snapshots.hold,
-            stream,
-        )
+        self.limits, self.watch, self.confirming, self.form = limits, watch, confirming, form
+        self.snapshots, self.hold, self.stream = snapshots, snapshots.hold, stream
+        self.checkpoint, self.progress = watch.checkpoint, watch.progress
+        self.remembered, self.noting = watch.remembered, confirming.noting
         # whether the session asks for whole transactions because of this, and whether it ends since
         # a repair is stored
         self.is_whole = self.ends_session = False
@@ -168,11 +144,8 @@ class Repairing:
         self.ends_session = self.is_shown = False
 
     def is_stored(self) -> bool:
-        return (
-            self.hold.is_sent
-            and self.hold.point is not None
-            and self.confirming.position >= self.hold.point
-        )
+        point = self.hold.point
+        return self.hold.is_sent and point is not None and self.confirming.position >= point
 
     def look(self) -> None:
         """Looks at the publications before the copy is taken: what was found up to here is of rows

@@ -10,6 +10,7 @@ that the others' requests come through.
 """
 
 import collections
+import contextlib
 import os
 import select
 import socket
@@ -84,13 +85,11 @@ class Client:
         if self.is_gone:
             return
         line = line_of(fields)
-        try:
-            is_said = self.socket.send(line) == len(line)
-        except OSError:
-            is_said = False
+        with contextlib.suppress(OSError):
+            if self.socket.send(line) == len(line):
+                return
         # (whoever leaves answers unread has no use for another one)
-        if not is_said:
-            self.close()
+        self.close()
 
     def end(self, **fields: object) -> None:
         """Gives the last answer."""
@@ -125,11 +124,9 @@ class RequestSocket:
 
     def wake(self) -> None:
         """Has the main loop look what another thread, or a signal, has done."""
-        try:
+        # (where that blocks it is about to look)
+        with contextlib.suppress(BlockingIOError):
             os.write(self.waker, b"\0")
-        except BlockingIOError:
-            # (it is about to look)
-            pass
 
     def rest(self, seconds: float) -> None:
         """Waits until there is something to do, for so many seconds at most."""
@@ -212,11 +209,9 @@ class RequestSocket:
         """Ends it. Its file goes as long as the checkpoint is locked."""
         for client in self.clients.values():
             client.close()
-        try:
+        # (somebody may remove the store's folder meanwhile)
+        with contextlib.suppress(OSError):
             os.unlink(self.path)
-        except OSError:
-            # (whoever removes the store's folder meanwhile)
-            pass
         self.listening.close()
         self.ready.close()
         os.close(self.woken)

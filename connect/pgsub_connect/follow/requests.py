@@ -6,11 +6,8 @@ import contextlib
 from pgsub_feed.errors import Stopped
 
 from ..add.adder import Adder
-from ..server.subscription import Subscription
 from ..stream.gate import WAITED, Gating
-from .ending import Ending
 from .repair import Repairing
-from .snapshots import Snapshots
 from .upkeep import Upkeep
 from .waits import Waits
 
@@ -18,22 +15,13 @@ from .waits import Waits
 class Requests:
     """Goes on with each of them between payloads."""
 
-    def __init__(
-        self,
-        subscription: Subscription,
-        snapshots: Snapshots,
-        adder: Adder,
-        repairing: Repairing,
-        upkeep: Upkeep,
-        ending: Ending,
-    ) -> None:
-        self.snapshots, self.hold, self.socket = snapshots, snapshots.hold, snapshots.requests
-        self.adder, self.repairing, self.upkeep, self.ending = adder, repairing, upkeep, ending
-        self.filter, self.confirming = upkeep.filter, upkeep.confirming
-        self.progress = upkeep.life.progress
-        self.gating = Gating(
-            subscription, self.progress, self.hold, upkeep.serve_server, self.let_go
-        )
+    def __init__(self, adder: Adder, repairing: Repairing, upkeep: Upkeep) -> None:
+        self.adder, self.repairing, self.upkeep = adder, repairing, upkeep
+        self.snapshots, self.hold = repairing.snapshots, repairing.hold
+        self.filter, self.confirming, self.ending = upkeep.filter, upkeep.confirming, upkeep.ending
+        self.progress, self.socket = upkeep.life.progress, self.snapshots.requests
+        asked = upkeep.subscription, self.progress, self.hold, upkeep.serve_server, self.let_go
+        self.gating = Gating(*asked)
         self.waits = Waits(self.socket, self.confirming.stored, upkeep.life.feeding)
         # the filter's status of which those who read beside the follower were told
         self.told = b""

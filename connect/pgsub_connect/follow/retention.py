@@ -1,6 +1,9 @@
 """Which segments of a feed are kept: old ones go, by their size, by their age, or once all readers
 have them.
 
+First rows beside the segments go with the first of these, without which they lead nowhere; they
+count as bytes of the feed, and go first where it has too many.
+
 A reader is known by its file `FOLDER/readers/NAME`. What it hasn't read stays, unless the feed
 would get larger than it may. The last segment stays, and whatever has the commit at the store's
 position or one above it, as opening the feed needs it.
@@ -12,8 +15,16 @@ import contextlib
 import dataclasses
 import os
 
-from pgsub_feed.errors import FileError
+from pgsub_feed.errors import Failure, FileError
 from pgsub_feed.files import NEW, remove
+from pgsub_feed.known_tables import KEYS
+from pgsub_feed.reader.base import (
+    base_bytes,
+    base_of_feed,
+    has_base,
+    remove_base,
+    remove_begun,
+)
 from pgsub_feed.reader.positions import READERS
 from pgsub_feed.reader.segments import CONFIRMED, segments
 from pgsub_feed.texts import parse_lsn
@@ -40,9 +51,11 @@ class Segment:
 
 @dataclasses.dataclass
 class Retired:
-    """What has gone: how many segments, and the readers that hadn't read them."""
+    """What has gone: how many segments, whether the first rows, and the readers that hadn't read
+    them."""
 
     segments: int = 0
+    base: bool = False
     readers: set[str] = dataclasses.field(default_factory=set)
 
 
@@ -78,13 +91,22 @@ def complete(folder: str) -> list[Segment]:
 
 
 def feed_bytes(folder: str) -> int:
-    """How many bytes the segments of a feed have."""
-    return sum(os.stat(os.path.join(folder, name)).st_size for _, name in segments(folder))
+    """How many bytes the segments of a feed have, and its first rows."""
+    return base_bytes(folder) + sum(
+        os.stat(os.path.join(folder, name)).st_size for _, name in segments(folder)
+    )
 
 
 def retire(folder: str, limits: Limits, position: int, now: float) -> Retired:
     """Removes old segments: of those before the one that has the commit at the store's position."""
+    remove_begun(folder)
     readers, total, retired = read_readers(folder), feed_bytes(folder), Retired()
+    size = base_bytes(folder)
+    if size and limits.most_bytes is not None and total > limits.most_bytes:
+        remove_base(folder)
+        total, retired.base = total - size, True
+        # (those that have none of them yet)
+        retired.readers |= {name for name, lsn in readers.items() if not lsn}
     for it in complete(folder):
         behind = {name for name, lsn in readers.items() if lsn < it.end}
         is_too_much = limits.most_bytes is not None and total > limits.most_bytes
@@ -97,15 +119,27 @@ def retire(folder: str, limits: Limits, position: int, now: float) -> Retired:
         total -= it.size
         retired.segments += 1
         retired.readers |= behind
+    if has_base(folder) and is_behind(folder):
+        remove_base(folder)
+        retired.base = True
     return retired
+
+
+def is_behind(folder: str) -> bool:
+    """Whether the feed doesn't go on from its first rows any more."""
+    with contextlib.suppress(Failure):
+        return base_of_feed(folder, [base for base, _ in segments(folder)], None) is None
+    return False
 
 
 def remove_feed(folder: str) -> None:
     """Removes a feed and what its readers have noted. What else is there stays, with the folder."""
     readers = os.path.join(folder, READERS)
-    names = [name for _, name in segments(folder)] + [CONFIRMED, CONFIRMED + NEW]
+    names = [name for _, name in segments(folder)]
+    names += [it + end for it in (CONFIRMED, KEYS) for end in ("", NEW)]
     for path in [os.path.join(folder, it) for it in names]:
         remove(path)
+    remove_base(folder)
     with contextlib.suppress(FileNotFoundError):
         for it in list(os.scandir(readers)):
             if it.is_file(follow_symlinks=False):

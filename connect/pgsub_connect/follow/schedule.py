@@ -4,7 +4,6 @@ and when the next one begins."""
 import time
 
 from ..errors import ServerError
-from ..status.progress import Progress
 from ..stream.awake import NEEDED, Awake, processors
 from ..stream.gate import LOOK as GATE
 from ..stream.hold import Hold
@@ -22,18 +21,15 @@ ASK = 0.3
 class Schedule:
     """The times of a session."""
 
-    def __init__(
-        self, settings: FollowSettings, progress: Progress, confirming: Confirming, hold: Hold
-    ) -> None:
+    def __init__(self, settings: FollowSettings, confirming: Confirming, hold: Hold) -> None:
         self.silence, self.longest_heartbeat = settings.silence, settings.heartbeat
-        self.progress, self.confirming, self.hold = progress, confirming, hold
+        self.confirming, self.hold = confirming, hold
         self.heartbeat = settings.heartbeat
         # when the server was heard last, as far as anything of it was waited for
         self.heard = time.monotonic()
         # how statuses and commits are waited for where commits at the server wait for this
-        self.for_statuses, self.for_commits = (
-            (Awake(), Awake()) if processors() >= NEEDED else (None, None)
-        )
+        is_enough = processors() >= NEEDED
+        self.for_statuses, self.for_commits = (Awake(), Awake()) if is_enough else (None, None)
 
     def begin_session(self, sender_timeout: float | None) -> None:
         """Statuses are repeated often enough for a server that waits for them so long; None where it
@@ -57,7 +53,7 @@ class Schedule:
     def awake(self) -> Awake | None:
         """Waits for what the filter says of a commit, or for the next one, where commits at the
         server wait for that."""
-        if not self.progress.server.is_waited_for:
+        if not self.confirming.progress.server.is_waited_for:
             return None
         return self.for_statuses if self.confirming.noting.ends else self.for_commits
 
@@ -79,9 +75,8 @@ class Schedule:
         if silent > limit:
             raise self.silent_error()
         waits = self.hold.is_going()
-        if time.monotonic() - self.confirming.last_sent >= (
-            ASK if waits else min(self.heartbeat, limit / 4)
-        ):
+        every = ASK if waits else min(self.heartbeat, limit / 4)
+        if time.monotonic() - self.confirming.last_sent >= every:
             self.confirming.repeat(asks=waits or silent > limit / 2)
 
 

@@ -44,19 +44,14 @@ class SlotWarning:
         return "close" if safe < most // (FAR if self.state == "close" else CLOSE) else ""
 
     def tell(self, safe: int, most: int) -> None:
-        slot = f"the slot {self.slot}"
-        if self.state == "close":
-            log.warning(
-                f"{slot} is lost after {counted(safe, 'byte')} of log more (max_slot_wal_keep_size is {most}): following is too slow"
-            )
-        elif self.state == "unreserved":
-            log.warning(
-                f"{slot} is lost at the server's next checkpoint, unless it is followed up to then (wal_status unreserved)"
-            )
-        elif self.state == "lost":
-            log.warning(
-                f"{slot} is lost: the server has removed log that wasn't followed. Drop it and copy anew"
-            )
+        slot, size = f"the slot {self.slot}", f"{counted(safe, 'byte')} of log more"
+        texts = {
+            "close": f" after {size} (max_slot_wal_keep_size is {most}): following is too slow",
+            "unreserved": " at the server's next checkpoint, unless it is followed up to then (wal_status unreserved)",
+            "lost": ": the server has removed log that wasn't followed. Drop it and copy anew",
+        }
+        if self.state:
+            log.warning(f"{slot} is lost{texts[self.state]}")
         else:
             log.info(f"{slot} is safe again")
 
@@ -102,17 +97,11 @@ class Asker(threading.Thread):
 
     @understood("its settings")
     def connect(self) -> Connection:
-        self.connection = Connection(
-            self.subscription.dsn,
-            name=f"{self.subscription.slot} status",
-            quiet=True,
-            check=self.check,
-        )
+        dsn, name = self.subscription.dsn, f"{self.subscription.slot} status"
+        self.connection = Connection(dsn, name=name, quiet=True, check=self.check)
         self.started = postmaster_start(self.connection)
-        text = self.connection.value(
-            "SELECT pg_catalog.pg_size_bytes(pg_catalog.current_setting('max_slot_wal_keep_size', true))",
-            QUICK,
-        )
+        query = "SELECT pg_catalog.pg_size_bytes(pg_catalog.current_setting('max_slot_wal_keep_size', true))"
+        text = self.connection.value(query, QUICK)
         self.most = int(text) if text else -1
         return self.connection
 
@@ -125,9 +114,8 @@ class Asker(threading.Thread):
     def note(self, connection: Connection) -> None:
         """Asks, and notes what the server says."""
         progress, asked = self.progress, time.time()
-        columns = (
-            "s.wal_status, s.safe_wal_size" if connection.version() >= SAFETY else "NULL, NULL"
-        )
+        is_told = connection.version() >= SAFETY
+        columns = "s.wal_status, s.safe_wal_size" if is_told else "NULL, NULL"
         standby, end, flushed, segment, clock, standbys, there, status, safe = connection.rows(
             f"SELECT pg_catalog.pg_is_in_recovery(), {END}, pg_catalog.date_part('epoch', pg_catalog.clock_timestamp()),"
             f" pg_catalog.current_setting('synchronous_standby_names'), s.slot_name, {columns} FROM (SELECT 1) one"

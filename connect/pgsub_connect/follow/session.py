@@ -8,15 +8,11 @@ from pgsub_feed import log
 from ..drift.findings import NOTHING, PUBLICATION, About
 from ..errors import ServerError
 from ..server.connection import Connection
-from ..server.subscription import Subscription
 from ..stream.filter_end import FilterEnded
 from ..stream.filter_input import PIECE
-from .ending import Ending
-from .filter_life import STEP, FilterLife, check_end
-from .requests import Requests
-from .schedule import Delay, Schedule
+from .filter_life import STEP, check_end
+from .schedule import Delay
 from .session_start import SessionStart
-from .stall import Standing
 
 
 class Session:
@@ -24,26 +20,13 @@ class Session:
 
     connection: Connection | None
 
-    def __init__(
-        self,
-        subscription: Subscription,
-        start: SessionStart,
-        life: FilterLife,
-        requests: Requests,
-        schedule: Schedule,
-        standing: Standing,
-        delay: Delay,
-        ending: Ending,
-    ) -> None:
-        self.subscription, self.start, self.life, self.requests = (
-            subscription,
-            start,
-            life,
-            requests,
-        )
-        self.schedule, self.standing, self.delay, self.ending = schedule, standing, delay, ending
+    def __init__(self, start: SessionStart, delay: Delay) -> None:
+        self.start, self.delay, self.recording = start, delay, start.recording
+        self.life, self.schedule, self.ending = start.life, start.schedule, start.ending
+        self.requests, self.hold = start.requests, start.requests.hold
+        self.standing, life = start.requests.upkeep.standing, start.life
         self.filter, self.confirming, self.noting = life.filter, life.confirming, life.noting
-        self.progress, self.hold, self.recording = life.progress, requests.hold, start.recording
+        self.progress = life.progress
         self.connection = None
         # for how long nothing has come, as far as it was waited for
         self.silent = 0.0
@@ -101,13 +84,8 @@ class Session:
             self.confirming.forward(statuses)
         # (what was read already of an encrypted connection doesn't wake select, nor what is read
         # where a flush would block)
-        may_have_come = (
-            socket in readable
-            or socket in writable
-            or connection.is_wrapped()
-            or not (readable or writable)
-        )
-        if room and not more and may_have_come:
+        is_ready = socket in readable or socket in writable or not (readable or writable)
+        if room and not more and (is_ready or connection.is_wrapped()):
             connection.consume()
             more = True
         return self.take_payloads(connection) if room and more else more
@@ -115,12 +93,10 @@ class Session:
     def take_payloads(self, connection: Connection) -> bool | None:
         """Passes on what has come. Returns false where there is no more yet, true where there may
         be, None after the end."""
-        hold = self.hold
-        payloads, more = (
-            (hold.take_kept(), True)
-            if hold.kept
-            else connection.payloads(self.filter.room(), PIECE)
-        )
+        hold, more = self.hold, True if self.hold.kept else None
+        payloads = hold.take_kept()
+        if more is None:
+            payloads, more = connection.payloads(self.filter.room(), PIECE)
         if not payloads:
             return more
         if hold.limit() is not None:
@@ -144,6 +120,13 @@ class Session:
         """Looks at the publications, where it is time. Returns whether a look is still wanted."""
         serve, position = self.requests.upkeep.serve_server, self.confirming.position
         return self.life.watch.tend(self.noting.relation_log.wants_look, serve, position)
+
+    def look_last(self) -> None:
+        """Takes the look that is due by now: readers may wait for what it tells of keys."""
+        relations, watch = self.noting.relation_log, self.life.watch
+        if relations.wants_look:
+            is_done = watch.look_again(self.progress.beat, self.confirming.position)
+            relations.note_look(not is_done)
 
     def keep_on(self, began: float) -> None:
         """Does what is due by now. Raises where the session makes no sense any more."""
@@ -190,9 +173,8 @@ class Session:
         """
         while said:
             text = said.pop(0)
-            names = sorted(
-                (name for name in self.subscription.publications if name in text), key=len
-            )
+            publications = self.start.subscription.publications
+            names = sorted((name for name in publications if name in text), key=len)
             about = About(publication=names[-1], is_missing=True) if names else NOTHING
             text = f"the server leaves out changes from before a publication was made: {text}"
             remembered = self.life.watch.remembered
@@ -201,6 +183,7 @@ class Session:
     def end(self) -> None:
         """Ends the filter's input, sends what it still confirms, and ends the session."""
         self.progress.enter("stopping")
+        self.look_last()
         self.filter.finish()
         try:
             while True:

@@ -5,18 +5,13 @@ from typing import Protocol
 from pgsub_feed import log
 from pgsub_feed.texts import lsn_text
 
-from ..drift.tolerance import Tolerance
 from ..errors import ServerError
 from ..record.recording import Session as Recorded
 from ..server.connection import COPY_BOTH, Connection
 from ..server.lost_slot import lost_error
 from ..server.session import Server, identify, is_lost, log_end, sender_timeout, settle
-from ..server.subscription import Subscription
-from .ending import Ending
-from .filter_life import FilterLife
 from .fitness import Fitting
 from .requests import Requests
-from .schedule import Schedule
 from .settings import FollowSettings
 
 # What a standby says that can't be followed: it has no such feature, or the slot is one that it
@@ -40,20 +35,16 @@ class SessionStart:
     def __init__(
         self,
         settings: FollowSettings,
-        subscription: Subscription,
-        tolerance: Tolerance,
-        life: FilterLife,
         fitting: Fitting,
         requests: Requests,
-        schedule: Schedule,
-        ending: Ending,
         recording: Recording | None,
     ) -> None:
-        self.settings, self.subscription, self.tolerance = settings, subscription, tolerance
-        self.life, self.fitting, self.requests = life, fitting, requests
-        self.schedule, self.ending, self.recording = schedule, ending, recording
+        self.settings, self.fitting, self.requests = settings, fitting, requests
+        self.recording, self.schedule = recording, requests.upkeep.schedule
+        self.subscription, self.tolerance = fitting.subscription, fitting.tolerance
+        self.life = life = requests.upkeep.life
         self.filter, self.confirming, self.form = life.filter, life.confirming, life.form
-        self.progress = life.progress
+        self.progress, self.ending = life.progress, life.ending
         self.was_connected = False
 
     def note_connected(self, was_connected: bool) -> None:
@@ -118,10 +109,8 @@ class SessionStart:
         """Has what takes part in a session begin it, which tells what it asks for, and reads the
         settings that it depends on."""
         noting, form = self.life.noting, self.form
-        self.progress.server.note_name(
-            connection.parameter("application_name"),
-            connection.text("SHOW synchronous_standby_names"),
-        )
+        standbys = connection.text("SHOW synchronous_standby_names")
+        self.progress.server.note_name(connection.parameter("application_name"), standbys)
         # (on another connection: what a session's process has in its caches, it would decode older
         # changes by)
         if not self.life.watch.look_again(self.ending.check_stop, self.confirming.position):
@@ -142,11 +131,8 @@ class SessionStart:
         try:
             connection.run(command, wanted=COPY_BOTH, limit=self.settings.silence)
         except ServerError as error:
-            if (
-                server.is_standby
-                and error.sqlstate.startswith(NOT_AT_STANDBYS)
-                and not is_lost(connection, slot)
-            ):
+            is_not_there = server.is_standby and error.sqlstate.startswith(NOT_AT_STANDBYS)
+            if is_not_there and not is_lost(connection, slot):
                 raise ServerError(f"the server is a standby: {error}") from None
             if not error.sqlstate:
                 raise

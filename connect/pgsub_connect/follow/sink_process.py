@@ -24,8 +24,9 @@ class SinkSettings:
         """The URL without name and password, which may be after a `?` too, by which it is called."""
         scheme, _, rest = self.url.partition("://")
         place, _, query = rest.partition("?")
-        database = urllib.parse.parse_qs(query).get("db", [])[:1]
-        return f"{scheme}://{place.rpartition('@')[2]}" + "".join(f"?db={it}" for it in database)
+        words = urllib.parse.parse_qs(query)
+        told = [f"?{it}={words[it][0]}" for it in ("db", "topic.prefix") if it in words]
+        return f"{scheme}://{place.rpartition('@')[2]}{''.join(told)}"
 
     def reader(self) -> str:
         """Its name as a reader of the feed."""

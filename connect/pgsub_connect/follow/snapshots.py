@@ -3,6 +3,7 @@ runs."""
 
 from __future__ import annotations
 
+import contextlib
 import os
 import sqlite3
 import threading
@@ -146,9 +147,8 @@ class Snapshots:
         """Why nothing can be copied to a file, "" where it can."""
         if into is None:
             return "it names no file"
-        folders = {
-            os.path.realpath(os.path.dirname(it)) for it in (into, os.path.abspath(self.store))
-        }
+        files = into, os.path.abspath(self.store)
+        folders = {os.path.realpath(os.path.dirname(it)) for it in files}
         if len(folders) > 1 or os.path.lexists(into):
             return "the copy has to be a new file in the store's folder"
         return ""
@@ -208,9 +208,8 @@ class Snapshots:
         rows are repaired."""
         reached = self.reached() if self.hold.keeps else self.hold.gate or 0
         if point <= reached:
-            self.reject(
-                f"its slot is at {lsn_text(point)}, and the stream at {lsn_text(reached)}: is it of a standby behind?"
-            )
+            places = f"its slot is at {lsn_text(point)}, and the stream at {lsn_text(reached)}"
+            self.reject(f"{places}: is it of a standby behind?")
             self.hold.end()
         else:
             self.hold.go(point)
@@ -297,11 +296,9 @@ class Snapshots:
     def clear(self, path: str) -> None:
         """Removes what is there of a copy that isn't whole."""
         for suffix in OF_FILE:
-            try:
+            # (what was in the way before is told)
+            with contextlib.suppress(OSError):
                 remove(path + NEW + suffix)
-            except OSError:
-                # (what was in the way before is told)
-                pass
         self.last = None
 
     def fail(self, path: str, into: str | None, why: str) -> None:
@@ -357,9 +354,7 @@ class Finishing(threading.Thread):
 
 def path_of(said: object) -> str | None:
     """The path of a file that a request names; None where what it says is none."""
-    if not isinstance(said, str) or "\0" in said:
-        return None
-    try:
-        return os.path.abspath(os.fsdecode(os.fsencode(said)))
-    except UnicodeEncodeError:
-        return None
+    with contextlib.suppress(UnicodeEncodeError):
+        if isinstance(said, str) and "\0" not in said:
+            return os.path.abspath(os.fsdecode(os.fsencode(said)))
+    return None

@@ -1,13 +1,11 @@
 """Keeps the server and the filter content while something else is waited for, or takes long."""
 
-import contextlib
 import time
+from contextlib import closing
 
 from ..errors import ServerError
 from ..server.connection import Connection
 from ..server.session import postmaster_start
-from ..server.subscription import Subscription
-from .ending import Ending
 from .filter_life import STEP, FilterLife
 from .schedule import Schedule
 from .stall import Standing
@@ -16,33 +14,17 @@ from .stall import Standing
 class Upkeep:
     """What a session's own loop does, for others that wait within it."""
 
-    def __init__(
-        self,
-        silence: float,
-        subscription: Subscription,
-        life: FilterLife,
-        schedule: Schedule,
-        standing: Standing,
-        ending: Ending,
-    ) -> None:
-        self.silence, self.subscription, self.life, self.schedule = (
-            silence,
-            subscription,
-            life,
-            schedule,
-        )
-        self.filter, self.confirming = life.filter, life.confirming
-        self.standing, self.ending = standing, ending
+    def __init__(self, life: FilterLife, schedule: Schedule, standing: Standing) -> None:
+        self.life, self.schedule, self.standing = life, schedule, standing
+        self.filter, self.confirming, self.ending = life.filter, life.confirming, life.ending
+        self.subscription = life.watch.subscription
 
     def serve_server(self) -> None:
         """Keeps the server content while another connection is waited for, or a copy is made.
         Raises where the end was asked for."""
         self.ending.check_stop()
-        if (
-            self.confirming.connection
-            and self.filter.is_running()
-            and self.schedule.is_status_due()
-        ):
+        is_open = self.confirming.connection and self.filter.is_running()
+        if is_open and self.schedule.is_status_due():
             self.confirming.repeat()
 
     def attend(self) -> None:
@@ -53,7 +35,7 @@ class Upkeep:
             self.life.misses.tell()
         self.require_server()
         self.schedule.keep_alive(0.0)
-        self.standing.check(self.silence)
+        self.standing.check(self.schedule.silence)
 
     def require_server(self) -> None:
         """Asks the server on another connection whether it is there, where nothing has come for too
@@ -61,16 +43,11 @@ class Upkeep:
         for."""
         if not self.schedule.is_silent():
             return
+        subscription = self.subscription
         try:
-            connection = Connection(
-                self.subscription.dsn,
-                name=f"{self.subscription.slot} check",
-                quiet=True,
-                check=self.serve_server,
-            )
-            with contextlib.closing(connection):
-                started = self.life.progress.server.started
-                is_there = postmaster_start(connection) == started
+            dsn, name, check = subscription.dsn, f"{subscription.slot} check", self.serve_server
+            with closing(Connection(dsn, name=name, quiet=True, check=check)) as connection:
+                is_there = postmaster_start(connection) == self.life.progress.server.started
         except ServerError as error:
             # (who is turned away was answered)
             is_there = bool(error.sqlstate)

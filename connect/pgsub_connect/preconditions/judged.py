@@ -9,21 +9,8 @@ from ..server.connection import Connection
 from ..server.preflight import Facts, role_facts, server_facts, tables_facts
 from ..server.publication_setup import REFUSED
 from ..server.replica_identity import members
-from .publication import judge_publications
+from . import publication, server, slot
 from .result import ERROR, FAILOVER, Judged, Purpose, Result, version_text
-from .role import judge_reading, judge_role
-from .server import (
-    judge_connection,
-    judge_encoding,
-    judge_prepared,
-    judge_sender_timeout,
-    judge_senders,
-    judge_standby,
-    judge_version,
-    judge_wal_level,
-)
-from .slot import judge_keeping, judge_slot, judge_slots
-from .tables import judge_identities, judge_locks
 
 # SQL's word for a right that is missing
 DENIED = "42501"
@@ -32,22 +19,22 @@ DENIED = "42501"
 # begins.)
 REQUIRED = ("version", "wal_level", "replication_slots", "standby", "encoding")
 JUDGES: tuple[Callable[[Facts, Purpose], Judged], ...] = (
-    judge_version,
-    judge_wal_level,
-    judge_slots,
-    judge_senders,
-    judge_role,
-    judge_publications,
-    judge_identities,
-    judge_reading,
-    judge_slot,
-    judge_keeping,
-    judge_sender_timeout,
-    judge_connection,
-    judge_standby,
-    judge_prepared,
-    judge_locks,
-    judge_encoding,
+    server.judge_version,
+    server.judge_wal_level,
+    slot.judge_slots,
+    server.judge_senders,
+    server.judge_role,
+    publication.judge_publications,
+    publication.judge_identities,
+    server.judge_reading,
+    slot.judge_slot,
+    slot.judge_keeping,
+    server.judge_sender_timeout,
+    server.judge_connection,
+    server.judge_standby,
+    server.judge_prepared,
+    publication.judge_locks,
+    server.judge_encoding,
 )
 
 
@@ -56,14 +43,14 @@ def results(facts: Facts, purpose: Purpose) -> list[Result]:
     return [result for judge in JUDGES for result in judge(facts, purpose)]
 
 
-def require(connection: Connection, slot: str, copies: bool, failover: bool) -> None:
+def require(connection: Connection, name: str, copies: bool, failover: bool) -> None:
     """Ends a start where the server can't do, before anything is made there."""
-    facts = server_facts(connection, slot)
+    facts = server_facts(connection, name)
     if failover and facts.version < FAILOVER:
         raise UsageError(
             f"--failover needs PostgreSQL 17, and this is {version_text(facts.version)}"
         )
-    for result in results(facts, Purpose(slot, copies=copies, failover=failover)):
+    for result in results(facts, Purpose(name, copies=copies, failover=failover)):
         if result.level == ERROR and result.name in REQUIRED:
             raise ServerError(f"{result.name}: {result.text}", REFUSED)
 
@@ -74,6 +61,6 @@ def require_reading(connection: Connection, publications: list[str]) -> None:
         role=role_facts(connection),
         tables=tables_facts(connection, " UNION ".join(map(members, publications))),
     )
-    texts = [it.text for it in judge_reading(facts, Purpose()) if it.level == ERROR]
+    texts = [it.text for it in server.judge_reading(facts, Purpose()) if it.level == ERROR]
     if texts:
         raise ServerError("; ".join(texts), DENIED)

@@ -7,14 +7,8 @@ from ..server.preflight import Facts
 
 OK, WARNING, ERROR = "ok", "warning", "error"
 # what a version of the server has first
-OLDEST, COPIES, STREAMS, FILTERS, STANDBYS, FAILOVER = (
-    100000,
-    120000,
-    140000,
-    150000,
-    160000,
-    170000,
-)
+OLDEST, COPIES, STREAMS = 100000, 120000, 140000
+FILTERS, STANDBYS, FAILOVER = 150000, 160000, 170000
 
 
 @dataclasses.dataclass
@@ -24,6 +18,18 @@ class Result:
     level: str
     name: str
     text: str
+
+
+def ok(name: str, text: str) -> Result:
+    return Result(OK, name, text)
+
+
+def warning(name: str, text: str) -> Result:
+    return Result(WARNING, name, text)
+
+
+def error(name: str, text: str) -> Result:
+    return Result(ERROR, name, text)
 
 
 @dataclasses.dataclass

@@ -1,66 +1,57 @@
-"""The server: its version, its settings, and how it is reached."""
+"""The server: its version, its settings, how it is reached, and what the role may do there."""
+
+from pgsub_feed.texts import counted
 
 from ..server.preflight import Facts
 from ..server.publication_setup import names_of
 from ..server.transport import CURE
 from .result import (
     COPIES,
-    ERROR,
     FAILOVER,
     FILTERS,
-    OK,
     OLDEST,
     STANDBYS,
     STREAMS,
-    WARNING,
     Judged,
     Purpose,
-    Result,
+    error,
     number,
+    ok,
     version_text,
+    warning,
 )
 
 # A walsender that has to answer more often than this may be given up by the server for a pause.
 SHORTEST_TIMEOUT = 5000
+# What servers before a version lack.
+LACKING = {
+    130000: "no partitioned tables in publications",
+    STREAMS: "large transactions come whole, by protocol version 1",
+    FILTERS: "no row filters and column lists",
+}
 
 
 def judge_version(facts: Facts, purpose: Purpose) -> Judged:
     version = facts.version
     text = f"PostgreSQL {version_text(version)}"
-    lacks = [
-        what
-        for since, what in (
-            (130000, "no partitioned tables in publications"),
-            (STREAMS, "large transactions come whole, by protocol version 1"),
-            (FILTERS, "no row filters and column lists"),
-        )
-        if version < since
-    ]
+    lacks = [what for since, what in LACKING.items() if version < since]
     if version < OLDEST:
-        yield Result(ERROR, "version", f"{text}: logical replication needs 10")
+        yield error("version", f"{text}: logical replication needs 10")
     elif version < COPIES and purpose.copies and not purpose.has_store:
-        yield Result(
-            ERROR, "version", f"{text}: the initial copy needs 12; --no-copy begins without rows"
-        )
+        yield error("version", f"{text}: the initial copy needs 12; --no-copy begins without rows")
     else:
-        yield Result(OK, "version", "; ".join([text, *lacks]))
+        yield ok("version", "; ".join([text, *lacks]))
     if purpose.failover:
         if version < FAILOVER:
-            yield Result(ERROR, "failover", f"{text}: slots with --failover need 17")
+            yield error("failover", f"{text}: slots with --failover need 17")
         else:
-            yield Result(OK, "failover", "slots can be handed on to standbys")
+            yield ok("failover", "slots can be handed on to standbys")
 
 
 def judge_wal_level(facts: Facts, purpose: Purpose) -> Judged:
     level = facts.settings.get("wal_level", "")
-    if level == "logical":
-        yield Result(OK, "wal_level", level)
-    else:
-        yield Result(
-            ERROR,
-            "wal_level",
-            f"{level}: it has to be logical, which needs a restart of the server",
-        )
+    why = f"{level}: it has to be logical, which needs a restart of the server"
+    yield ok("wal_level", level) if level == "logical" else error("wal_level", why)
 
 
 def judge_senders(facts: Facts, purpose: Purpose) -> Judged:
@@ -68,68 +59,87 @@ def judge_senders(facts: Facts, purpose: Purpose) -> Judged:
     free = max(most - facts.senders, 0)
     text = f"{free} of max_wal_senders = {most} free"
     if free < 1 and not (facts.slot and facts.slot.is_active):
-        yield Result(ERROR, "wal_senders", f"{text}, 1 needed")
+        yield error("wal_senders", f"{text}, 1 needed")
     else:
-        yield Result(OK, "wal_senders", text)
+        yield ok("wal_senders", text)
     if facts.replication_error:
-        yield Result(ERROR, "replication_connection", facts.replication_error)
+        yield error("replication_connection", facts.replication_error)
 
 
 def judge_sender_timeout(facts: Facts, purpose: Purpose) -> Judged:
     milliseconds = number(facts, "wal_sender_timeout")
     if milliseconds <= 0:
         text = "no limit: a connector that hangs is never given up, and may keep the server's checkpoints waiting; 1min is the default"
-        yield Result(WARNING, "wal_sender_timeout", text)
+        yield warning("wal_sender_timeout", text)
     elif milliseconds < SHORTEST_TIMEOUT:
-        yield Result(
-            WARNING, "wal_sender_timeout", f"{milliseconds} ms: any pause may end a session"
-        )
+        yield warning("wal_sender_timeout", f"{milliseconds} ms: any pause may end a session")
     else:
-        yield Result(OK, "wal_sender_timeout", f"{milliseconds} ms")
+        yield ok("wal_sender_timeout", f"{milliseconds} ms")
 
 
 def judge_connection(facts: Facts, purpose: Purpose) -> Judged:
     """What is verified of the server, and whether others can read along."""
-    protection = facts.protection
-    if protection.is_safe():
-        yield Result(OK, "tls", protection.text())
-    else:
-        yield Result(WARNING, "tls", f"{protection.text()}; {CURE}")
+    it, text = facts.protection, facts.protection.text()
+    yield ok("tls", text) if it.is_safe() else warning("tls", f"{text}; {CURE}")
 
 
 def judge_standby(facts: Facts, purpose: Purpose) -> Judged:
     if not facts.is_standby:
-        yield Result(OK, "standby", "not a standby")
+        yield ok("standby", "not a standby")
     elif facts.version < STANDBYS:
-        yield Result(
-            ERROR,
-            "standby",
-            f"PostgreSQL {version_text(facts.version)} can't be followed at a standby, which needs 16",
-        )
+        text = f"PostgreSQL {version_text(facts.version)}"
+        yield error("standby", f"{text} can't be followed at a standby, which needs 16")
     else:
-        yield Result(
-            WARNING,
-            "standby",
-            "a standby: a copy waits until the primary logs its running transactions",
-        )
+        text = "a standby: a copy waits until the primary logs its running transactions"
+        yield warning("standby", text)
 
 
 def judge_prepared(facts: Facts, purpose: Purpose) -> Judged:
     if facts.prepared and not purpose.has_store:
-        yield Result(
-            WARNING,
-            "prepared_transactions",
-            f"a copy waits for the end of {names_of(facts.prepared)}",
-        )
+        text = f"a copy waits for the end of {names_of(facts.prepared)}"
+        yield warning("prepared_transactions", text)
     else:
-        yield Result(OK, "prepared_transactions", "none in the way")
+        yield ok("prepared_transactions", "none in the way")
 
 
 def judge_encoding(facts: Facts, purpose: Purpose) -> Judged:
     encoding = facts.settings.get("server_encoding", "")
-    if encoding == "SQL_ASCII":
-        yield Result(
-            WARNING, "encoding", "SQL_ASCII: text that isn't UTF-8 ends the copy, or the following"
-        )
+    text = f"{encoding}: text that isn't UTF-8 ends the copy, or the following"
+    is_any = encoding == "SQL_ASCII"
+    yield warning("encoding", text) if is_any else ok("encoding", encoding)
+
+
+def judge_role(facts: Facts, purpose: Purpose) -> Judged:
+    """By the server's word: some let in members of a role of their own, as Amazon RDS those of
+    rds_replication."""
+    role = facts.role
+    if role.replicates or facts.has_replicated:
+        why = "" if role.replicates else ", since the server has let it"
+        yield ok("role", f"{role.name} may replicate{why}")
     else:
-        yield Result(OK, "encoding", encoding)
+        granted = f", or GRANT {facts.replicators} TO {role.name}" if facts.replicators else ""
+        cure = f"ALTER ROLE {role.name} REPLICATION{granted}"
+        yield error("role", f"{role.name} lacks REPLICATION: {cure}")
+
+
+def judge_reading(facts: Facts, purpose: Purpose) -> Judged:
+    """Whether the role can read the rows for a copy."""
+    if purpose.has_store or not purpose.copies:
+        return
+    tables, role = facts.tables, facts.role.name
+    closed = [table.name for table in tables if not table.reaches_schema]
+    partly = [table.name for table in tables if not table.reads and table.reads_columns]
+    denied = [table.name for table in tables if not table.reads and not table.reads_columns]
+    hidden = [table.name for table in tables if table.hides_rows]
+    if closed:
+        yield error("select", f"{role} lacks USAGE on the schemas of: {names_of(closed)}")
+    if denied:
+        yield error("select", f"{role} lacks SELECT on: {names_of(denied)}")
+    if partly:
+        text = "may read some columns alone; the copy locks a table while it reads, which needs SELECT on all of it"
+        yield error("select", f"{role} {text}: {names_of(partly)}")
+    if hidden:
+        text = f"policies hide rows from {role}, which BYPASSRLS ends: {names_of(hidden)}"
+        yield error("row_security", text)
+    if not closed + denied + partly + hidden:
+        yield ok("select", f"{role} can read {counted(len(tables), 'table')}")

@@ -101,10 +101,9 @@ class Recorder(Worker):
         )
         settle(connection)
         if connection.version() < STREAMS:
-            if self.settings.asks_for:
-                raise UsageError(
-                    f"--{self.settings.asks_for[0]} needs PostgreSQL 14, and this is {connection.parameter('server_version')}"
-                )
+            version = connection.parameter("server_version")
+            for it in self.settings.asks_for:
+                raise UsageError(f"--{it} needs PostgreSQL 14, and this is {version}")
             if self.proto == 2:
                 tell_version_1()
                 self.proto = 1
@@ -123,24 +122,17 @@ class Recorder(Worker):
         try:
             if settings.is_temporary:
                 settle_for_slot(connection)
-                connection.run(
-                    f"CREATE_REPLICATION_SLOT {identifier(self.subscription.slot)} TEMPORARY LOGICAL pgoutput NOEXPORT_SNAPSHOT"
-                )
+                slot = identifier(self.subscription.slot)
+                how = "TEMPORARY LOGICAL pgoutput NOEXPORT_SNAPSHOT"
+                connection.run(f"CREATE_REPLICATION_SLOT {slot} {how}")
                 unsettle_for_slot(connection)
                 log.info("recording from now on: make changes now")
             if settings.until == "now":
                 self.until = log_end(connection)
             connection.run(self.command(), wanted=COPY_BOTH)
-            self.recording.begin_session(
-                Session(
-                    connection.parameter("server_version"),
-                    self.subscription.slot,
-                    self.subscription.publications,
-                    self.proto,
-                    settings.asks_for,
-                    settings.start,
-                )
-            )
+            version, it = connection.parameter("server_version"), self.subscription
+            asked = self.proto, settings.asks_for, settings.start
+            self.recording.begin_session(Session(version, it.slot, it.publications, *asked))
             self.record(connection)
             if settings.confirm:
                 self.send_status(connection)
@@ -192,20 +184,16 @@ class Recorder(Worker):
         return False
 
     def record(self, connection: Connection) -> None:
-        socket = connection.socket()
+        socket, seconds = connection.socket(), self.settings.seconds
         self.last_status = time.monotonic()
-        deadline = (
-            self.last_status + self.settings.seconds if self.settings.seconds is not None else None
-        )
+        deadline = float("inf") if seconds is None else self.last_status + seconds
         while self.take_ready(connection):
             now = time.monotonic()
-            if deadline is not None and now >= deadline:
+            if now >= deadline:
                 return
             wait = self.settings.heartbeat - (now - self.last_status)
             if wait <= 0:
                 self.send_status(connection)
                 self.recording.flush()
-            if deadline is not None:
-                wait = min(wait, deadline - now)
-            select.select([socket], [], [], min(max(wait, 0.01), 0.5))
+            select.select([socket], [], [], min(max(min(wait, deadline - now), 0.01), 0.5))
             connection.consume()

@@ -48,9 +48,8 @@ class Recording:
 
     def write_line(self, line: str) -> None:
         if self.written + len(line) + 1 > self.limit and not self.full:
-            log.warning(
-                f"the recording ends here: {self.limit} bytes are not to be passed (--bytes)"
-            )
+            text = f"{self.limit} bytes are not to be passed (--bytes)"
+            log.warning(f"the recording ends here: {text}")
             self.full = True
         if not self.full:
             self.out.write(line + "\n")
@@ -65,15 +64,11 @@ class Recording:
     def begin_session(self, session: Session) -> None:
         if self.written:
             self.write_line("--")
-        names = ", ".join(session.publications)
+        names, version = ", ".join(session.publications), session.server_version
         self.write_line(f"{BEGUN}{time.strftime('%Y-%m-%d %H:%M:%S UTC', time.gmtime())}")
-        self.write_line(
-            f"# PostgreSQL {session.server_version}, slot {session.slot}, publication {names}"
-        )
-        asked = "".join(f", {it}" for it in session.asks_for)
-        self.write_line(
-            f"# protocol version {session.proto}{asked}, from {lsn_text(session.start)}"
-        )
+        self.write_line(f"# PostgreSQL {version}, slot {session.slot}, publication {names}")
+        asked = "".join(f", {it}" for it in (*session.asks_for, f"from {lsn_text(session.start)}"))
+        self.write_line(f"# protocol version {session.proto}{asked}")
 
     def flush(self) -> None:
         self.out.flush()
@@ -86,22 +81,14 @@ def opened(path: str, append: bool, mode: int, overwrites: bool) -> int:
     """Opens a file for a recording; a FileError says that it has something else, which stays unless
     it is to be written over. A pipe or a terminal has nothing."""
     is_file = not os.path.exists(path) or os.path.isfile(path)
-    file = os.open(
-        path,
-        (os.O_RDWR if is_file else os.O_WRONLY)
-        | os.O_CREAT
-        | os.O_CLOEXEC
-        | (os.O_APPEND if append else 0),
-        mode,
-    )
+    how = (os.O_RDWR if is_file else os.O_WRONLY) | (os.O_APPEND if append else 0)
+    file = os.open(path, how | os.O_CREAT | os.O_CLOEXEC, mode)
     try:
         if stat.S_ISREG(os.fstat(file).st_mode):
             head = os.pread(file, len(HEAD), 0) if is_file else b""
             if head not in (b"", HEAD) and not overwrites:
-                what = f"isn't a recording of {log.PROGRAM}"
-                raise FileError(
-                    f"{path} is there and {what}: name another file, or say --overwrite to `record`"
-                )
+                text = f"{path} is there and isn't a recording of {log.PROGRAM}"
+                raise FileError(f"{text}: name another file, or say --overwrite to `record`")
             if not append:
                 os.ftruncate(file, 0)
         return file

@@ -68,19 +68,14 @@ def hosts_of(settings: dict[str, str]) -> list[dict[str, str]]:
         return [settings]
     if len(ports) not in (1, count) or {len(hosts), len(addresses)} - {1, count}:
         raise ServerError("the connection string has other numbers of hosts and ports", "22023")
-    attempts = []
-    for it in range(count):
-        own = {
-            "host": hosts[it % len(hosts)],
-            "hostaddr": addresses[it % len(addresses)],
-            "port": ports[it % len(ports)],
-        }
-        attempt = {**settings, **own}
-        # A restarted primary is waited for, rather than one of its standbys followed.
-        primary = "primary" if pq.version() >= PRIMARY else "read-write"
-        attempt.setdefault("target_session_attrs", os.environ.get("PGTARGETSESSIONATTRS", primary))
-        attempts.append(attempt)
-    return attempts
+    # A restarted primary is waited for, rather than one of its standbys followed.
+    primary = "primary" if pq.version() >= PRIMARY else "read-write"
+    wanted = {"target_session_attrs": os.environ.get("PGTARGETSESSIONATTRS", primary)}
+    lists = {"host": hosts, "hostaddr": addresses, "port": ports}
+    return [
+        {**wanted, **settings, **{name: its[at % len(its)] for name, its in lists.items()}}
+        for at in range(count)
+    ]
 
 
 def connect_limit(said: str) -> float:
@@ -98,13 +93,9 @@ def is_resolved(settings: dict[str, str]) -> bool:
     """Whether no name has to be looked up for these settings, or libpq has to do it since it
     chooses among several hosts itself."""
     host = settings.get("host") or os.environ.get("PGHOST", "")
-    if (
-        settings.get("hostaddr")
-        or os.environ.get("PGHOSTADDR")
-        or not host
-        or host.startswith(("/", "@"))
-        or "," in host
-    ):
+    if settings.get("hostaddr") or os.environ.get("PGHOSTADDR"):
+        return True
+    if not host or host.startswith(("/", "@")) or "," in host:
         return True
     with contextlib.suppress(ValueError):
         ipaddress.ip_address(host)
@@ -139,7 +130,6 @@ def addresses_of(settings: dict[str, str], check: Check) -> list[dict[str, str]]
 
 
 def where(settings: dict[str, str]) -> str:
-    host = (
-        settings.get("host") or settings.get("hostaddr") or os.environ.get("PGHOST") or "the server"
-    )
-    return f"{host}:{settings['port']}" if settings.get("port") else host
+    host = settings.get("host") or settings.get("hostaddr") or os.environ.get("PGHOST")
+    port = f":{settings['port']}" if settings.get("port") else ""
+    return f"{host or 'the server'}{port}"

@@ -2,6 +2,7 @@
 one moment."""
 
 import dataclasses
+from collections.abc import Iterable
 from typing import NamedTuple
 
 from pgsub_feed.known_tables import Index
@@ -157,7 +158,8 @@ class Catalog:
     tables: dict[int, Table]
     partitions: dict[int, Partition]
     # by the OIDs of types that published columns have in them: `name`, the labels of enumerations,
-    # by OID, and what composite types consist of, by `#` and the number of the part
+    # by OID, and what composite types consist of, by `#` and the number of the part; of an array, a
+    # domain or a range with such a type in it that type, by `@` and its OID
     types: dict[int, dict[str, str]]
     # the first transaction that may have run when it was read, 0 where that isn't known
     running: int = dataclasses.field(default=0, compare=False)
@@ -166,3 +168,17 @@ class Catalog:
     # had no rows when they were attached
     kept: frozenset[int] = dataclasses.field(default=frozenset(), compare=False)
     fresh: frozenset[int] = dataclasses.field(default=frozenset(), compare=False)
+
+
+def types_having(oids: Iterable[int], types: dict[int, dict[str, str]]) -> set[int]:
+    """These types, and those that have one of them in them."""
+    found = set(oids)
+    while more := {oid for oid, it in types.items() if oid not in found and parts_of(it) & found}:
+        found |= more
+    return found
+
+
+def parts_of(said: dict[str, str]) -> set[int]:
+    """The types that a type consists of."""
+    within = {int(it[1:]) for it in said if it[0] == "@"}
+    return within | {int(text.split()[0]) for it, text in said.items() if it[0] == "#"}

@@ -9,7 +9,7 @@ from pgsub_feed.relation import Column, Shape
 from pgsub_feed.texts import literal, parse_lsn
 
 from ..errors import WrongAnswer, understood
-from .catalog import ACTIONS, Catalog, Part, Partition, Publication, Table
+from .catalog import ACTIONS, Catalog, Part, Partition, Publication, Table, types_having
 from .connection import QUICK, Connection
 from .rows import Row
 
@@ -65,19 +65,12 @@ def read_publications(connection: Connection, names: list[str]) -> dict[str, Pub
         f" FROM pg_catalog.pg_publication p WHERE p.pubname IN ({listed_names(names)}) ORDER BY 1",
         QUICK,
     )
-    return {
-        name
-        or "": Publication(
-            number(oid),
-            whole == "t",
-            tuple(word for word, it in zip(ACTIONS, more) if it == "t"),
-            more[4] == "t",
-            more[5] == "t",
-            number(more[6]),
-            more[7] or "",
-        )
-        for name, oid, whole, *more in rows
-    }
+    found = {}
+    for name, oid, whole, *more in rows:
+        actions = tuple(word for word, it in zip(ACTIONS, more) if it == "t")
+        rest = more[4] == "t", more[5] == "t", number(more[6]), more[7] or ""
+        found[name or ""] = Publication(number(oid), whole == "t", actions, *rest)
+    return found
 
 
 def is_whole(connection: Connection, relation: str) -> str:
@@ -116,12 +109,10 @@ def read_tables(connection: Connection, names: list[str]) -> dict[int, Table]:
     for table in read_parts(connection, names, QUICK):
         tables.setdefault(table.oid, table).parts.update(table.parts)
     keys, indexes = read_keys(connection, list(tables)), read_indexes(connection, list(tables))
-    return {
-        oid: dataclasses.replace(
-            it, primary=tuple(keys.get(oid, ())), indexes=tuple(indexes.get(oid, ()))
-        )
-        for oid, it in tables.items()
-    }
+    for oid, it in tables.items():
+        more = {"primary": tuple(keys.get(oid, ())), "indexes": tuple(indexes.get(oid, ()))}
+        tables[oid] = dataclasses.replace(it, **more)
+    return tables
 
 
 def read_parts(connection: Connection, names: list[str], limit: float = INFINITE) -> list[Table]:
@@ -151,20 +142,11 @@ def table_in(row: Row, columns: dict[int, list[tuple[Column, bool]]], version: i
     publication, relid, namespace, name, kind, identity, where, own, attributes, whole, *more = row
     untouched, unwritten, node, altered, logged, toast = more
     oid = number(relid)
-    return Table(
-        oid,
-        namespace or "",
-        name or "",
-        kind or "",
-        Shape(identity or "", sent_columns(version, columns.get(oid, []), numbers(attributes))),
-        {publication or "": Part(where, numbers(own), whole == "t")},
-        untouched == "t",
-        unwritten == "t",
-        number(node),
-        altered or "",
-        logged == "t",
-        number(toast),
-    )
+    shape = Shape(identity or "", sent_columns(version, columns.get(oid, []), numbers(attributes)))
+    parts = {publication or "": Part(where, numbers(own), whole == "t")}
+    states = untouched == "t", unwritten == "t", number(node), altered or "", logged == "t"
+    table = Table(oid, namespace or "", name or "", kind or "", shape, parts, *states)
+    return dataclasses.replace(table, toast=number(toast))
 
 
 def numbers(text: str | None) -> tuple[int, ...] | None:
@@ -272,20 +254,11 @@ def read_partitions(connection: Connection, names: list[str]) -> dict[int, Parti
         " LEFT JOIN pg_catalog.pg_inherits i ON i.inhrelid = t.oid JOIN pg_catalog.pg_type y ON y.oid = c.reltype ORDER BY 1",
         QUICK,
     )
-    partitions = {
-        number(oid): Partition(
-            number(oid),
-            number(parent),
-            name or "",
-            leaf == "t",
-            made == "t",
-            number(node),
-            since or "",
-            logged == "t",
-            number(toast),
-        )
-        for oid, parent, name, leaf, made, node, since, logged, toast in rows
-    }
+    partitions = {}
+    for oid, parent, name, leaf, made, node, since, logged, toast in rows:
+        key, more = number(oid), (made == "t", number(node), since or "", logged == "t")
+        it = Partition(key, number(parent), name or "", leaf == "t", *more, number(toast))
+        partitions[key] = it
     check_tree(partitions)
     return partitions
 
@@ -362,28 +335,37 @@ def ways_to(
         oid, way = (partition.parent, f"{way}/{partition.since}") if partition else (0, way)
 
 
+# The types that a type `y` has in it: as an array, a domain, a range or a composite.
+PARTS = (
+    "SELECT y.typelem AS oid UNION ALL SELECT y.typbasetype"
+    " UNION ALL SELECT r.rngsubtype FROM pg_catalog.pg_range r WHERE r.rngtypid = y.oid"
+    " UNION ALL SELECT a.atttypid FROM pg_catalog.pg_attribute a"
+    " WHERE a.attrelid = y.typrelid AND a.attnum > 0 AND NOT a.attisdropped"
+)
+
+
 def read_types(connection: Connection, oids: list[int]) -> dict[int, dict[str, str]]:
     """What the text of a value depends on beside the value: the labels of enumerations by their
     OID, and the types of the parts of composite types by their number. Both of all types that
-    columns have in them: in arrays, domains, ranges, composites.
+    columns have in them: in arrays, domains, ranges, composites. Of those that aren't composites
+    themselves which types they have in them, where that leads to such a one.
     """
     rows = connection.rows(
         "WITH RECURSIVE t (oid) AS ("
         f" SELECT a.atttypid FROM pg_catalog.pg_attribute a WHERE a.attrelid IN ({listed_oids(oids)}) AND a.attnum > 0"
-        " UNION SELECT u.oid FROM t JOIN pg_catalog.pg_type y ON y.oid = t.oid, LATERAL ("
-        "  SELECT y.typelem AS oid UNION ALL SELECT y.typbasetype"
-        "  UNION ALL SELECT r.rngsubtype FROM pg_catalog.pg_range r WHERE r.rngtypid = y.oid"
-        "  UNION ALL SELECT a.atttypid FROM pg_catalog.pg_attribute a"
-        "   WHERE a.attrelid = y.typrelid AND a.attnum > 0 AND NOT a.attisdropped) u WHERE u.oid <> 0)"
+        f" UNION SELECT u.oid FROM t JOIN pg_catalog.pg_type y ON y.oid = t.oid, LATERAL ({PARTS}) u WHERE u.oid <> 0)"
         " SELECT y.oid, 'name', y.oid::pg_catalog.regtype::pg_catalog.text FROM t JOIN pg_catalog.pg_type y ON y.oid = t.oid"
         "  WHERE y.typtype IN ('c', 'e')"
         " UNION ALL SELECT e.enumtypid, e.oid::pg_catalog.text, e.enumlabel FROM t JOIN pg_catalog.pg_enum e ON e.enumtypid = t.oid"
         " UNION ALL SELECT y.oid, '#' || a.attnum, a.atttypid::pg_catalog.text || ' ' || a.atttypmod FROM t"
         "  JOIN pg_catalog.pg_type y ON y.oid = t.oid"
-        "  JOIN pg_catalog.pg_attribute a ON a.attrelid = y.typrelid AND a.attnum > 0 AND NOT a.attisdropped ORDER BY 1, 2",
+        "  JOIN pg_catalog.pg_attribute a ON a.attrelid = y.typrelid AND a.attnum > 0 AND NOT a.attisdropped"
+        " UNION ALL SELECT y.oid, '@' || u.oid::pg_catalog.text, '' FROM t JOIN pg_catalog.pg_type y ON y.oid = t.oid AND y.typtype <> 'c',"
+        f"  LATERAL ({PARTS}) u WHERE u.oid <> 0 ORDER BY 1, 2",
         QUICK,
     )
     types: dict[int, dict[str, str]] = {}
     for oid, part, text in rows:
         types.setdefault(number(oid), {})[part or ""] = text or ""
-    return types
+    named = types_having([oid for oid, it in types.items() if "name" in it], types)
+    return {oid: it for oid, it in types.items() if oid in named}

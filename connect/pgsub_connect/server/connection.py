@@ -56,14 +56,9 @@ class Connection:
         self.unsent = False
         # what broke the stream of CopyData off, and is to be raised after those that came before it
         self.broken: ServerError | None = None
-        settings = {
-            **DEFAULTS,
-            "application_name": name,
-            **parameters(dsn),
-            "client_encoding": "UTF8",
-        }
-        if replication:
-            settings["replication"] = "database"
+        settings = {**DEFAULTS, "application_name": name, **parameters(dsn)}
+        settings |= {"client_encoding": "UTF8"}
+        settings |= {"replication": "database"} if replication else {}
         # (how it is protected)
         self.raw, self.protection = login.connect(settings, check)
         # what the server has said of publications whose changes it leaves out, since the caller
@@ -254,23 +249,18 @@ class Connection:
         """Yields the lines of a COPY TO STDOUT in blocks of about so many bytes, and the last ones
         in a smaller block."""
         self.execute(command, COPY_OUT)
-        take, lines, left = self.raw.get_copy_data, list[bytes](), size
-        while True:
-            try:
-                length, payload = take(1)
-            except psycopg.OperationalError as error:
-                raise ServerError(shortened(str(error))) from None
-            if length == 0:
+        lines, left, last = list[bytes](), size, 1
+        while last >= 0:
+            found, last = self.wire.take(left, size)
+            lines += found
+            left -= sum(map(len, found))
+            if left <= 0:
+                yield lines
+                lines, left = [], size
+            elif last == 0:
                 self.wait()
-            elif length < 0:
-                break
-            else:
-                whole = payload.obj
-                lines.append(whole if isinstance(whole, bytes) else bytes(payload))
-                left -= length
-                if left <= 0:
-                    yield lines
-                    lines, left = [], size
+        if last != ENDED:
+            raise ServerError(self.error())
         result = self.last_result()
         if result is not None and result.error_message:
             raise self.error_of(result)

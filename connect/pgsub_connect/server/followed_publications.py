@@ -1,5 +1,7 @@
 """Compares what the command line says is published with what a store follows."""
 
+import contextlib
+
 from pgsub_feed import log
 from pgsub_feed.interruption import Check
 from pgsub_feed.texts import literal
@@ -24,17 +26,11 @@ def require_published(subscription: Subscription, wanted: Wanted, check: Check) 
     Which columns and rows they have of a table isn't compared here: what changes of these is found
     at each connection.
     """
-    connection = Connection(subscription.dsn, name=f"{subscription.slot} check", check=check)
-    try:
-        names = ", ".join(map(literal, wanted.publications))
+    name, names = f"{subscription.slot} check", ", ".join(map(literal, wanted.publications))
+    with contextlib.closing(Connection(subscription.dsn, name=name, check=check)) as connection:
         # (names of tables are looked up as the role does it)
-        wrong, others = (
-            different_tables(connection, wanted, names)
-            if wanted.tables
-            else (not_whole(connection, names), "")
-        )
-    finally:
-        connection.close()
+        compare = different_tables if wanted.tables else not_whole
+        wrong, others = compare(connection, wanted, names)
     if wrong:
         wrong = "; ".join(filter(None, (wrong, others)))
         text = "--table" if wanted.tables else "--all-tables"
@@ -46,12 +42,12 @@ def require_published(subscription: Subscription, wanted: Wanted, check: Check) 
         log.warning(f"--table isn't what is published, and what is published is followed: {others}")
 
 
-def not_whole(connection: Connection, names: str) -> str:
+def not_whole(connection: Connection, wanted: Wanted, names: str) -> tuple[str, str]:
     """What is wrong where none of the publications is for all tables."""
-    rows = connection.rows(
-        f"SELECT p.pubname FROM pg_catalog.pg_publication p WHERE p.pubname IN ({names}) AND p.puballtables"
+    query = (
+        f"SELECT FROM pg_catalog.pg_publication p WHERE p.pubname IN ({names}) AND p.puballtables"
     )
-    return "" if rows else f"no publication for all tables ({names})"
+    return "" if connection.rows(query) else f"no publication for all tables ({names})", ""
 
 
 def different_tables(connection: Connection, wanted: Wanted, names: str) -> tuple[str, str]:
@@ -72,9 +68,8 @@ def different_tables(connection: Connection, wanted: Wanted, names: str) -> tupl
     more = {oid: name for oid, name in there.items() if oid not in asked}
     others = [f"no such table: {names_of(unknown)}"] if unknown else []
     others += [f"published too: {names_of(sorted(more.values()))}"] if more else []
-    return f"not published: {names_of(sorted(missing.values()))}" if missing else "", "; ".join(
-        others
-    )
+    wrong = f"not published: {names_of(sorted(missing.values()))}" if missing else ""
+    return wrong, "; ".join(others)
 
 
 @understood("tables")

@@ -20,12 +20,8 @@ def typed(call: Any, gives: Any, *takes: Any) -> Any:
 
 
 # Python's own call to make bytes of a place in memory.
-BYTES_AT = typed(
-    ctypes.pythonapi["PyBytes_FromStringAndSize"],
-    ctypes.py_object,
-    ctypes.c_void_p,
-    ctypes.c_ssize_t,
-)
+AT = ctypes.c_void_p, ctypes.c_ssize_t
+BYTES_AT = typed(ctypes.pythonapi["PyBytes_FromStringAndSize"], ctypes.py_object, *AT)
 # A call of libpq that psycopg lacks.
 GSS_IN_USE: Any = getattr(LIBPQ, "PQgssEncInUse", None)
 

@@ -2,7 +2,7 @@
 
 from pgsub_feed.texts import literal, lsn_text
 
-from ..errors import ServerError, understood
+from ..errors import LostSlot, ServerError, understood
 from .connection import QUICK, Connection
 from .session import is_lost
 
@@ -42,7 +42,7 @@ def lost_error(connection: Connection, slot: str, store: str, error: ServerError
     reason = connection.value(query, QUICK) if connection.version() >= REASONS else None
     why = WHY.get(reason or "", reason) or WHY[""]
     text = f"the slot {slot} is lost: {why}. Nothing can follow from it: {anew(store)}"
-    return ServerError(f"{error}\n{text}", error.sqlstate)
+    return LostSlot(f"{error}\n{text}", error.sqlstate)
 
 
 @understood("its settings")

@@ -1,7 +1,8 @@
 """What a server says of all that following it needs. Nothing is changed there."""
 
+import contextlib
 import dataclasses
-import re
+from contextlib import closing
 
 from pgsub_feed.interruption import Check
 from pgsub_feed.texts import literal
@@ -12,6 +13,7 @@ from .publication_content import has_publication, kinds_left_out
 from .publication_setup import Wanted
 from .replica_identity import keyless_of, keyless_tables, members, publishable, tree_of
 from .slot import Slot, read_slot
+from .table_names import NAME, meant_table
 from .transport import Protection
 from .waits import prepared_texts
 
@@ -28,10 +30,6 @@ SETTINGS = (
     "server_encoding",
 )
 RDS = "rds_replication"
-# A table's name in what CREATE PUBLICATION takes for one.
-NAME = re.compile(
-    r'\s*(?:ONLY\s+)?((?:"(?:[^"]|"")+"|[\w$]+)(?:\s*\.\s*(?:"(?:[^"]|"")+"|[\w$]+))?)', re.I
-)
 
 
 @dataclasses.dataclass
@@ -109,15 +107,14 @@ def server_facts(connection: Connection, slot: str) -> Facts:
         " (SELECT pg_catalog.count(*) FROM pg_catalog.pg_stat_replication)"
     )[0]
     return Facts(
-        version=connection.version(),
-        settings={name or "": value or "" for name, value in settings},
-        is_standby=true(standby),
-        database=database or "",
-        protection=connection.protection,
-        slots=int(slots or 0),
-        senders=int(senders or 0),
-        role=role_facts(connection),
-        slot=read_slot(connection, slot),
+        connection.version(),
+        {name or "": value or "" for name, value in settings},
+        true(standby),
+        database or "",
+        connection.protection,
+        *(int(slots or 0), int(senders or 0)),
+        role_facts(connection),
+        read_slot(connection, slot),
     )
 
 
@@ -134,12 +131,8 @@ def role_facts(connection: Connection) -> Role:
 def replicators(connection: Connection) -> str:
     """The role whose members may replicate without the attribute, where the server is one of Amazon
     RDS."""
-    return (
-        connection.value(
-            f"SELECT r.rolname FROM pg_catalog.pg_roles r WHERE r.rolname = {literal(RDS)}"
-        )
-        or ""
-    )
+    query = f"SELECT r.rolname FROM pg_catalog.pg_roles r WHERE r.rolname = {literal(RDS)}"
+    return connection.value(query) or ""
 
 
 @understood("the publications")
@@ -152,7 +145,7 @@ def with_publications(connection: Connection, facts: Facts, wanted: Wanted) -> F
             sources.append(members(name))
         else:
             source, unknown = source_wanted(connection, wanted)
-            nameless += unknown
+            nameless += [f"{it}{meant_table(connection, it)}" for it in unknown]
             keyless = keyless_of(connection, source) if source else {}
             found.append(PublicationFacts(name, is_there=False, keyless=list(keyless.values())))
             sources += [source] if source else []
@@ -163,23 +156,16 @@ def with_publications(connection: Connection, facts: Facts, wanted: Wanted) -> F
         f"SELECT pg_catalog.count(*) + (SELECT pg_catalog.count(*) FROM pg_catalog.pg_index i WHERE i.indrelid IN ({trees}))"
         f" FROM ({trees}) p"
     )
-    return dataclasses.replace(
-        facts,
-        publications=found,
-        unknown=nameless,
-        tables=tables_facts(connection, source),
-        relations=int(count or 0),
-    )
+    more = {"tables": tables_facts(connection, source), "relations": int(count or 0)}
+    return dataclasses.replace(facts, publications=found, unknown=nameless, **more)
 
 
 def publication_there(connection: Connection, name: str) -> PublicationFacts:
     """A publication that is there: the kinds of changes that it leaves out, and tables without an
     identity for those that it has."""
-    left_out = kinds_left_out(connection, name)
+    left_out, mixed = kinds_left_out(connection, name), mixed_roots(connection, name)
     keyless = {} if {"update", "delete"} <= set(left_out) else keyless_tables(connection, name)
-    return PublicationFacts(
-        name, True, left_out, mixed_roots(connection, name), list(keyless.values())
-    )
+    return PublicationFacts(name, True, left_out, mixed, list(keyless.values()))
 
 
 def mixed_roots(connection: Connection, name: str) -> list[str]:
@@ -211,17 +197,10 @@ def source_wanted(connection: Connection, wanted: Wanted) -> tuple[str, list[str
     oids, unknown = [], []
     for text in wanted.tables:
         # (more than a name stands there: columns, a filter)
-        found = NAME.match(text)
-        try:
-            oid = (
-                connection.value(
-                    f"SELECT pg_catalog.to_regclass({literal(found[1])})::pg_catalog.oid"
-                )
-                if found
-                else None
-            )
-        except ServerError:
-            oid = None
+        found, oid = NAME.match(text), None
+        with contextlib.suppress(ServerError):
+            named = f"pg_catalog.to_regclass({literal(found[1] if found else '')})"
+            oid = connection.value(f"SELECT {named}::pg_catalog.oid") if found else None
         if oid is None:
             unknown.append(text)
         else:
@@ -243,22 +222,14 @@ def tables_facts(connection: Connection, source: str) -> list[TableFacts]:
 
 def all_facts(dsn: str, slot: str, wanted: Wanted, check: Check) -> Facts:
     """Everything, by a plain connection, and whether one for replication can be made."""
-    connection = Connection(dsn, name=f"{slot} check", check=check)
-    try:
+    with closing(Connection(dsn, name=f"{slot} check", check=check)) as connection:
         facts = with_publications(connection, server_facts(connection, slot), wanted)
         prepared = prepared_texts(connection)
         provided = "" if facts.role.replicates else replicators(connection)
-    finally:
-        connection.close()
     why = ""
     try:
         Connection(dsn, replication=True, name=f"{slot} check", check=check).close()
     except ServerError as error:
         why = str(error)
-    return dataclasses.replace(
-        facts,
-        prepared=prepared,
-        replicators=provided,
-        replication_error=why,
-        has_replicated=not why,
-    )
+    more = {"replication_error": why, "has_replicated": not why}
+    return dataclasses.replace(facts, prepared=prepared, replicators=provided, **more)

@@ -6,6 +6,7 @@ from pgsub_feed import log
 from pgsub_feed.texts import identifier, literal
 
 from ..errors import understood
+from .catalog import ACTIONS
 from .catalog_reader import FINE
 from .connection import Connection
 from .replica_identity import tree_of
@@ -45,24 +46,17 @@ def listed_above(connection: Connection, name: str, oids: list[int]) -> list[Lis
     found = []
     for _, namespace, table, listing, row_filter in rows:
         sql = f"{identifier(namespace or '')}.{identifier(table or '')}"
-        whole = (
-            sql
-            + (f" ({listing})" if listing else "")
-            + (f" WHERE ({row_filter})" if row_filter else "")
+        more = (f" ({listing})" if listing else "") + (
+            f" WHERE ({row_filter})" if row_filter else ""
         )
-        found.append(Listed(f"{namespace}.{table}", sql, whole))
+        found.append(Listed(f"{namespace}.{table}", sql, sql + more))
     return found
 
 
 @understood("a publication")
 def kinds_left_out(connection: Connection, name: str) -> list[str]:
     """The kinds of changes that a publication doesn't have."""
-    kinds = [
-        "insert",
-        "update",
-        "delete",
-        *(["truncate"] if connection.version() >= 110000 else []),
-    ]
+    kinds = ACTIONS if connection.version() >= 110000 else ACTIONS[:3]
     columns = ", ".join(f"p.pub{kind}" for kind in kinds)
     rows = connection.rows(
         f"SELECT {columns} FROM pg_catalog.pg_publication p WHERE p.pubname = {literal(name)}"
@@ -72,12 +66,8 @@ def kinds_left_out(connection: Connection, name: str) -> list[str]:
 
 @understood("a publication")
 def oid_of(connection: Connection, name: str) -> int:
-    return int(
-        connection.value(
-            f"SELECT p.oid FROM pg_catalog.pg_publication p WHERE p.pubname = {literal(name)}"
-        )
-        or 0
-    )
+    query = f"SELECT p.oid FROM pg_catalog.pg_publication p WHERE p.pubname = {literal(name)}"
+    return int(connection.value(query) or 0)
 
 
 @understood("a publication")
@@ -121,7 +111,10 @@ def drop_publications(connection: Connection, made: dict[str, int]) -> None:
             f"SELECT p.pubname FROM pg_catalog.pg_publication p WHERE p.oid = {oid} AND p.pubname = {literal(name)}"
         )
         if rows:
-            connection.run(
-                f"BEGIN READ WRITE; SET LOCAL synchronous_commit = local; DROP PUBLICATION {identifier(name)}; COMMIT"
-            )
-            log.info(f"dropped the publication {name}")
+            drop_publication(connection, name)
+
+
+def drop_publication(connection: Connection, name: str) -> None:
+    drop = f"DROP PUBLICATION {identifier(name)}"
+    connection.run(f"BEGIN READ WRITE; SET LOCAL synchronous_commit = local; {drop}; COMMIT")
+    log.info(f"dropped the publication {name}")

@@ -10,6 +10,7 @@ import dataclasses
 import secrets
 import time
 from collections.abc import Callable, Mapping
+from contextlib import closing
 from types import MappingProxyType
 
 from pgsub_feed import log
@@ -20,6 +21,7 @@ from pgsub_feed.texts import counted, identifier, literal
 from ..errors import ServerError
 from .connection import Connection
 from .publication_content import (
+    Listed,
     content_of,
     drop_publications,
     has_publication,
@@ -29,9 +31,10 @@ from .publication_content import (
     other_slots,
 )
 from .replica_identity import keyless_tables, publishable_tables, rejected_tables
+from .table_names import meant_table
 from .waits import Waiting, lock_text
 
-REFUSED = "55000"
+REFUSED, NO_TABLE, NO_RIGHT = "55000", "42P01", "42501"
 INSERTS = "insert, truncate"
 # How many tables are named at most.
 NAMED = 20
@@ -41,12 +44,13 @@ LIMIT = 10.0
 
 @dataclasses.dataclass
 class Wanted:
-    """What is to be published."""
+    """What is to be published. `keeps`: what an earlier run has made for it stays as it is."""
 
     publications: list[str]
     tables: list[str] = dataclasses.field(default_factory=list)
     all_tables: bool = False
     keyless: str = "refuse"
+    keeps: bool = False
 
 
 def names_of(names: list[str]) -> str:
@@ -82,15 +86,8 @@ class Maker:
         left: Mapping[str, int] = MappingProxyType({}),
         note: Note = lambda made: None,
     ) -> None:
-        self.dsn, self.wanted, self.name, self.check, self.look, self.note = (
-            dsn,
-            wanted,
-            name,
-            check,
-            look,
-            note,
-        )
-        self.left = dict(left)
+        self.dsn, self.wanted, self.name, self.check = dsn, wanted, name, check
+        self.look, self.note, self.left = look, note, dict(left)
         # the publications that are there afterwards, and those that were made: each with its OID
         self.publications = list(wanted.publications)
         self.made: dict[str, int] = {}
@@ -135,18 +132,19 @@ class Maker:
         """Drops what a run that was killed has left, so that it is made as it is wanted now; not
         what somebody else may use by now."""
         names = [it for name in self.wanted.publications for it in (name, inserts_of(name))]
-        left = [
-            it
-            for it in names
-            if it in self.left and self.made.get(it) != self.left[it] == oid_of(connection, it)
-        ]
-        if left and not self.is_standby and not other_slots(connection, self.name):
+        known, made = self.left, self.made
+        names = [it for it in names if it in known and made.get(it) != known[it]]
+        left = [it for it in names if known[it] == oid_of(connection, it)]
+        is_kept = self.wanted.keeps or self.is_standby
+        if left and not is_kept and not other_slots(connection, self.name):
             connection.run(f"DROP PUBLICATION {', '.join(map(identifier, left))}")
             log.info(f"an earlier run has left the publication {names_of(left)}: it is made anew")
 
     def see_to(self, name: str, before: dict[str, int]) -> None:
         """Makes a publication, unless it is there: by an attempt before, or by somebody else."""
         oid, second = oid_of(self.connection, name), inserts_of(name)
+        if not oid and self.wanted.keeps:
+            raise refusal(f"there is no publication {name} any more: make it, or say --create")
         if not oid:
             self.make_one(name)
         elif before.get(name) == oid:
@@ -162,8 +160,23 @@ class Maker:
         wrote."""
         connection = self.connection
         connection.rows(f"SELECT pg_catalog.set_config('search_path', {literal(self.path)}, true)")
-        connection.run(f"CREATE PUBLICATION {identifier(name)} FOR {tables}{more}")
+        try:
+            connection.run(f"CREATE PUBLICATION {identifier(name)} FOR {tables}{more}")
+        except ServerError as error:
+            raise self.understood(error) from None
         connection.run("SET LOCAL search_path = ''")
+
+    def understood(self, error: ServerError) -> ServerError:
+        """An error of it, with what to do about a name that is no table's, or a right that the role
+        lacks. The transaction is over."""
+        if error.sqlstate == NO_TABLE and self.wanted.tables:
+            self.connection.run("ROLLBACK")
+            texts = [meant_table(self.connection, it) for it in self.wanted.tables]
+            return ServerError(f"{error}{next(filter(None, texts), '')}", NO_TABLE)
+        if error.sqlstate == NO_RIGHT:
+            text = f"{error}: `pgsub-connect check` with these options tells which rights the role lacks"
+            return ServerError(text, NO_RIGHT)
+        return error
 
     def make_one(self, name: str) -> None:
         connection, wanted = self.connection, self.wanted
@@ -182,7 +195,7 @@ class Maker:
                 "there are no tables that can be published: make some, or say --all-tables for those that come later"
             )
         self.begun[name] = oid_of(connection, name)
-        keyless = {**rejected_tables(connection, name), **keyless_tables(connection, name)}
+        keyless = self.keyless_in(name)
         if keyless and wanted.keyless != "refuse" and not wanted.all_tables:
             keyless = self.move_keyless(name, keyless)
         if keyless:
@@ -195,11 +208,8 @@ class Maker:
         listed = listed_above(connection, name, list(keyless))
         if not listed:
             return keyless
-        count = len(content_of(connection, name))
-        connection.run(
-            f"ALTER PUBLICATION {identifier(name)} DROP TABLE {', '.join(it.name for it in listed)}"
-        )
-        names = names_of([it.text for it in listed])
+        count, names = len(content_of(connection, name)), names_of([it.text for it in listed])
+        self.drop_tables(name, listed)
         if self.wanted.keyless == "inserts":
             second = inserts_of(name)
             tables = ", ".join(f"ONLY {it.whole}" for it in listed)
@@ -215,19 +225,25 @@ class Maker:
             )
         else:
             self.said.append(f"without a replica identity, so left out: {names}")
+        return self.keyless_in(name)
+
+    def keyless_in(self, name: str) -> dict[int, str]:
+        """The tables of a publication without a usable identity, those among them whose Deletes the
+        server rejects already."""
+        connection = self.connection
         return {**rejected_tables(connection, name), **keyless_tables(connection, name)}
+
+    def drop_tables(self, name: str, listed: list[Listed]) -> None:
+        names = ", ".join(it.name for it in listed)
+        self.connection.run(f"ALTER PUBLICATION {identifier(name)} DROP TABLE {names}")
 
     def compare(self, name: str) -> None:
         """Rejects a publication that is there and isn't what is wanted."""
         self.note_left_out(name)
         connection, wanted = self.connection, self.wanted
-        there = content_of(connection, name)
-        second = inserts_of(name)
-        if (
-            wanted.keyless == "inserts"
-            and second not in self.publications
-            and has_publication(connection, second)
-        ):
+        there, second = content_of(connection, name), inserts_of(name)
+        is_wanted = wanted.keyless == "inserts" and second not in self.publications
+        if is_wanted and has_publication(connection, second):
             self.publications.insert(self.publications.index(name) + 1, second)
             there |= content_of(connection, second)
         if wanted.all_tables and "all tables" not in there:
@@ -257,13 +273,10 @@ class Maker:
         left_out = kinds_left_out(connection, name)
         if left_out and not name.endswith(inserts_of("")):
             self.said.append(f"the publication {name} leaves out: {', '.join(left_out)}")
-        if not {"update", "delete"} <= set(left_out) and (
-            harmed := keyless_tables(connection, name)
-        ):
-            names = names_of(list(harmed.values()))
-            self.said.append(
-                f"published without a replica identity, so the server rejects Updates and Deletes: {names}"
-            )
+        has_all = not {"update", "delete"} <= set(left_out)
+        if has_all and (harmed := keyless_tables(connection, name)):
+            text = "published without a replica identity, so the server rejects Updates and Deletes"
+            self.said.append(f"{text}: {names_of(list(harmed.values()))}")
 
     def content_asked(self, name: str) -> tuple[set[str], set[str]]:
         """What a publication of --table would list, and what of that has no replica identity. It is
@@ -275,15 +288,9 @@ class Maker:
         except ServerError as error:
             text = f"the publication {name} is there, and --table can't be compared with it: {error}. Leave --table out"
             raise ServerError(text, error.sqlstate and REFUSED) from None
-        asked, keyless = content_of(connection, trial), {
-            **rejected_tables(connection, trial),
-            **keyless_tables(connection, trial),
-        }
-        left_out = set[str]()
+        asked, keyless, left_out = content_of(connection, trial), self.keyless_in(trial), set[str]()
         if keyless and (listed := listed_above(connection, trial, list(keyless))):
-            connection.run(
-                f"ALTER PUBLICATION {identifier(trial)} DROP TABLE {', '.join(it.name for it in listed)}"
-            )
+            self.drop_tables(trial, listed)
             left_out = asked - content_of(connection, trial)
         connection.run("ROLLBACK TO SAVEPOINT trial")
         return asked, left_out
@@ -302,13 +309,9 @@ class Maker:
                 raise ServerError("no answer")
 
         try:
-            connection = Connection(
-                self.dsn, name=f"{self.name} publication", quiet=True, check=check
-            )
-            try:
+            name = f"{self.name} publication"
+            with closing(Connection(self.dsn, name=name, quiet=True, check=check)) as connection:
                 drop_publications(connection, made)
-            finally:
-                connection.close()
         except (ServerError, Unfit) as error:
             log.warning(
                 f"made and not dropped again, {error}: {', '.join(f'DROP PUBLICATION {identifier(it)}' for it in made)}"
@@ -334,13 +337,9 @@ def inserts_of(name: str) -> str:
 
 def keyless_text(names: list[str], all_tables: bool) -> str:
     """What is wrong with tables that have no usable replica identity, and what to do."""
-    ways = (
-        ""
-        if all_tables
-        else " Or say --keyless leave-out, or --keyless inserts to publish their Inserts alone."
-    )
+    ways = " Or say --keyless leave-out, or --keyless inserts to publish their Inserts alone."
     return (
         f"{counted(len(names), 'table')} without a usable replica identity: {names_of(names)}. Once published, the server would reject"
         " their Updates and Deletes, in every application. Give each a primary key, or ALTER TABLE .. REPLICA IDENTITY"
-        f" USING INDEX or FULL.{ways}"
+        f" USING INDEX or FULL.{'' if all_tables else ways}"
     )

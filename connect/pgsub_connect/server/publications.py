@@ -111,10 +111,8 @@ def stored_in(connection: Connection, tables: list[Table]) -> dict[int, str | No
     anew change it."""
     if not tables:
         return {}
-    query = (
-        f"SELECT t.relid, pg_catalog.pg_relation_filenode(t.relid) FROM {trees(tables)} ORDER BY 1"
-    )
-    rows = connection.rows(query)
+    node = "pg_catalog.pg_relation_filenode(t.relid)"
+    rows = connection.rows(f"SELECT t.relid, {node} FROM {trees(tables)} ORDER BY 1")
     return {int(relid or 0): node for relid, node in rows}
 
 
@@ -136,15 +134,14 @@ def are_so_named(connection: Connection, tables: list[Table]) -> bool:
         "SELECT a.attrelid, a.attnum, a.attname, a.atttypid, a.atttypmod FROM pg_catalog.pg_attribute a"
         f" WHERE a.attrelid IN ({oids}) AND a.attnum > 0 AND NOT a.attisdropped"
     )
-    there, have = {tuple(row) for row in names}, {tuple(row) for row in columns}
-    return all(
-        (str(table.oid), table.namespace, table.name) in there
-        and all(
-            (str(table.oid), str(it.number), it.name, str(it.type_oid), str(it.modifier)) in have
-            for it in table.columns
-        )
+    wanted = {(str(it.oid), it.namespace, it.name) for it in tables}
+    wanted_columns = {
+        (str(table.oid), str(it.number), it.name, str(it.type_oid), str(it.modifier))
         for table in tables
-    )
+        for it in table.columns
+    }
+    there, have = {tuple(row) for row in names}, {tuple(row) for row in columns}
+    return wanted <= there and wanted_columns <= have
 
 
 @understood("the sizes of tables")

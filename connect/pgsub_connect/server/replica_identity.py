@@ -41,11 +41,8 @@ def publishable(version: int) -> str:
     Partitions come with the table above them. Before PostgreSQL 13 such a table can't be published,
     and they come by themselves.
     """
-    kinds = (
-        "c.relkind IN ('r', 'p') AND NOT c.relispartition"
-        if version >= 130000
-        else "c.relkind = 'r'"
-    )
+    kinds = "c.relkind IN ('r', 'p') AND NOT c.relispartition"
+    kinds = kinds if version >= 130000 else "c.relkind = 'r'"
     return (
         "SELECT c.oid AS relid FROM pg_catalog.pg_class c JOIN pg_catalog.pg_namespace n ON n.oid = c.relnamespace"
         f" WHERE {kinds} AND c.relpersistence = 'p' AND c.oid >= 16384"
@@ -70,9 +67,9 @@ def tree_of(connection: Connection, source: str) -> str:
     if connection.version() < 130000:
         return f"(SELECT s.relid, s.relid AS part FROM ({source}) s)"
     below = (
-        "(SELECT s.relid AS part UNION SELECT p.relid FROM pg_catalog.pg_partition_tree(s.relid) p)"
+        "SELECT s.relid AS part UNION SELECT p.relid FROM pg_catalog.pg_partition_tree(s.relid) p"
     )
-    return f"(SELECT s.relid, b.part FROM ({source}) s, LATERAL {below} b)"
+    return f"(SELECT s.relid, b.part FROM ({source}) s, LATERAL ({below}) b)"
 
 
 @understood("replica identities")
@@ -104,15 +101,11 @@ def members(name: str) -> str:
 
 def keyless_tables(connection: Connection, name: str) -> dict[int, str]:
     """The tables of a publication that have no usable replica identity."""
-    stored = ""
-    if connection.version() >= EXACT:
-        stored = (
-            connection.value(
-                f"SELECT p.pubgencols FROM pg_catalog.pg_publication p WHERE p.pubname = {literal(name)}"
-            )
-            or ""
-        )
-    return keyless_of(connection, members(name), stored == "s")
+    query = (
+        f"SELECT p.pubgencols FROM pg_catalog.pg_publication p WHERE p.pubname = {literal(name)}"
+    )
+    stored = connection.version() >= EXACT and connection.value(query) == "s"
+    return keyless_of(connection, members(name), stored)
 
 
 @understood("replica identities")
@@ -141,8 +134,7 @@ def rejected_tables(connection: Connection, name: str) -> dict[int, str]:
             connection.run("ROLLBACK TO SAVEPOINT one")
             if error.sqlstate in REJECTED:
                 _, _, why = str(error).partition("DETAIL:")
-                found[int(oid or 0)] = f"{namespace}.{table}" + (
-                    f" ({why.strip().rstrip('.')})" if why else ""
-                )
+                more = f" ({why.strip().rstrip('.')})" if why else ""
+                found[int(oid or 0)] = f"{namespace}.{table}{more}"
     connection.run("RELEASE SAVEPOINT one")
     return found

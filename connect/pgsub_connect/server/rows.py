@@ -39,8 +39,9 @@ class Rows:
         self.taken += ROW + VALUE * width
         self.rows.append([self.text(it) for it in values_of(result, width)])
         if self.taken > MOST:
-            rows = len(self.rows)
-            text = f"the server's answer is longer than {MOST >> 20} MB, after {rows} rows"
+            text = (
+                f"the server's answer is longer than {MOST >> 20} MB, after {len(self.rows)} rows"
+            )
             raise WrongAnswer(f"{text}: it is read no further")
 
     def text(self, value: bytes | None) -> str | None:

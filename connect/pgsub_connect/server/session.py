@@ -43,13 +43,10 @@ class Server:
 
 def settle(connection: Connection) -> None:
     """Gives a connection the settings on which the text of values depends."""
-    settings = {
-        **SETTINGS,
-        **{name: "0" for name, since in LATER.items() if connection.version() >= since},
-    }
+    later = {name: "0" for name, since in LATER.items() if connection.version() >= since}
     calls = (
         f"pg_catalog.set_config({literal(name)}, {literal(value)}, false)"
-        for name, value in settings.items()
+        for name, value in {**SETTINGS, **later}.items()
     )
     connection.rows(f"SELECT {', '.join(calls)}", QUICK)
 
@@ -79,15 +76,8 @@ def identify(connection: Connection) -> Server:
         it or "" for it in connection.rows("IDENTIFY_SYSTEM", QUICK)[0]
     )
     standby = connection.value("SELECT pg_catalog.pg_is_in_recovery()", QUICK) == "t"
-    return Server(
-        system,
-        int(timeline),
-        parse_lsn(log_end),
-        database,
-        standby,
-        postmaster_start(connection),
-        database_oid(connection),
-    )
+    more = postmaster_start(connection), database_oid(connection)
+    return Server(system, int(timeline), parse_lsn(log_end), database, standby, *more)
 
 
 def database_oid(connection: Connection) -> int:
@@ -137,7 +127,7 @@ def slot_position(connection: Connection, slot: str) -> int | None:
         return None
     plugin, is_ours, is_two_phase, position = rows[0]
     if plugin != "pgoutput" or is_ours != "t":
-        raise Unfit(f"the slot {slot} is not one of pgoutput in this database")
+        raise other_slot(connection, slot)
     if is_two_phase == "t":
         raise Unfit(
             f"the slot {slot} is one for two-phase commits, which aren't followed: make it without two_phase"
@@ -147,17 +137,27 @@ def slot_position(connection: Connection, slot: str) -> int | None:
     return int(position)
 
 
+def other_slot(connection: Connection, slot: str) -> Unfit:
+    """What is wrong with a slot of another plugin or database, and what to name."""
+    plugin, database, here = connection.rows(
+        "SELECT s.plugin, s.database, pg_catalog.current_database() FROM pg_catalog.pg_replication_slots s"
+        f" WHERE s.slot_name = {literal(slot)}"
+    )[0]
+    if plugin != "pgoutput":
+        kind = f"of the plugin {plugin}" if plugin else "a physical one"
+        return Unfit(
+            f"the slot {slot} is {kind}, and not one of pgoutput: name another one by --slot"
+        )
+    return Unfit(
+        f"the slot {slot} is of the database {database}, and this is {here}: name that one by --dsn, or another slot by --slot"
+    )
+
+
 def is_lost(connection: Connection, slot: str) -> bool:
     """Whether the server has removed log that the slot needs, so that nothing can be read from it
     any more."""
-    return (
-        connection.version() >= 130000
-        and connection.value(
-            f"SELECT s.wal_status FROM pg_catalog.pg_replication_slots s WHERE s.slot_name = {literal(slot)}",
-            QUICK,
-        )
-        == "lost"
-    )
+    query = f"SELECT s.wal_status FROM pg_catalog.pg_replication_slots s WHERE s.slot_name = {literal(slot)}"
+    return connection.version() >= 130000 and connection.value(query, QUICK) == "lost"
 
 
 @understood("wal_sender_timeout")

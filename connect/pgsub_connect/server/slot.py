@@ -8,6 +8,15 @@ from pgsub_feed.texts import literal
 from ..errors import understood
 from .connection import Connection
 
+# The columns that came later, by the version that has them first.
+COLUMNS = {
+    "s.two_phase": 140000,
+    "s.wal_status": 130000,
+    "s.safe_wal_size": 130000,
+    "s.failover": 170000,
+    "s.invalidation_reason": 170000,
+}
+
 
 @dataclasses.dataclass
 class Slot:
@@ -40,16 +49,7 @@ class Slot:
 def read_slot(connection: Connection, name: str) -> Slot | None:
     """The slot of this name, where there is one."""
     version = connection.version()
-    columns = [
-        column if version >= since else "NULL"
-        for column, since in (
-            ("s.two_phase", 140000),
-            ("s.wal_status", 130000),
-            ("s.safe_wal_size", 130000),
-            ("s.failover", 170000),
-            ("s.invalidation_reason", 170000),
-        )
-    ]
+    columns = [it if version >= since else "NULL" for it, since in COLUMNS.items()]
     rows = connection.rows(
         f"SELECT s.plugin, s.database = pg_catalog.current_database(), s.active, {', '.join(columns)}"
         f" FROM pg_catalog.pg_replication_slots s WHERE s.slot_name = {literal(name)}"
@@ -57,13 +57,5 @@ def read_slot(connection: Connection, name: str) -> Slot | None:
     if not rows:
         return None
     plugin, here, active, two_phase, status, size, failover, why = rows[0]
-    return Slot(
-        plugin or "none",
-        here == "t",
-        active == "t",
-        two_phase == "t",
-        status or "",
-        int(size) if size else None,
-        failover == "t",
-        why or "",
-    )
+    about = plugin or "none", here == "t", active == "t", two_phase == "t"
+    return Slot(*about, status or "", int(size) if size else None, failover == "t", why or "")

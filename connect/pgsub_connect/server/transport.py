@@ -57,15 +57,10 @@ class Protection:
         return self.near or NAME in self.verified or BINDING in self.verified
 
     def text(self) -> str:
-        if self.way == SOCKET:
+        if self.way == SOCKET or self.way == PLAIN and self.near:
             return "not in use, to a server on this machine"
-        if self.way == PLAIN:
-            more = (
-                ", to a server on this machine"
-                if self.near
-                else ": passwords, rows and their changes can be read on the way"
-            )
-            return f"not in use{more}"
+        if self.way == PLAIN and not self.near:
+            return "not in use: passwords, rows and their changes can be read on the way"
         kind = "in use" if self.way == TLS else "GSSAPI encryption in its place"
         verified = ", ".join(self.verified) or "nothing, so anybody may be the server"
         return f"{kind}, verified: {verified}"
@@ -103,10 +98,8 @@ class Trust:
     def guarded(self, settings: dict[str, str]) -> dict[str, str]:
         """The settings of a connection with the sslmode that it has to have. Raises where they ask
         for plain text after TLS."""
-        meant = {
-            **defaults_of(settings.get("service", "")),
-            **{name: it for name, it in settings.items() if it},
-        }
+        meant = defaults_of(settings.get("service", ""))
+        meant |= {name: it for name, it in settings.items() if it}
         if is_socket(meant):
             return settings
         said = mode = meant.get("sslmode", "") or UNSAID
@@ -190,11 +183,8 @@ def defaults_by_service(service: str, _: str, mode: str) -> tuple[tuple[str, str
 
 
 def filled_in() -> dict[str, str]:
-    return {
-        it.keyword.decode(): it.val.decode(errors="replace")
-        for it in pq.Conninfo.get_defaults()
-        if it.val
-    }
+    found = pq.Conninfo.get_defaults()
+    return {it.keyword.decode(): it.val.decode(errors="replace") for it in found if it.val}
 
 
 @contextlib.contextmanager
@@ -215,19 +205,16 @@ def hosts_in(meant: dict[str, str]) -> list[tuple[str, str]]:
     """Each host of a connection with its address, "" where one of them isn't said."""
     hosts, addresses = (meant.get(name, "").split(",") for name in ("host", "hostaddr"))
     count = max(len(hosts), len(addresses))
-    return [(list_at(hosts, it), list_at(addresses, it)) for it in range(count)]
-
-
-def list_at(words: list[str], index: int) -> str:
-    return words[index] if index < len(words) else words[-1]
+    return [
+        (hosts[min(it, len(hosts) - 1)], addresses[min(it, len(addresses) - 1)])
+        for it in range(count)
+    ]
 
 
 def is_socket(meant: dict[str, str]) -> bool:
     """Whether a connection goes to sockets of this machine alone, where libpq asks for no TLS."""
-    return all(
-        not address and (not host or host.startswith(("/", "@")))
-        for host, address in hosts_in(meant)
-    )
+    hosts = hosts_in(meant)
+    return all(not address and (not it or it.startswith(("/", "@"))) for it, address in hosts)
 
 
 def is_near(meant: dict[str, str]) -> bool:
@@ -251,12 +238,10 @@ def protection_of(raw: pq.abc.PGconn, by_gssapi: bool) -> Protection:
         # (who has its ticket is the server that Kerberos knows by this name)
         return Protection(GSSAPI, (NAME,), near) if by_gssapi else Protection(PLAIN, (), near)
     used = {it.keyword.decode(): (it.val or b"").decode(errors="replace") for it in raw.info}
-    verified = (
-        [AUTHORITY]
-        if used.get("sslmode") in VERIFIES or has_authority(used.get("sslrootcert", ""))
-        else []
-    )
-    verified += [NAME] if used.get("sslmode") == "verify-full" else []
+    mode = used.get("sslmode")
+    is_certified = mode in VERIFIES or has_authority(used.get("sslrootcert", ""))
+    verified = [AUTHORITY] if is_certified else []
+    verified += [NAME] if mode == "verify-full" else []
     verified += [BINDING] if used.get("channel_binding") == "require" else []
     return Protection(TLS, tuple(verified), near)
 

@@ -3,6 +3,7 @@ ended that ran when it was asked for."""
 
 import time
 from collections.abc import Callable
+from contextlib import closing
 
 from pgsub_feed import log
 from pgsub_feed.interruption import Check
@@ -30,24 +31,22 @@ def for_how_long(seconds: str | None) -> str:
 
 
 @understood("transactions")
+def texts_of(connection: Connection, query: str, what: str) -> list[str]:
+    return [
+        f"{what} {name} ({role}, database {database}){for_how_long(age)}"
+        for name, role, database, age in connection.rows(query)
+    ]
+
+
 def running_texts(connection: Connection) -> list[str]:
     """The oldest transactions that write. When one of another role began, only a role may see that
     reads all statistics."""
-    rows = connection.rows(RUNNING)
-    return [
-        f"the transaction of process {pid} ({user}, database {database}){for_how_long(age)}"
-        for pid, user, database, age in rows
-    ]
+    return texts_of(connection, RUNNING, "the transaction of process")
 
 
-@understood("transactions")
 def prepared_texts(connection: Connection) -> list[str]:
     """The oldest prepared transactions, of any database."""
-    rows = connection.rows(PREPARED)
-    return [
-        f"the prepared transaction {gid} ({owner}, database {database}){for_how_long(age)}"
-        for gid, owner, database, age in rows
-    ]
+    return texts_of(connection, PREPARED, "the prepared transaction")
 
 
 def what_is_waited_for(connection: Connection) -> str:
@@ -105,13 +104,9 @@ class Waiting:
             return
         self.next = time.monotonic() + AGAIN
         try:
-            connection = Connection(
-                self.dsn, name=f"{self.slot} status", quiet=True, check=self.check_stop
-            )
-            try:
+            name, check = f"{self.slot} status", self.check_stop
+            with closing(Connection(self.dsn, name=name, quiet=True, check=check)) as connection:
                 text = self.text(connection)
-            finally:
-                connection.close()
         except ServerError as error:
             text = f"what is waited for can't be told: {error}"
         if text:

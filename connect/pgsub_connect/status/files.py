@@ -81,37 +81,27 @@ class Reporter(threading.Thread):
 
     def rate(self) -> float:
         """Changes and copied rows a second."""
-        self.rates = [
-            *self.rates[-RATE:],
-            (time.monotonic(), self.progress.stream.changes + self.progress.copy.rows),
-        ]
+        done = self.progress.stream.changes + self.progress.copy.rows
+        self.rates = [*self.rates[-RATE:], (time.monotonic(), done)]
         (began, before), (now, after) = self.rates[0], self.rates[-1]
         return max(after - before, 0) / (now - began) if now > began else 0.0
 
     def write(self) -> None:
-        now = time.time()
+        now, store = time.time(), self.settings.store
         if self.status:
-            fields = status_fields(self.progress, self.rate(), now, self.settings.store)
+            fields = status_fields(self.progress, self.rate(), now, store)
             self.status.write(json.dumps(fields) + "\n")
         if self.metrics:
-            self.metrics.write(
-                metrics_text(
-                    self.progress, now, {"slot": self.settings.slot, "store": self.settings.store}
-                )
-            )
+            labels = {"slot": self.settings.slot, "store": store}
+            self.metrics.write(metrics_text(self.progress, now, labels))
 
 
 def program_version(program: str) -> str:
     """What the program `pgsub` says of itself, "" where it doesn't."""
+    words, null = [program, "--version"], subprocess.DEVNULL
     with contextlib.suppress(OSError, subprocess.SubprocessError):
-        done = subprocess.run(
-            [program, "--version"],
-            stdin=subprocess.DEVNULL,
-            capture_output=True,
-            check=True,
-            timeout=5,
-        )
-        return done.stdout.decode(errors="replace").partition("\n")[0].strip()
+        said = subprocess.check_output(words, stdin=null, stderr=null, timeout=5)
+        return said.decode(errors="replace").partition("\n")[0].strip()
     return ""
 
 

@@ -28,6 +28,7 @@ CURES = {
     "values": "`pgsub-connect add --store {store} --table T`, or start it with --accept values",
     "missing": "`pgsub-connect verify --repair --store {store}`, then start it with --accept missing",
 }
+ADDED = "its rows are being copied: wait for that"
 COMPARED = (
     "`pgsub-connect verify --repair --store {store}`, once it was started with --accept {kind}"
 )
@@ -52,25 +53,20 @@ def faults(
     status: dict[str, Any], age: float, most_age: float, limits: Iterable[Limit]
 ) -> list[Fault]:
     """What isn't well of a follower whose main loop was alive so many seconds ago."""
-    return list(
-        dict.fromkeys(
-            [
-                *of_life(status, age, most_age),
-                *of_lag(status, limits),
-                *of_parts(status),
-                *of_findings(status),
-                *of_tables(status),
-                *of_readers(status),
-            ]
-        )
-    )
+    of_status = of_parts, of_findings, of_tables, of_readers
+    found = [*of_life(status, age, most_age), *of_lag(status, limits)]
+    return list(dict.fromkeys([*found, *(it for of in of_status for it in of(status))]))
 
 
 def of_life(status: dict[str, Any], age: float, most_age: float) -> Iterator[Fault]:
-    again = "once that is mended, start it again"
-    if status["state"] in ENDED:
-        how = "ended" if status["state"] == "stopped" else "failed"
-        yield Fault(f"the follower has {how}", again)
+    again = f"`pgsub-connect follow {named(status)}`, with its --dsn, goes on"
+    if status["state"] == "stopped":
+        yield Fault("the follower has ended", again)
+    elif status["state"] in ENDED and status.get("wal_status") == "lost":
+        # (that is told of the slot, with what mends it)
+        return
+    elif status["state"] in ENDED:
+        yield Fault("the follower has failed", f"mend what its last error says; then {again}")
     elif age > most_age:
         yield Fault(f"no sign of life for {age:.0f} s", f"its log tells why; {again}")
 
@@ -81,9 +77,8 @@ def of_lag(status: dict[str, Any], limits: Iterable[Limit]) -> Iterator[Fault]:
         if not isinstance(lag, (int, float)):
             yield Fault("how far it is behind isn't known", "its log tells why")
         elif lag > limit.most:
-            yield Fault(
-                f"more than {limit.text} behind", "let it catch up; its log tells what it waits for"
-            )
+            cure = "let it catch up; its log tells what it waits for"
+            yield Fault(f"more than {limit.text} behind", cure)
 
 
 def of_parts(status: dict[str, Any]) -> Iterator[Fault]:
@@ -91,19 +86,22 @@ def of_parts(status: dict[str, Any]) -> Iterator[Fault]:
     if status.get("wal_status") == "lost":
         yield Fault("the slot is lost", f"`pgsub-connect drop {named(status)}`, and copy anew")
     if (losses := status.get("filter_losses") or 0) > LOSSES:
-        why = status.get("last_error") or "its log tells why"
-        yield Fault(f"the program `pgsub` has ended {losses} times in ten minutes", why)
+        why = status.get("last_error")
+        yield Fault(
+            f"the program `pgsub` has ended {losses} times in ten minutes",
+            f"mend that: {why}" if why else "its log tells why",
+        )
 
 
 def of_findings(status: dict[str, Any]) -> Iterator[Fault]:
-    found = status.get("found") or {}
+    found, store = status.get("found") or {}, status.get("store") or "STORE"
     if found:
-        texts = [
-            f"{kind}: {text}: "
-            + CURES.get(kind, COMPARED).format(store=status.get("store") or "STORE", kind=kind)
-            for kind, text in sorted(found.items())
-        ]
-        yield Fault(f"found: {', '.join(sorted(found))}", "\n".join(texts))
+        cures = dict(CURES, publication=ADDED) if status.get("adding") else CURES
+        texts = []
+        for kind, text in sorted(found.items()):
+            cure = cures.get(kind, COMPARED).format(store=store, kind=kind)
+            texts.append(f"{kind}: {text}: {cure}" if len(found) > 1 else f"{text}: {cure}")
+        yield Fault(f"the copy may be wrong: {', '.join(sorted(found))}", "\n".join(texts))
 
 
 def of_tables(status: dict[str, Any]) -> Iterator[Fault]:
@@ -111,8 +109,8 @@ def of_tables(status: dict[str, Any]) -> Iterator[Fault]:
     if error := status.get("tables_error"):
         yield Fault("the tables don't follow any more", f"{error}; then start the follower again")
     elif path := status.get("tables_missing"):
-        cure = "wait until its first rows are copied: the log tells how far that is"
-        yield Fault(f"{path} isn't there yet", cure)
+        cure = "wait until its first rows are copied, as the log tells; if it was removed, start the follower again"
+        yield Fault(f"{path} isn't there", cure)
     if aside := status.get("tables_aside"):
         names = sorted(aside)
         words = " ".join(f"--table {it}" for it in names)

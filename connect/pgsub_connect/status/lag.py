@@ -83,9 +83,6 @@ class Lag:
             return max(now - (waits_since - self.skew), 0.0)
         if not self.asked and self.complete is not None and now - self.answered < FRESH:
             return 0.0
-        known = [
-            it
-            for it in (self.complete, None if last_commit is None else last_commit - self.skew)
-            if it is not None
-        ]
+        known = [] if self.complete is None else [self.complete]
+        known += [] if last_commit is None else [last_commit - self.skew]
         return max(now - max(known), 0.0) if known else None

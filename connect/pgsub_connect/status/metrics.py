@@ -40,12 +40,8 @@ def counter(name: str, about: str, value: Value) -> Metric:
 
 def chosen(name: str, about: str, label: str, values: tuple[str, ...], which: set[str]) -> Metric:
     """A metric with 1 for what holds and 0 for what doesn't."""
-    return Metric(
-        name,
-        GAUGE,
-        about,
-        [({label: it}, int(it in which)) for it in (*values, *sorted(which - set(values)))],
-    )
+    every = (*values, *sorted(which - set(values)))
+    return Metric(name, GAUGE, about, [({label: it}, int(it in which)) for it in every])
 
 
 def metrics(progress: Progress, now: float) -> Iterator[Metric]:
@@ -131,16 +127,8 @@ def counters(progress: Progress) -> Iterator[Metric]:
     yield gauge("pgsub_copy_total_rows", text, copy.total_rows)
 
 
-def escaped_help(text: str) -> str:
+def escaped(text: str) -> str:
     return text.replace("\\", "\\\\").replace("\n", "\\n")
-
-
-def escaped_label(text: str) -> str:
-    return escaped_help(text).replace('"', '\\"')
-
-
-def number_text(value: int | float) -> str:
-    return str(value) if isinstance(value, int) else f"{value:.3f}"
 
 
 def metrics_text(progress: Progress, now: float, labels: Mapping[str, str]) -> str:
@@ -149,13 +137,11 @@ def metrics_text(progress: Progress, now: float, labels: Mapping[str, str]) -> s
     for metric in metrics(progress, now):
         samples = [(own, value) for own, value in metric.samples if value is not None]
         if samples:
-            lines += [
-                f"# HELP {metric.name} {escaped_help(metric.help)}",
-                f"# TYPE {metric.name} {metric.kind}",
-            ]
+            lines.append(f"# HELP {metric.name} {escaped(metric.help)}")
+            lines.append(f"# TYPE {metric.name} {metric.kind}")
         for own, value in samples:
-            pairs = ",".join(
-                f'{name}="{escaped_label(text)}"' for name, text in {**labels, **own}.items()
-            )
-            lines.append(f"{metric.name}{{{pairs}}} {number_text(value)}")
+            named = ((name, escaped(text)) for name, text in {**labels, **own}.items())
+            pairs = ",".join('{}="{}"'.format(it, text.replace('"', '\\"')) for it, text in named)
+            number = str(value) if isinstance(value, int) else f"{value:.3f}"
+            lines.append(f"{metric.name}{{{pairs}}} {number}")
     return "\n".join(lines) + "\n"

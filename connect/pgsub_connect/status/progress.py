@@ -63,12 +63,10 @@ class Progress:
         """The state, and how far it is."""
         if self.copy.table is not None:
             return f"{self.state} {self.copy.table}, {counted(self.copy.rows, 'row')} so far"
-        behind, at = self.stream.lag_bytes(), lsn_text(self.stream.position)
         if not self.stream.position:
             return self.state
-        return f"{self.state}, at {at}" + (
-            "" if behind is None else f", {counted(behind, 'byte')} behind"
-        )
+        behind, text = self.stream.lag_bytes(), f"{self.state}, at {lsn_text(self.stream.position)}"
+        return text if behind is None else f"{text}, {counted(behind, 'byte')} behind"
 
     def enter(self, state: str) -> None:
         self.state = state

@@ -41,18 +41,14 @@ def line_of(status: Mapping[str, Any], age: float, wrong: list[Fault]) -> str:
 def cures_of(status: Mapping[str, Any], wrong: list[Fault]) -> Iterator[str]:
     """What mends what isn't well, a line each."""
     for fault in wrong:
-        # (the first line of several says what the others are about)
+        # (the first line of the screen says what one fault is, that of a fault what its others are)
         lines = fault.cure.split("\n")
-        is_one = len(lines) == 1
-        yield from (f"  {log.escaped(f'{fault.text}: {it}' if is_one else it)}" for it in lines)
+        head = f"{fault.text}: " if len(wrong) > 1 and len(lines) == 1 else ""
+        yield from (f"  {log.escaped(head + it)}" for it in lines)
     runs = (status.get("connector_version"), status.get("connector_commit"))
-    if runs[0] and runs != (VERSION, OWN.get("commit")):
-        told = [
-            " of ".join(map(str, filter(None, it))) for it in (runs, (VERSION, OWN.get("commit")))
-        ]
-        yield log.escaped(
-            f"  it runs version {told[0]}, and {told[1]} is installed: start it again"
-        )
+    if runs[0] and runs != (own := (VERSION, OWN.get("commit"))):
+        old, new = (" of ".join(map(str, filter(None, it))) for it in (runs, own))
+        yield log.escaped(f"  it runs version {old}, and {new} is installed: start it again")
 
 
 def screen_of(status: Mapping[str, Any], age: float, wrong: list[Fault]) -> Iterator[str]:
@@ -60,7 +56,8 @@ def screen_of(status: Mapping[str, Any], age: float, wrong: list[Fault]) -> Iter
     yield log.coloured(line_of(status, age, wrong), "error" if wrong else "ok", sys.stdout)
     yield from cures_of(status, wrong)
     yield ""
-    rate = json_number(status.get("changes_per_second"))
+    said = status.get("changes_per_second")
+    rate = float(said) if isinstance(said, (int, float)) else 0.0
     if (table := status.get("copying_table")) is not None:
         yield from copy_of(status, str(table), rate)
     yield f"  rate       {rate:.0f} changes and copied rows a second"
@@ -68,9 +65,8 @@ def screen_of(status: Mapping[str, Any], age: float, wrong: list[Fault]) -> Iter
     for table, how in sorted((status.get("adding") or {}).items()):
         yield log.escaped(f"  adding     {table}: {how}")
     for name, reader in sorted((status.get("readers") or {}).items()):
-        yield log.escaped(
-            f"  reader     {name}: {counted(reader['lag_bytes'], 'byte')} behind, at {reader['lsn']}"
-        )
+        behind = counted(reader["lag_bytes"], "byte")
+        yield log.escaped(f"  reader     {name}: {behind} behind, at {reader['lsn']}")
 
 
 def copy_of(status: Mapping[str, Any], table: str, rate: float) -> Iterator[str]:
@@ -80,7 +76,3 @@ def copy_of(status: Mapping[str, Any], table: str, rate: float) -> Iterator[str]
         full = min(BAR * done // total, BAR)
         yield f"  copying    [{'#' * full}{' ' * (BAR - full)}] {min(100 * done // total, 100)} %"
     yield log.escaped(f"  copying    {table}: {progress_text(done, total, rate)}")
-
-
-def json_number(value: object) -> float:
-    return float(value) if isinstance(value, (int, float)) else 0.0

@@ -47,6 +47,13 @@ def at_rest(store: str, beside: str, check: Check) -> Iterator[tuple[str, bool]]
                 yield copied, True
                 return
         stack.callback(os.close, file)
+        yield stack.enter_context(unopened(store, beside, check))
+
+
+@contextlib.contextmanager
+def unopened(store: str, beside: str, check: Check) -> Iterator[tuple[str, bool]]:
+    """The same of a store that no connector but this one may open meanwhile."""
+    with contextlib.ExitStack() as stack:
         stack.callback(os.close, hold(store))
         if not has_log(store):
             yield store, False
@@ -132,12 +139,9 @@ def hold(store: str) -> int:
         file = os.open(store, os.O_RDONLY | os.O_CLOEXEC)
     except OSError as error:
         raise FileError(f"{store}: {error.strerror}") from None
+    lock = struct.pack("hhqqi4x", fcntl.F_RDLCK, os.SEEK_SET, SHARED_FIRST, SHARED_SIZE, 0)
     try:
-        fcntl.fcntl(
-            file,
-            fcntl.F_OFD_SETLK,
-            struct.pack("hhqqi4x", fcntl.F_RDLCK, os.SEEK_SET, SHARED_FIRST, SHARED_SIZE, 0),
-        )
+        fcntl.fcntl(file, fcntl.F_OFD_SETLK, lock)
     except OSError as error:
         os.close(file)
         if error.errno in (errno.EAGAIN, errno.EACCES):

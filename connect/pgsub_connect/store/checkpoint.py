@@ -129,10 +129,6 @@ class Checkpoint:
         """What the file says is known."""
         return read_file(self.file, self.path).known
 
-    def read_counted(self) -> Counted | None:
-        """What it says of changes that found no row."""
-        return read_file(self.file, self.path).counted
-
     def write(self, durably: bool, **fields: Any) -> None:
         """Changes what is known. Where `durably`, the disk has it before this returns."""
         self.put(durably, dataclasses.replace(self.known, **fields), self.counted)
@@ -174,14 +170,8 @@ class Checkpoint:
 
     def forget_server(self) -> None:
         """Forgets whose changes the store holds, and how far it was."""
-        known = self.known
-        self.known = Known(
-            found=known.found,
-            skipped=known.skipped,
-            adding=known.adding,
-            encrypted=known.encrypted,
-            tables=known.tables,
-        )
+        kept = "found", "skipped", "adding", "encrypted", "tables"
+        self.known = Known(**{name: getattr(self.known, name) for name in kept})
 
     def note_tables(self, path: str) -> None:
         """Notes durably which file has the tables that follow, "" where none has."""
@@ -199,9 +189,8 @@ class Checkpoint:
         """
         known, counted = self.known, self.counted
         if counted and counted.upto != position:
-            counted = Counted(
-                counted.since, position, counted.count, counted.first, counted.relation, counted.gap
-            )
+            rest = counted.count, counted.first, counted.relation, counted.gap
+            counted = Counted(counted.since, position, *rest)
         confirmed, position = max(confirmed, known.confirmed), max(position, known.position)
         if (confirmed, position, counted) != (known.confirmed, known.position, self.counted):
             durably = confirmed > position and confirmed > known.confirmed
@@ -217,9 +206,8 @@ class Checkpoint:
         gap = before.gap
         if is_found := position > before.upto and not accepts:
             gap = (min(before.upto, *gap) if gap else before.upto, position)
-        counted = dataclasses.replace(
-            before, since=min(before.since, position), upto=position, gap=gap
-        )
+        since = min(before.since, position)
+        counted = dataclasses.replace(before, since=since, upto=position, gap=gap)
         if counted != self.counted:
             self.put(True, self.known, counted)
         return is_found
@@ -230,11 +218,8 @@ class Checkpoint:
         if not counted.count:
             counted = dataclasses.replace(counted, first=first, relation=relation)
         counted = dataclasses.replace(counted, count=counted.count + more, upto=position)
-        self.put(
-            True,
-            dataclasses.replace(self.known, position=max(position, self.known.position)),
-            counted,
-        )
+        at = max(position, self.known.position)
+        self.put(True, dataclasses.replace(self.known, position=at), counted)
 
     def findings(self) -> dict[str, str]:
         """All kinds of what was found, each with the LSN at which it was found first."""
@@ -265,30 +250,18 @@ class Checkpoint:
 
     def has_room_for(self, oid: int) -> bool:
         """Whether one more table can be noted, whatever else the file will say."""
-        most = GREATEST
-        known = dataclasses.replace(
-            self.known,
-            adding={**self.known.adding, str(oid): most},
-            found=dict.fromkeys({*self.known.found, *KINDS}, lsn_text(most)),
-            confirmed=most,
-            position=most,
-            skipped=lsn_text(most),
-            timeline=(1 << 32) - 1,
-            started=most,
-        )
-        return (
-            len(line_of(most, spelled(known), Counted(most, most, most, most, most, (most, most))))
-            < SIZE
-        )
+        most, adding = GREATEST, {**self.known.adding, str(oid): GREATEST}
+        numbers = dict.fromkeys(("confirmed", "position", "started"), most)
+        texts = {"found": dict.fromkeys({*self.known.found, *KINDS}, lsn_text(most))}
+        more = {"skipped": lsn_text(most), "timeline": (1 << 32) - 1, **numbers, **texts}
+        known = spelled(dataclasses.replace(self.known, adding=adding, **more))
+        counted = Counted(most, most, most, most, most, (most, most))
+        return len(line_of(most, known, counted)) < SIZE
 
     def accept(self, kinds: list[str]) -> None:
         """Forgets what was found of these kinds."""
-        left = {
-            kind: lsn
-            for kind, lsn in self.known.found.items()
-            if kind not in kinds and "all" not in kinds
-        }
-        counted = self.counted
+        found, counted = self.known.found, self.counted
+        left = {} if "all" in kinds else {it: found[it] for it in found if it not in kinds}
         if counted and {MISSING, "all"} & set(kinds):
             counted = Counted(counted.since, counted.upto)
         if (left, counted) != (self.known.found, self.counted):

@@ -38,6 +38,8 @@ TEXT = json.JSONEncoder(separators=(",", ":"))
 LINE = re.compile(rb'\{"version":([0-9]{1,9}),"crc32":"([0-9a-f]{8})",(.*)', re.DOTALL)
 NEW, COPYING, SLOT, COPIED, FOLLOWING = "new", "copying", "slot", "copied", "following"
 PHASES = (NEW, COPYING, SLOT, COPIED, FOLLOWING)
+# those with a copy that the next start goes on with
+INTERRUPTED = (SLOT, COPIED)
 
 
 @dataclasses.dataclass
@@ -124,9 +126,8 @@ def read_line(content: bytes, at: int, path: str) -> Line | None:
 def read_old(content: bytes) -> Line:
     """Both lines of version 1; of a still earlier one there is the first alone."""
     first, second = (content[at : at + OLD_SIZE].strip() for at in (0, OLD_SIZE))
-    return Line(
-        0, known_of(parsed(first)), counted_of(parsed(second)) if second.strip(b"\0") else None, 0
-    )
+    counted = counted_of(parsed(second)) if second.strip(b"\0") else None
+    return Line(0, known_of(parsed(first)), counted, 0)
 
 
 def known_of(said: Any) -> Known:
@@ -135,16 +136,11 @@ def known_of(said: Any) -> Known:
     check_names(fields, Known)
     texts = {it.name: json_texts.text_of(fields.get(it.name, it.default)) for it in TEXTS}
     numbers = {it.name: whole_of(fields.get(it.name, 0)) for it in NUMBERS}
-    found = {
-        kind: json_texts.text_of(lsn) for kind, lsn in object_of(fields.get("found", {})).items()
-    }
-    adding = {
-        str(json_texts.oid_of(oid)): whole_of(lsn)
-        for oid, lsn in object_of(fields.get("adding", {})).items()
-    }
-    known = Known(
-        found=found, adding=adding, encrypted=json_texts.flag_of(fields.get("encrypted", False))
-    )
+    said_found, said_adding = (object_of(fields.get(name, {})) for name in ("found", "adding"))
+    found = {kind: json_texts.text_of(lsn) for kind, lsn in said_found.items()}
+    adding = {str(json_texts.oid_of(oid)): whole_of(lsn) for oid, lsn in said_adding.items()}
+    encrypted = json_texts.flag_of(fields.get("encrypted", False))
+    known = Known(found=found, adding=adding, encrypted=encrypted)
     known = dataclasses.replace(known, **texts, **numbers)
     if known.phase not in PHASES:
         raise Unreadable(f"no phase {known.phase}")
@@ -159,14 +155,11 @@ def counted_of(said: Any) -> Counted:
     if not {"since", "upto"} <= fields.keys():
         raise Unreadable("fields are missing")
     numbers = {name: whole_of(it) for name, it in fields.items() if name != "gap"}
-    gap = (
-        None
-        if fields.get("gap") is None
-        else [whole_of(it) for it in json_texts.list_of(fields["gap"])]
-    )
-    if gap is not None and len(gap) != 2:
-        raise Unreadable("a gap has two positions")
-    return dataclasses.replace(Counted(0, 0), **numbers, gap=gap and (gap[0], gap[1]))
+    if (gap := fields.get("gap")) is not None:
+        gap = tuple(whole_of(it) for it in json_texts.list_of(gap))
+        if len(gap) != 2:
+            raise Unreadable("a gap has two positions")
+    return Counted(**numbers, gap=gap)
 
 
 def check_names(fields: dict[str, Any], kind: type) -> None:

@@ -15,6 +15,7 @@ import dataclasses
 import itertools
 import sqlite3
 from collections.abc import Callable, Collection, Iterable, Iterator, Mapping, Sequence
+from functools import partial
 
 from pgsub_feed import log
 from pgsub_feed.errors import FileError, Passing, Stopped, Unfit
@@ -28,9 +29,9 @@ from pgsub_feed.tables.names import OLD, POSITION, TABLES, name_tables, names_of
 from pgsub_feed.tables.primary_keys import primary_key
 from pgsub_feed.tables.schema import RELATIONS, SCHEMA, definition
 from pgsub_feed.tables.sqlite_files import EXPORT as APPLICATION
-from pgsub_feed.tables.sqlite_files import OLDEST, is_export
-from pgsub_feed.tables.target import NONE, Bound, Target, key_index, unlike_reason
-from pgsub_feed.tables.values import BOTH, Malformed, Unlike, read_row
+from pgsub_feed.tables.sqlite_files import check_sqlite, is_export
+from pgsub_feed.tables.target import Target, key_index, unlike_reason
+from pgsub_feed.tables.values import BOTH, Malformed, Row, Unlike
 from pgsub_feed.texts import counted, identifier, lsn_text
 
 from ..drift.remembered import Remembered
@@ -91,12 +92,8 @@ class Export:
     ) -> None:
         """Makes the tables, with these primary keys by their OIDs."""
         into = self.into
-        for pragma in (
-            "journal_mode = MEMORY",
-            "synchronous = OFF",
-            "cache_size = -8000",
-            f"application_id = {APPLICATION}",
-        ):
+        settings = "journal_mode = MEMORY", "synchronous = OFF", "cache_size = -8000"
+        for pragma in (*settings, f"application_id = {APPLICATION}"):
             into.execute(f"PRAGMA {pragma}")
         into.execute("BEGIN")
         for statement in SCHEMA:
@@ -108,13 +105,9 @@ class Export:
         }
         for oid, target in self.targets.items():
             it = target.relation
-            into.execute(
-                f"INSERT INTO {TABLES} VALUES (?, ?, ?, ?)",
-                (target.name, it.namespace, it.name, oid),
-            )
-            into.execute(
-                f"INSERT INTO {RELATIONS} VALUES (?, ?, ?)", (oid, target.name, definition(target))
-            )
+            row, told = (target.name, it.namespace, it.name, oid), definition(target)
+            into.execute(f"INSERT INTO {TABLES} VALUES (?, ?, ?, ?)", row)
+            into.execute(f"INSERT INTO {RELATIONS} VALUES (?, ?, ?)", (oid, target.name, told))
             into.execute(target.definition())
 
     def copy_rows(self, stored: dict[int, Relation], held: Iterable[Held]) -> None:
@@ -126,7 +119,7 @@ class Export:
                     raise Malformed
                 # (of an older table whose name another one has, or one that wasn't chosen)
                 continue
-            target.waiting.append((self.values(target, body), copies))
+            target.waiting.append((body, copies))
             self.waiting += len(body) + ROW
             if self.waiting > ROOM:
                 self.write()
@@ -138,15 +131,12 @@ class Export:
                     f"CREATE INDEX {index} ON {identifier(target.name)} ({target.keys()})"
                 )
 
-    def values(self, target: Target, body: bytes) -> list[Bound]:
-        if NONE in target.relation.shape.columns:
-            return [None]
+    def values(self, target: Target, bodies: list[bytes]) -> list[Row]:
         try:
-            return target.row(read_row(body, target.several))
+            return target.row_values(bodies)
         except Unlike as unlike:
-            raise Unfit(
-                f"{unlike_text(target.relation, unlike)}. Copy anew, or export each value as a text by --text"
-            ) from None
+            text = f"{target.text()}: {unlike_reason(target.relation, unlike)}"
+            raise Unfit(f"{text}. Copy anew, or export each value as a text by --text") from None
 
     def write(self) -> None:
         """Writes the rows that wait."""
@@ -158,19 +148,19 @@ class Export:
         self.note(sum(it.rows for it in self.targets.values()))
 
     def write_table(self, target: Target) -> None:
-        waiting, target.waiting = target.waiting, []
-        if any(target.has_null_key(values) for values, _ in waiting):
+        waiting = target.take()
+        rows = self.values(target, [body for body, _ in waiting])
+        copies = [it for _, it in waiting]
+        if target.have_null_keys(rows):
             self.loosen(target)
         before = self.into.total_changes
         try:
-            self.into.executemany(target.insertion(), repeated(waiting, self.check))
+            target.insert(self.into, repeated(rows, copies, self.check))
         except sqlite3.IntegrityError:
             done = self.into.total_changes - before
             self.loosen(target)
-            self.into.executemany(
-                target.insertion(), itertools.islice(repeated(waiting, self.check), done, None)
-            )
-        target.rows += sum(copies for _, copies in waiting)
+            left = itertools.islice(repeated(rows, copies, self.check), done, None)
+            target.insert(self.into, left)
 
     def loosen(self, target: Target) -> None:
         """Makes a table anew whose key can't be a primary key: a row has null there, or two have
@@ -178,12 +168,11 @@ class Export:
         log.warning(
             f"{target.text()}: rows have null in the key, or equal keys: the table has an index in place of a primary key"
         )
-        target.is_keyed = False
-        self.into.execute(f"ALTER TABLE {identifier(target.name)} RENAME TO {OLD}")
+        target.loosen()
+        name = identifier(target.name)
+        self.into.execute(f"ALTER TABLE {name} RENAME TO {OLD}")
         self.into.execute(target.definition())
-        self.into.execute(
-            f"INSERT INTO {identifier(target.name)} SELECT * FROM {OLD} ORDER BY rowid"
-        )
+        self.into.execute(f"INSERT INTO {name} SELECT * FROM {OLD} ORDER BY rowid")
         self.into.execute(f"DROP TABLE {OLD}")
 
 
@@ -195,14 +184,14 @@ def named(relations: list[Relation], names: Sequence[str]) -> list[Relation]:
     return [it for it in relations if not names or names_of(it.namespace, it.name) & set(names)]
 
 
-def unlike_text(relation: Relation, unlike: Unlike) -> str:
-    return f"{relation.text()}: {unlike_reason(relation, unlike)}"
-
-
-def repeated(rows: Iterable[tuple[list[Bound], int]], check: Check) -> Iterator[list[Bound]]:
+def repeated(rows: list[Row], copies: list[int], check: Check) -> Iterable[Row]:
     """Each row as often as it is there."""
+    if copies.count(1) == len(copies):
+        return rows
     return itertools.chain.from_iterable(
-        itertools.repeat(values, count) for values, copies in rows for count in lots(copies, check)
+        itertools.repeat(row, part)
+        for row, count in zip(rows, copies, strict=True)
+        for part in lots(count, check)
     )
 
 
@@ -244,11 +233,7 @@ class ExportSettings:
 
 def export_store(settings: ExportSettings, check: Check) -> None:
     """Exports a store, or a copy of one."""
-    if sqlite3.sqlite_version_info < OLDEST:
-        wanted = ".".join(map(str, OLDEST[:2]))
-        raise FileError(
-            f"SQLite {wanted} or later is needed for STRICT tables, and this is {sqlite3.sqlite_version}"
-        )
+    check_sqlite()
     check_into(settings.store, settings.into, is_export, "an export")
     try:
         with at_rest(settings.store, settings.into, check) as (path, _), placed(
@@ -277,14 +262,8 @@ def export(path: str, new: str, settings: ExportSettings, check: Check) -> tuple
                 db.set_progress_handler(stop(check), STEPS)
             meter = Meter("exporting")
             total = store.execute("SELECT count(*) FROM held").fetchone()[0]
-            made = Export(
-                into,
-                settings.form,
-                check,
-                settings.chosen,
-                indexes,
-                lambda rows: meter.note(rows, total),
-            )
+            told, note = (settings.form, check, settings.chosen), partial(meter.note, total=total)
+            made = Export(into, *told, indexes, note)
             # (in the order in which the file has them)
             held = store.execute("SELECT oid, body, copies FROM held NOT INDEXED")
             return made.run(remembered, read_position(store), read_relations(store), held)

@@ -29,12 +29,10 @@ def read_relations(store: sqlite3.Connection) -> dict[int, Relation]:
     """The definitions of the store, by OID. An empty namespace is pg_catalog, as in the
     protocol."""
     found = {}
-    for oid, namespace, name, letter, columns in store.execute(
-        "SELECT oid, nsp, name, letter, cols FROM rel"
-    ):
-        found[oid] = Relation(
-            oid, namespace or "pg_catalog", name, Shape(chr(letter), read_columns(columns))
-        )
+    rows = store.execute("SELECT oid, nsp, name, letter, cols FROM rel")
+    for oid, namespace, name, letter, columns in rows:
+        shape = Shape(chr(letter), read_columns(columns))
+        found[oid] = Relation(oid, namespace or "pg_catalog", name, shape)
     return found
 
 
@@ -47,11 +45,8 @@ def named_at(stored: dict[int, Relation], remembered: Remembered, position: int)
 
     What the server has changed after the position isn't looked at.
     """
-    since = {
-        name.oid: (key, name.since)
-        for key, name in remembered.names.items()
-        if name.oid is not None
-    }
+    names = ((key, it) for key, it in remembered.names.items() if it.oid is not None)
+    since = {it.oid: (key, it.since) for key, it in names}
     named: Named = {}
     for relation in stored.values():
         held = since.get(relation.oid)
@@ -74,9 +69,8 @@ def choose(stored: dict[int, Relation], remembered: Remembered, position: int) -
         last = last_of(relations, name.oid if name and name.since <= position else None)
         older = ", ".join(str(it.oid) for it in relations if it is not last and it.oid in stored)
         if older:
-            log.warning(
-                f"{last.text()}: another table had this name before, {older}: its rows are left out"
-            )
+            text = f"another table had this name before, {older}: its rows are left out"
+            log.warning(f"{last.text()}: {text}")
         chosen.append(last)
     return chosen
 
@@ -99,10 +93,8 @@ def tables_in(path: str) -> set[str]:
     """The names of a database's tables; none where it is no database."""
     try:
         with contextlib.closing(opened(path)) as store:
-            return {
-                row[0]
-                for row in store.execute("SELECT name FROM sqlite_master WHERE type = 'table'")
-            }
+            rows = store.execute("SELECT name FROM sqlite_master WHERE type = 'table'")
+            return {row[0] for row in rows}
     except sqlite3.Error:
         return set()
 
@@ -115,8 +107,5 @@ def is_store(path: str) -> bool:
 def check_store(path: str, told: str) -> None:
     """Rejects a file that isn't a store's."""
     if not is_store(path):
-        raise FileError(
-            f"{told}: it is an export, and no store"
-            if is_export(path)
-            else f"{told}: it isn't a store of pgsub"
-        )
+        what = "is an export, and no store" if is_export(path) else "isn't a store of pgsub"
+        raise FileError(f"{told}: it {what}")

@@ -36,10 +36,8 @@ def identities(*paths: str) -> set[Identity]:
 def is_of_store(store: str, path: str) -> bool:
     """Whether a path is one of a store's own files: the connector's are beside the name that it was
     given, the program's beside what that links to."""
-    names = (store, os.path.realpath(store))
-    return not identities(path).isdisjoint(
-        identities(*(name + it for name in names for it in OF_STORE))
-    )
+    names = (name + it for name in (store, os.path.realpath(store)) for it in OF_STORE)
+    return not identities(path).isdisjoint(identities(*names))
 
 
 def check_apart(
@@ -62,8 +60,9 @@ def check_meant(store: str) -> None:
     folder = os.path.dirname(path)
     if os.path.islink(path):
         raise FileError(f"--store {store}: the link leads to itself")
-    if path != store and not os.path.isdir(folder):
-        raise FileError(f"--store {store} leads to {path}: there is no folder {folder}")
+    if not os.path.isdir(folder or "."):
+        leads = f" leads to {path}" if path != store else ""
+        raise FileError(f"--store {store}{leads}: there is no folder {folder}")
 
 
 def check_into(

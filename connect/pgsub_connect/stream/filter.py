@@ -34,10 +34,7 @@ class Filter:
     def __init__(
         self, words: list[str], kept_open: Sequence[int], proto: int = 2, mode: int = 0o600
     ) -> None:
-        self.words = words
-        self.proto = proto
-        self.kept_open = kept_open
-        self.mode = mode
+        self.words, self.proto, self.kept_open, self.mode = words, proto, kept_open, mode
         self.runs = self.in_session = False
         self.input, self.said = FilterInput(), FilterSaid()
         # the last status, and the beginning of the next one

@@ -11,6 +11,8 @@ from pgsub_feed.texts import parse_lsn
 # is no store (3).
 REJECTED, SPOOL_FULL, FRAME_TOO_LARGE, UNOPENED, REFUSED, MEMORY, BROKEN = 1, 10, 11, 12, 13, 14, 15
 PASSING = (UNOPENED, REFUSED, MEMORY, BROKEN)
+# What is told of one that couldn't open its store.
+BUSY = "another program may have the store open, as `pgsub dump`: let that end. Beside a follower `pgsub-connect export` or `follow --tables` has the rows"
 # The status of one whose input ended, after changes that found no row.
 MISSED = 16
 # What it says of these on standard error, before the status that confirms their commits: how many
@@ -24,14 +26,12 @@ class FilterEnded(Failure):
     """The filter ended: with a status above 0 by a fault, below 0 by a signal."""
 
     def __init__(self, status: int, said: str) -> None:
-        ended = (
-            f"the filter ended with status {status}"
-            if status >= 0
-            else f"signal {-status} ended the filter"
-        )
-        super().__init__(f"{ended}: {said}" if said else ended)
-        self.status = status
-        self.said = said
+        ended = f"the filter ended with status {status}"
+        ended = ended if status >= 0 else f"signal {-status} ended the filter"
+        ended = f"{ended}: {said}" if said else ended
+        is_busy = status == UNOPENED and said.endswith(" Refused")
+        super().__init__(f"{ended} ({BUSY})" if is_busy else ended)
+        self.status, self.said = status, said
 
     def is_rejection(self) -> bool:
         """Whether the same would come of another try. A disk that is full, or too little memory,
@@ -52,9 +52,8 @@ class FilterEnded(Failure):
 
     def is_of_commit(self) -> bool:
         """Whether what was rejected is a commit, and not a single message."""
-        return self.status == REJECTED and self.said.startswith(
-            ("pgsub: store ", "pgsub: relation ")
-        )
+        starts = "pgsub: store ", "pgsub: relation "
+        return self.status == REJECTED and self.said.startswith(starts)
 
     def is_full(self) -> bool:
         """Whether too much of open transactions was buffered."""

@@ -161,10 +161,9 @@ class Hold:
             return payloads[:count]
         # (within a transaction no server tells of the point or more; before the changes nothing
         # may)
+        passed, point = payloads[:count], self.point
         return [
-            it
-            for it in payloads[:count]
-            if it[:1] != KEEPALIVE or int.from_bytes(it[1:9], "big") < self.point
+            it for it in passed if it[:1] != KEEPALIVE or int.from_bytes(it[1:9], "big") < point
         ]
 
     def take_kept(self) -> list[bytes]:

@@ -11,23 +11,16 @@ was noted, the store is found further than the checkpoint says, and what lies be
 counted.
 """
 
-from __future__ import annotations
-
 import time
-from typing import TYPE_CHECKING
 
 from pgsub_feed import log
 from pgsub_feed.texts import counted, lsn_text
 
 from ..drift.remembered import Remembered
-from ..drift.tolerance import Tolerance
 from ..status.findings import Counted
-from ..status.progress import Progress
-from ..store.checkpoint import MISSING, Checkpoint
-
-if TYPE_CHECKING:
-    from .filter_end import Missing
-
+from ..store.checkpoint import MISSING
+from .common import Common
+from .filter_end import Missing
 
 # After how many seconds more of them are told at the earliest.
 AGAIN = 10.0
@@ -53,15 +46,8 @@ class Misses:
     """Counts them. `count`: how many there were in this run; `is_new`: there were some since the
     caller looked last."""
 
-    def __init__(
-        self,
-        tolerance: Tolerance,
-        checkpoint: Checkpoint,
-        progress: Progress,
-        remembered: Remembered,
-    ) -> None:
-        self.tolerance, self.checkpoint = tolerance, checkpoint
-        self.progress, self.remembered = progress, remembered
+    def __init__(self, common: Common) -> None:
+        _, self.tolerance, self.checkpoint, self.progress, self.remembered = common
         self.count = 0
         # how many of the filter that runs are noted
         self.noted = 0
@@ -76,9 +62,8 @@ class Misses:
         what found no row.
         """
         self.noted = 0
-        is_found = self.checkpoint.begin_counting(
-            position, has_told_all or self.tolerance.accepts(MISSING)
-        )
+        accepts = has_told_all or self.tolerance.accepts(MISSING)
+        is_found = self.checkpoint.begin_counting(position, accepts)
         self.show()
         if is_found and self.checkpoint.counted:
             self.warn(texts_of(self.checkpoint.counted, self.remembered)[-1])
@@ -101,10 +86,8 @@ class Misses:
         """Tells the progress what is counted."""
         known = self.checkpoint.counted
         table = self.remembered.text_of(known.relation) if known and known.count else ""
-        texts = texts_of(known, self.remembered) if known else []
-        self.progress.findings.note_missing(
-            known, table, {MISSING: "; ".join(texts)} if texts else {}
-        )
+        text = "; ".join(texts_of(known, self.remembered)) if known else ""
+        self.progress.findings.note_missing(known, table, {MISSING: text} if text else {})
 
     def take_new(self) -> bool:
         """Whether there were some since this was asked last."""
@@ -113,13 +96,10 @@ class Misses:
 
     def tell(self, is_last: bool = False) -> None:
         """Tells the first one at once, and more of them later, with their number."""
-        if (
-            self.is_untold
-            and (is_last or time.monotonic() >= self.next_telling)
-            and self.checkpoint.counted
-        ):
+        known, is_time = self.checkpoint.counted, is_last or time.monotonic() >= self.next_telling
+        if self.is_untold and is_time and known:
             self.is_untold, self.next_telling = False, time.monotonic() + AGAIN
-            self.warn(texts_of(self.checkpoint.counted, self.remembered)[0])
+            self.warn(texts_of(known, self.remembered)[0])
 
     def warn(self, text: str) -> None:
         log.warning(f"found: {MISSING} at {self.checkpoint.findings().get(MISSING)}: {text}")

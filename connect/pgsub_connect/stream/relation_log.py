@@ -11,11 +11,12 @@ from .transactions import Described
 
 class RelationLog:
     """Compares them. `wants_look`: a table came that isn't among those that are remembered, or
-    wasn't published when these were, or one came whose primary key no message tells."""
+    wasn't published when these were, or one came whose primary key no message tells, of which
+    `has_others` says whether any did."""
 
     def __init__(self, remembered: Remembered) -> None:
         self.remembered = remembered
-        self.wants_look = False
+        self.wants_look = self.has_looked = self.has_others = False
         self.strangers: set[int] = set()
         # the last Relation message of each table that was compared with what is remembered, as it
         # came
@@ -28,7 +29,12 @@ class RelationLog:
         self.described = {}
 
     def note_look(self, wants_look: bool) -> None:
-        self.wants_look = wants_look
+        self.wants_look, self.has_looked = wants_look, self.has_looked or not wants_look
+
+    def knows_keys(self) -> bool:
+        """Whether the server was looked at since a table came whose primary key no message tells,
+        and since the start: that of a run before may not have been."""
+        return self.has_looked and not self.wants_look
 
     def last_of(self, body: bytes) -> bytes:
         """A message's body, as the same object as the one before in the same words."""
@@ -45,9 +51,10 @@ class RelationLog:
         changed = {number(key[-4:]): None for key in counts}
         oids = [number(body[:4]) for _, body in relations.bodies]
         for oid, (maker, body) in zip(oids, relations.bodies):
-            # (it comes once in a session, and after each alteration; in blocks with each of them)
-            if not maker and identity_of(body) in OTHER:
-                self.wants_look = True
+            # (it comes once in a session, and after each alteration; in blocks with each of them, where
+            # those that read a feed alone need to know)
+            if identity_of(body) in OTHER and (self.remembered.feed or not maker):
+                self.wants_look = self.has_others = True
             if oid in changed or not self.remembered.is_partition(oid):
                 self.described.setdefault(oid, []).append(body)
             if self.remembered.is_known(oid) and not (
@@ -57,9 +64,11 @@ class RelationLog:
             elif oid not in self.strangers:
                 self.strangers.add(oid)
                 self.wants_look = True
-        for oid in changed:
-            if oid in self.described:
-                self.compare(oid, self.described.pop(oid), lsn)
+        # (of several that had one name the last one has it)
+        order = {oid: at for at, oid in enumerate(oids)}
+        known = (oid for oid in changed if oid in self.described)
+        for oid in sorted(known, key=lambda it: order.get(it, -1)):
+            self.compare(oid, self.described.pop(oid), lsn)
         for oid in oids:
             del self.described.get(oid, [])[:-1]
 
@@ -67,7 +76,8 @@ class RelationLog:
         """Compares the Relation messages of a table in one commit, one after the other."""
         last = self.remembered.last_sent(oid)
         for body in bodies:
-            if self.compared.get(oid) == body and last >= 0:
+            is_same = self.compared.get(oid) == body and self.remembered.has_name(oid)
+            if is_same and last >= 0:
                 self.remembered.note_again(oid, lsn)
             elif (relation := relation_of(body)) is not None:
                 self.compared[oid] = body

@@ -9,9 +9,7 @@ without changes, with which the store's position moves on.
 from pgsub_feed import log
 from pgsub_feed.texts import lsn_text
 
-from ..drift.remembered import Remembered
-from ..status.progress import Progress
-from ..store.checkpoint import Checkpoint
+from .common import Common
 from .messages import BEGIN, CHANGES, COMMIT, OUTSIDE, TRUNCATE, final_lsn, xid_of
 from .transactions import TRUNCATED, changes_text, count_truncates
 
@@ -22,33 +20,25 @@ LEFT_OUT = bytes([*CHANGES, TRUNCATE, MESSAGE])
 class Skipping:
     """The commit that is to be skipped, if any. `is_pending`: it is still to come."""
 
-    def __init__(
-        self, lsn: int, checkpoint: Checkpoint, progress: Progress, remembered: Remembered
-    ) -> None:
-        self.lsn = lsn
-        self.checkpoint, self.progress, self.remembered = checkpoint, progress, remembered
+    def __init__(self, lsn: int, common: Common) -> None:
+        self.lsn, checkpoint = lsn, common.checkpoint
+        _, _, self.checkpoint, self.progress, self.remembered = common
         self.is_pending = self.is_told = False
         # the Begin of the commit that is skipped, while it comes; whether any other transaction is
         # under way
         self.begun, self.is_inside = b"", False
         self.counts: dict[bytes, int] = {}
-        progress.findings.note_skipped(checkpoint.known.skipped)
+        self.progress.findings.note_skipped(self.checkpoint.known.skipped)
 
     def begin_session(self, at: int) -> None:
         """A session starts at an LSN. A commit that ends above it comes in it, so one that has its
         final LSN there or above does."""
         self.begun, self.is_inside = b"", False
         self.is_pending = bool(self.lsn) and at <= self.lsn
-        if (
-            self.lsn
-            and not self.is_pending
-            and not self.is_told
-            and self.checkpoint.known.skipped != lsn_text(self.lsn)
-        ):
+        told = not self.lsn or self.is_pending or self.is_told
+        if not told and self.checkpoint.known.skipped != (skip := lsn_text(self.lsn)):
             self.is_told = True
-            log.warning(
-                f"--skip {lsn_text(self.lsn)}: the store is at {lsn_text(at)}, so nothing is skipped"
-            )
+            log.warning(f"--skip {skip}: the store is at {lsn_text(at)}, so nothing is skipped")
 
     def passes(self, payload: bytes) -> bool:
         """Whether a payload is to be passed on."""

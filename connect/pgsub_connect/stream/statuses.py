@@ -13,8 +13,6 @@ import time
 from collections.abc import Sequence
 
 from ..server.connection import Connection
-from ..status.progress import Progress
-from ..store.checkpoint import Checkpoint
 from .filter import Filter
 from .frames import asking, flushed, lowered
 from .messages import final_lsn
@@ -30,31 +28,22 @@ QUIET, PART = 1.0, 5
 @dataclasses.dataclass(frozen=True)
 class Reached:
     """What a store has: the LSN up to which all commits are stored, and the end of the last of
-    them."""
+    them. `keys`: the LSN of a commit up to which it is known which primary keys tables have, 0 where
+    it isn't just now; `tells_keys`: whether there are any that no message tells."""
 
     confirmed: int
     position: int
+    keys: int = 0
+    tells_keys: bool = False
 
 
 class Confirming:
     """What is confirmed. `position`: the greatest end of a commit that was passed on and is
     confirmed."""
 
-    def __init__(
-        self,
-        checkpoint: Checkpoint,
-        child: Filter,
-        progress: Progress,
-        noting: Noting,
-        misses: Misses,
-    ) -> None:
-        self.checkpoint, self.filter, self.progress, self.noting, self.misses = (
-            checkpoint,
-            child,
-            progress,
-            noting,
-            misses,
-        )
+    def __init__(self, child: Filter, noting: Noting, misses: Misses) -> None:
+        self.filter, self.noting, self.misses = child, noting, misses
+        self.checkpoint, self.progress = misses.checkpoint, misses.progress
         self.position = 0
         # where statuses go; None where no session is open
         self.connection: Connection | None = None
@@ -75,12 +64,8 @@ class Confirming:
         """A session is about to begin. Its statuses say what the filter confirms, also where the
         last one ended before that was noted: the caller notes that before anything is sent."""
         self.note_missing([])
-        self.connection, self.told, self.held, self.last_sent = (
-            connection,
-            self.filter.status,
-            None,
-            0.0,
-        )
+        self.connection, self.told = connection, self.filter.status
+        self.held, self.last_sent = None, 0.0
 
     def end_session(self) -> None:
         self.connection = self.held = None
@@ -88,7 +73,11 @@ class Confirming:
     def stored(self) -> Reached:
         """What the store has, for another thread. (Each of the two is at most what it has, whenever
         it is looked at.)"""
-        return Reached(max(self.checkpoint.known.confirmed, self.filter.confirmed()), self.position)
+        # (a look that a commit makes due is noted before that commit is confirmed)
+        confirmed = max(self.checkpoint.known.confirmed, self.filter.confirmed())
+        relations = self.noting.relation_log
+        keys = confirmed if relations.knows_keys() else 0
+        return Reached(confirmed, self.position, keys, relations.has_others)
 
     def is_stored(self) -> bool:
         """Whether the store has all commits that were passed on."""
@@ -98,23 +87,16 @@ class Confirming:
     def reached(self) -> int:
         """An LSN that no commit or keepalive that was passed on is above."""
         begun = final_lsn(self.noting.begun) if self.noting.begun else 0
-        return max(
-            self.position,
-            self.filter.confirmed(),
-            begun,
-            int.from_bytes(self.progress.stream.sent_to, "big"),
-        )
+        sent_to = int.from_bytes(self.progress.stream.sent_to, "big")
+        return max(self.position, self.filter.confirmed(), begun, sent_to)
 
     def note_missing(self, statuses: Sequence[bytes]) -> None:
         """Notes durably what is new of changes that found no row, in the commits up to the last of
         these statuses."""
         if self.misses.is_news(self.filter.missing):
-            position = (
-                self.noting.stored(flushed(statuses[-1]), self.position)
-                if statuses
-                else self.position
-            )
-            self.misses.note(self.filter.missing, position)
+            at = self.position
+            at = self.noting.stored(flushed(statuses[-1]), at) if statuses else at
+            self.misses.note(self.filter.missing, at)
 
     def note_statuses(self, statuses: list[bytes]) -> None:
         """Notes the last status."""
@@ -145,10 +127,8 @@ class Confirming:
             self.forget_confirmed(lsn)
             if self.checkpoint.known.confirmed < self.position < lsn:
                 self.pass_on(lowered(status, self.position))
-            if (
-                lsn <= max(self.position, self.checkpoint.known.confirmed)
-                or self.noting.asked is not None
-            ):
+            is_known = lsn <= max(self.position, self.checkpoint.known.confirmed)
+            if is_known or self.noting.asked is not None:
                 self.pass_on(status)
             else:
                 self.held = status

@@ -168,9 +168,8 @@ class Noting:
             self.leave()
         elif letter == STREAM_COMMIT:
             it = self.open.pop(xid, None) or Streamed()
-            self.commit(
-                (payload[:HEAD], it.counts, it.about, it.size), it.relations, payload[39:47]
-            )
+            passed = payload[:HEAD], it.counts, it.about, it.size
+            self.commit(passed, it.relations, payload[39:47])
         elif payload[26:30] == payload[30:34]:
             self.open.pop(xid, None)
         elif xid in self.open:

@@ -30,14 +30,9 @@ class Kills:
         if xid != self.xid:
             self.xid = xid
             return
-        raise KilledTwice(
-            ended.status,
-            f"twice in the transaction {xid}, of which {size} bytes were passed on. {memory_text(size)}",
-        )
-
-
-def memory_text(size: int) -> str:
-    return f"It needs more memory than there was (a unit's MemoryMax), and --max-buffered of {size} bytes at least"
+        told = f"twice in the transaction {xid}, of which {size} bytes were passed on"
+        wants = f"It needs more memory than there was (a unit's MemoryMax), and --max-buffered of {size} bytes at least"
+        raise KilledTwice(ended.status, f"{told}. {wants}")
 
 
 def text_of(
@@ -56,11 +51,8 @@ def text_of(
 
 
 def full_text(limits: BufferLimits, xid: int, size: int) -> str:
-    which = (
-        f"transaction {xid} had {size} bytes so far, and"
-        if size
-        else "the open transactions had more than"
-    )
+    which = f"transaction {xid} had {size} bytes so far, and"
+    which = which if size else "the open transactions had more than"
     allowed = f"{limits.max_buffered} may be buffered of all that are open"
     wanted = 2 * max(limits.max_buffered, size)
     more = "how much more comes until the commit isn't known, so that may be too little"
@@ -69,11 +61,8 @@ def full_text(limits: BufferLimits, xid: int, size: int) -> str:
 
 def frame_text(limits: BufferLimits, longest: int) -> str:
     """A frame is four bytes longer than its message."""
-    which = (
-        f"a message had {longest} bytes, and"
-        if longest + 4 > limits.max_frame
-        else "a message had more than the"
-    )
+    is_known = longest + 4 > limits.max_frame
+    which = f"a message had {longest} bytes, and" if is_known else "a message had more than the"
     text = f"{which} {limits.max_frame} are accepted"
     wanted = min(2 * max(limits.max_frame, longest + 4), LONGEST_FRAME)
     if wanted <= limits.max_frame:

@@ -47,10 +47,8 @@ class Described:
 
     def has(self, oid: int) -> bool:
         """Whether one of them is of this table, or was before it was rolled back."""
-        self.oids = self.oids or set()
-        self.oids.update(
-            number(body[:4]) for _, body in itertools.islice(self.bodies, self.listed, None)
-        )
+        self.oids, new = self.oids or set(), itertools.islice(self.bodies, self.listed, None)
+        self.oids.update(number(body[:4]) for _, body in new)
         self.listed = len(self.bodies)
         return oid in self.oids
 

@@ -41,9 +41,8 @@ def shown(field: Field) -> str | None:
     text = field.decode(errors="backslashreplace")
     if len(text) <= SHOWN:
         return text
-    return (
-        f"{text[:SHOWN]}.. ({len(field)} bytes, SHA-256 {hashlib.sha256(field).hexdigest()[:16]})"
-    )
+    hashed = hashlib.sha256(field).hexdigest()[:16]
+    return f"{text[:SHOWN]}.. ({len(field)} bytes, SHA-256 {hashed})"
 
 
 class Verifier:
@@ -74,9 +73,8 @@ class Verifier:
         there, here = [it.name for it in table.columns], self.sides.copy.columns(table)
         self.tell({"table": table.text(), "columns": dict(zip(self.sides.names, (there, here)))})
         one, two = self.sides.places
-        log.warning(
-            f"{table.text()}: it has other columns {one} than {two}, so its rows aren't compared"
-        )
+        text = f"it has other columns {one} than {two}, so its rows aren't compared"
+        log.warning(f"{table.text()}: {text}")
         return False
 
     def is_equal(self, plan: Plan, ours: Sums, total: int) -> bool:
@@ -103,9 +101,8 @@ class Verifier:
             if self.left > 0:
                 self.left -= 1
                 self.show_key(plan, key, theirs - ours, ours - theirs)
-        log.info(
-            f"{plan.table.text()}: {counted(found, 'key' if plan.key else 'row')} in {counted(len(chunks), 'chunk')} differ"
-        )
+        text = counted(found, "key" if plan.key else "row")
+        log.info(f"{plan.table.text()}: {text} in {counted(len(chunks), 'chunk')} differ")
 
     def show_key(self, plan: Plan, key: bytes, theirs: Group, ours: Group) -> None:
         """Prints what each side has of a key that the other hasn't."""
@@ -121,13 +118,8 @@ class Verifier:
         about = dict(zip((names[it] for it in plan.key), map(shown, fields_in(key)), strict=True))
         for one, two in itertools.zip_longest(theirs.elements(), ours.elements()):
             there, here = (None if it is None else row(fields_in(it)) for it in (one, two))
-            self.tell(
-                {
-                    "table": plan.table.text(),
-                    "key": about,
-                    **dict(zip(self.sides.names, (there, here))),
-                }
-            )
+            both = dict(zip(self.sides.names, (there, here)))
+            self.tell({"table": plan.table.text(), "key": about, **both})
 
     def tell(self, line: dict[str, object]) -> None:
         print(log.escaped(json.dumps(line, ensure_ascii=False)), flush=True)
@@ -192,10 +184,9 @@ def settled(tables: list[Table], known: Known, partial: Collection[int] = ()) ->
 
 def tell_left(sides: Sides) -> None:
     """Tells which rows of the copy aren't compared."""
-    if left := [
-        it for it in sides.copy.left(sides.source.tables) if it.oid not in sides.source.left
-    ]:
-        names = names_of([it.text() for it in left])
-        log.info(
-            f"the copy has rows of {counted(len(left), 'table')} that the publications don't have now: {names}"
-        )
+    source = sides.source
+    left = [it.text() for it in sides.copy.left(source.tables) if it.oid not in source.left]
+    if left:
+        what = counted(len(left), "table")
+        text = f"the copy has rows of {what} that the publications don't have now"
+        log.info(f"{text}: {names_of(left)}")

@@ -105,10 +105,8 @@ class Sums:
 
     def differing(self, other: Sums) -> list[int]:
         """The chunks that aren't the same."""
-        ours, theirs = zip(self.rows, self.first, self.second), zip(
-            other.rows, other.first, other.second
-        )
-        return [chunk for chunk, (one, two) in enumerate(zip(ours, theirs)) if one != two]
+        both = (zip(it.rows, it.first, it.second) for it in (self, other))
+        return [chunk for chunk, (one, two) in enumerate(zip(*both)) if one != two]
 
 
 class Summing:
@@ -153,10 +151,9 @@ class Queries:
         """The text of these columns' fields."""
         parts = [self.field(f"t{index}") for index in indexes] or ["''"]
         while len(parts) > 1:
-            parts = [
-                f"pg_catalog.concat({', '.join(parts[at : at + MOST_ARGUMENTS])})"
-                for at in range(0, len(parts), MOST_ARGUMENTS)
-            ]
+            starts = range(0, len(parts), MOST_ARGUMENTS)
+            several = (", ".join(parts[at : at + MOST_ARGUMENTS]) for at in starts)
+            parts = [f"pg_catalog.concat({it})" for it in several]
         return parts[0]
 
     def rows(self) -> str:
@@ -201,9 +198,6 @@ class Queries:
         their keys' bytes and then their own."""
         name = "k" if self.plan.key else "r"
         ordered = ", ".join(dict.fromkeys((self.encoded(name), self.encoded("r"))))
-        where = (
-            f"WHERE {self.chunk(self.hashed(name))} IN ({', '.join(map(str, chunks))}) "
-            if chunks
-            else ""
-        )
+        chunk, some = self.chunk(self.hashed(name)), ", ".join(map(str, chunks))
+        where = f"WHERE {chunk} IN ({some}) " if chunks else ""
         return f"COPY (SELECT s.r FROM ({self.rows()}) s {where}ORDER BY {ordered}) TO STDOUT"

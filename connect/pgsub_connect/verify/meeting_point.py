@@ -44,9 +44,8 @@ class Request:
         if answer is None:
             raise self.ended()
         if "held" not in answer:
-            raise Passing(
-                f"{self.store}: its follower can't hold the stream: {answer.get('error')}"
-            )
+            why = answer.get("error")
+            raise Passing(f"{self.store}: its follower can't hold the stream: {why}")
 
     def tell(self, point: int) -> None:
         """Lets the stream go on up to this LSN, where the copy is taken."""

@@ -69,9 +69,8 @@ class Changes:
     its Relation message."""
 
     def __init__(self, path: str, store: str) -> None:
-        self.file = open(
-            os.open(path, os.O_WRONLY | os.O_CREAT | os.O_EXCL | os.O_CLOEXEC, 0o600), "wb"
-        )
+        number = os.open(path, os.O_WRONLY | os.O_CREAT | os.O_EXCL | os.O_CLOEXEC, 0o600)
+        self.file = open(number, "wb")
         if os.getuid() == 0:
             # (so that a follower of another account may read it)
             give(self.file.fileno(), os.stat(store))
@@ -128,18 +127,15 @@ class Mender:
         theirs = self.sides.sums(plan)
         if not (chunks := theirs.differing(ours)):
             return
-        if self.is_fed and not plan.key:
-            self.leave(
-                plan.table, "without a key no change tells readers of the feed which row is meant"
-            )
-            return
-        many, few = max(theirs.total(), ours.total()), min(theirs.total(), ours.total())
+        few, many = sorted((theirs.total(), ours.total()))
         most = max(FEW, many // SHARE)
-        if (
-            why := f"more than {most} of its rows differ"
-            if many - few > most
-            else self.write(plan, chunks, most)
-        ):
+        if self.is_fed and not plan.key:
+            why = "without a key no change tells readers of the feed which row is meant"
+        elif many - few > most:
+            why = f"more than {most} of its rows differ"
+        else:
+            why = self.write(plan, chunks, most)
+        if why:
             self.leave(plan.table, why)
 
     def write(self, plan: Plan, chunks: list[int], most: int) -> str:
@@ -165,9 +161,8 @@ class Mender:
             self.changes.take_back()
             return why
         self.written[plan.table.oid] = counts
-        log.info(
-            f"{plan.table.text()}: {', '.join(f'{counts[it]} {word}' for it, word in WORDS.items())}"
-        )
+        changes = ", ".join(f"{counts[it]} {word}" for it, word in WORDS.items())
+        log.info(f"{plan.table.text()}: {changes}")
         return ""
 
     def text(self) -> str:

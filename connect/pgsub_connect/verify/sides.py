@@ -74,17 +74,11 @@ class Copy:
                 f"the copy is at {lsn_text(self.position)}, and this server's slot at {lsn_text(point)}: is it a standby behind?"
             )
         self.relations = read_relations(self.base)
-        self.counts: dict[int, int] = dict(
-            self.base.execute("SELECT oid, count(*) FROM held GROUP BY oid")
-        )
+        counts = self.base.execute("SELECT oid, count(*) FROM held GROUP BY oid")
+        self.counts: dict[int, int] = dict(counts)
 
     def columns(self, table: Table) -> list[str]:
-        relation = self.relations.get(table.oid)
-        return (
-            [it.name for it in relation.shape.columns]
-            if relation
-            else [it.name for it in table.columns]
-        )
+        return [it.name for it in (self.relations.get(table.oid) or table).shape.columns]
 
     def relation(self, oid: int) -> Relation | None:
         return self.relations.get(oid)
@@ -145,27 +139,20 @@ def differing(server: Iterable[Row], copy: Iterable[Row]) -> Iterator[Difference
     one, two = next(there, None), next(here, None)
     while one or two:
         key = min(it[0] for it in (one, two) if it)
-        theirs, ours = (
-            one[1] if one and one[0] == key else Group(),
-            two[1] if two and two[0] == key else Group(),
-        )
+        theirs = one[1] if one and one[0] == key else Group()
+        ours = two[1] if two and two[0] == key else Group()
         if theirs != ours:
             yield key, theirs, ours
-        one, two = (
-            next(there, None) if one and one[0] == key else one,
-            next(here, None) if two and two[0] == key else two,
-        )
+        one = next(there, None) if one and one[0] == key else one
+        two = next(here, None) if two and two[0] == key else two
 
 
 class Sides:
     """A server and a copy of it. `names`: what the sides are called where rows are shown; `more`:
     how many equal rows one has more of; `places`: where the rows of each are."""
 
-    names, more, places = (
-        ("server", "copy"),
-        ("more_on_server", "more_in_copy"),
-        ("on the server", "in the copy"),
-    )
+    names, more = ("server", "copy"), ("more_on_server", "more_in_copy")
+    places = ("on the server", "in the copy")
 
     def __init__(self, source: Source, copy: Copied) -> None:
         self.source, self.copy = source, copy
@@ -176,15 +163,8 @@ class Sides:
 
     def plan(self, table: Table) -> Plan:
         """How a table is digested, by about how many rows it has."""
-        return Plan(
-            table,
-            chunks_for(
-                max(
-                    self.copy.counts.get(table.oid, 0),
-                    estimated_rows(self.source.plain, [table]) or 0,
-                )
-            ),
-        )
+        here, there = self.copy.counts.get(table.oid, 0), estimated_rows(self.source.plain, [table])
+        return Plan(table, chunks_for(max(here, there or 0)))
 
     def sums(self, plan: Plan) -> Sums:
         """Those of the server."""

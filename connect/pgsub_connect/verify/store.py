@@ -5,6 +5,7 @@ import contextlib
 import dataclasses
 import time
 from collections.abc import Iterator
+from contextlib import closing
 
 from pgsub_feed import log
 from pgsub_feed.interruption import Check
@@ -42,12 +43,7 @@ class StoreComparison:
     show: int = 20
 
 
-def compare(
-    comparison: StoreComparison,
-    choose: Choose,
-    found: Compared,
-    check: Check,
-) -> None:
+def compare(comparison: StoreComparison, choose: Choose, found: Compared, check: Check) -> None:
     """Compares, and tells what differs."""
     with met(comparison, choose, check) as (sides, chosen, _, point):
         tables = found.leave(chosen, sides.source.left)
@@ -80,14 +76,10 @@ def pause(seconds: float, check: Check) -> None:
 def repair_once(comparison: StoreComparison, found: Compared, check: Check) -> list[Table]:
     """Compares tables once more, while the stream is held, and has the changes passed on. Returns
     those that are to be copied anew."""
-    with met(comparison, among([it.oid for it in found.different]), check, repairs=True) as (
-        sides,
-        chosen,
-        request,
-        point,
-    ):
+    again = among([it.oid for it in found.different])
+    with met(comparison, again, check, repairs=True) as (sides, chosen, request, point):
         tables = found.leave_more(chosen, sides.source.left)
-        with contextlib.closing(Changes(request.changes(), comparison.store)) as changes:
+        with closing(Changes(request.changes(), comparison.store)) as changes:
             mender = Mender(sides, changes, bool(Remembered(comparison.store).feed))
             mender.run(tables)
         if mender.written:
@@ -102,33 +94,23 @@ Met = tuple[Sides, list[Table], Request, int]
 
 @contextlib.contextmanager
 def met(
-    comparison: StoreComparison,
-    choose: Choose,
-    check: Check,
-    repairs: bool = False,
+    comparison: StoreComparison, choose: Choose, check: Check, repairs: bool = False
 ) -> Iterator[Met]:
     """Brings server and copy to one LSN. `repairs`: there the stream stays held."""
-    check_there(comparison.store)
-    known = read_known(comparison.store + ".connector")
-    subscription = comparison.subscription
+    store, subscription = comparison.store, comparison.subscription
+    check_there(store)
+    known = read_known(store + ".connector")
     subscription = dataclasses.replace(subscription, slot=known.slot or subscription.slot)
-    with contextlib.ExitStack() as stack:
-        request = stack.enter_context(
-            contextlib.closing(Request(comparison.store, comparison.hold, check, repairs))
-        )
-        if not is_followed(comparison.store):
+    with closing(Request(store, comparison.hold, check, repairs)) as request:
+        if not is_followed(store):
             raise request.ended()
-        source = stack.enter_context(
-            contextlib.closing(Source(subscription, comparison.store, known, check))
-        )
-        tables = settled(choose(source), known, Remembered(comparison.store).partial)
-        if repairs:
-            check_sizes(subscription, source, tables)
-        point = meet(request, source, comparison.hold)
-        copy = stack.enter_context(
-            contextlib.closing(Copy(request.copied(), comparison.store, point, check))
-        )
-        yield Sides(source, copy), tables, request, point
+        with closing(Source(subscription, store, known, check)) as source:
+            tables = settled(choose(source), known, Remembered(store).partial)
+            if repairs:
+                check_sizes(subscription, source, tables)
+            point = meet(request, source, comparison.hold)
+            with closing(Copy(request.copied(), store, point, check)) as copy:
+                yield Sides(source, copy), tables, request, point
 
 
 def check_sizes(subscription: Subscription, source: Source, tables: list[Table]) -> None:

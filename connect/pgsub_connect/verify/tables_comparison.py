@@ -8,7 +8,7 @@ from pgsub_feed import log
 from pgsub_feed.errors import Unfit
 from pgsub_feed.reader.commits import Head
 from pgsub_feed.reader.segments import read_source
-from pgsub_feed.relation import Column, Relation, Shape
+from pgsub_feed.relation import Column, Shape
 from pgsub_feed.tables.schema import full_name
 from pgsub_feed.tables.set_aside import cure, store_at
 from pgsub_feed.texts import counted
@@ -57,11 +57,8 @@ class Tables(Sides):
 class Files(Tables):
     """Another file, and this one."""
 
-    names, more, places = (
-        ("other", "copy"),
-        ("more_in_other", "more_in_copy"),
-        ("in the other file", "in the copy"),
-    )
+    names, more = ("other", "copy"), ("more_in_other", "more_in_copy")
+    places = ("in the other file", "in the copy")
 
     def __init__(self, other: View, view: View) -> None:
         self.other, self.view, self.copy = other, view, view
@@ -70,12 +67,8 @@ class Files(Tables):
         self.found: dict[int, Sums] = {}
 
     def plan(self, table: Table) -> Plan:
-        self.plans.append(
-            Plan(
-                table,
-                chunks_for(max(it.counts.get(table.oid, 0) for it in (self.other, self.view))),
-            )
-        )
+        rows = max(it.counts.get(table.oid, 0) for it in (self.other, self.view))
+        self.plans.append(Plan(table, chunks_for(rows)))
         return self.plans[-1]
 
     def sums(self, plan: Plan) -> Sums:
@@ -114,12 +107,9 @@ def tables_of(views: Sequence[View]) -> list[Table]:
     for view in views:
         for oid, valued in view.tables.items():
             relation = valued.relation
-            columns = [
-                Column(it.name, it.type_oid, it.modifier, it.key) for it in relation.shape.columns
-            ]
-            schema = relation.namespace or "pg_catalog"
-            shape = Shape(relation.shape.identity, tuple(columns))
-            found.setdefault(oid, Table(oid, schema, relation.name, "r", shape))
+            columns = tuple(Column(*it[:4]) for it in relation.shape.columns)
+            named, shape = full_name(relation), Shape(relation.shape.identity, columns)
+            found.setdefault(oid, Table(oid, named[0], named[1], "r", shape))
     asides = {oid: it for view in views for oid, it in view.asides.items() if oid not in found}
     return [
         *found.values(),
@@ -140,12 +130,11 @@ def with_rows(comparison: TablesComparison, view: View, tables: list[Table]) -> 
     for aside in view.lacks:
         log.warning(f"{aside.name()} is set aside in {view.path} {aside.text()}")
     left = [it for it in tables if not view.is_chosen(it)]
+    names = names_of([it.text() for it in left])
     if left and comparison.chosen:
-        raise Unfit(f"{view.path} was made without {names_of([it.text() for it in left])}")
+        raise Unfit(f"{view.path} was made without {names}")
     if left:
-        log.info(
-            f"{view.path} was made without {counted(len(left), 'table')}: {names_of([it.text() for it in left])}"
-        )
+        log.info(f"{view.path} was made without {counted(len(left), 'table')}: {names}")
     return [it for it in tables if it not in left]
 
 
@@ -153,11 +142,8 @@ def compare(
     comparison: TablesComparison, sides: Tables, tables: list[Table], where: str, views: list[View]
 ) -> int:
     """Compares tables, and tells what differs; the exit status."""
-    verifier = (
-        ByDigests(comparison.show, sides)
-        if comparison.digests
-        else Verifier(comparison.show, sides)
-    )
+    kind = ByDigests if comparison.digests else Verifier
+    verifier = kind(comparison.show, sides)
     is_equal = verifier.run(tables)
     for view in views:
         for relation in view.wrong:
@@ -167,19 +153,12 @@ def compare(
     is_right = not any(it.wrong for it in views)
     how = " by the digests that are kept" if comparison.digests else ""
     text = f"{counted(len(tables), 'table')}, {counted(verifier.rows, 'row')} {where}"
-    log.info(
-        f"{text}: {('equal' if is_right else 'equal rows') + how if is_equal else 'the copy differs'}"
-    )
-    wrong = [relation_name(it) for view in views for it in view.wrong]
-    wrong += [it.text() for it in verifier.different] + [
-        it.name() for view in views for it in view.lacks
-    ]
+    equal = ("equal" if is_right else "equal rows") + how
+    log.info(f"{text}: {equal if is_equal else 'the copy differs'}")
+    wrong = {".".join(full_name(it)) for view in views for it in view.wrong}
+    wrong |= {it.name() for view in views for it in view.lacks}
+    wrong |= {it.text() for it in verifier.different}
     if wrong:
-        log.warning(
-            f"rows come anew by: {cure(comparison.store or store_at(views[-1].folder), sorted(set(wrong)))}"
-        )
+        store = comparison.store or store_at(views[-1].folder)
+        log.warning(f"rows come anew by: {cure(store, sorted(wrong))}")
     return DIFFERENT if wrong else EQUAL
-
-
-def relation_name(relation: Relation) -> str:
-    return ".".join(full_name(relation))

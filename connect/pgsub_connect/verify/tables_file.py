@@ -110,9 +110,8 @@ def compare_with_server(
 
 def followed(comparison: TablesComparison, tables: list[Table]) -> list[Table]:
     """Tables none of which is being added now, as far as the store is known."""
-    return settled(
-        tables, read_known(comparison.store + ".connector"), Remembered(comparison.store).partial
-    )
+    store = comparison.store
+    return settled(tables, read_known(store + ".connector"), Remembered(store).partial)
 
 
 def source_of(comparison: TablesComparison, check: Check) -> Source:
@@ -131,14 +130,10 @@ def wait(path: str, trail: Trail, point: int, check: Check) -> None:
     until = time.monotonic() + PATIENCE
     while not (has := trail.has(point)) or read_position(path)[0] < trail.last:
         if time.monotonic() > until:
-            behind = (
-                f"{path} is at {lsn_text(read_position(path)[0])}"
-                if has
-                else f"the feed {trail.folder} doesn't have all"
-            )
-            raise Passing(
-                f"{behind}, and {lsn_text(point)} wasn't reached in {PATIENCE:.0f} seconds: does its follower run? Nothing was compared"
-            )
+            behind = f"the feed {trail.folder} doesn't have all"
+            behind = f"{path} is at {lsn_text(read_position(path)[0])}" if has else behind
+            text = f"{behind}, and {lsn_text(point)} wasn't reached in {PATIENCE:.0f} seconds"
+            raise Passing(f"{text}: does its follower run? Nothing was compared")
         check()
         time.sleep(LOOK)
 
@@ -158,11 +153,10 @@ def with_file(comparison: TablesComparison, check: Check) -> int:
         tables = tables_of((other, view))
         tables = chosen(tables, list(comparison.chosen)) if comparison.chosen else tables
         both = with_rows(comparison, other, with_rows(comparison, view, tables))
-        found = Compared()
-        trails = [(it.trail, it.at) for it in (other, view) if it.trail]
-        rest = found.leave(
-            both, {oid: why for trail, at in trails for oid, why in trail.unknown(at).items()}
-        )
+        found, unknown = Compared(), dict[int, str]()
+        for it in (other, view):
+            unknown |= it.trail.unknown(it.at) if it.trail else {}
+        rest = found.leave(both, unknown)
         where = f"in {other.path} at {lsn_text(point)}"
         status = compare(comparison, Files(other, view), rest, where, [other, view])
     return found.ended(status)

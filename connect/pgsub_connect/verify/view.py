@@ -112,10 +112,8 @@ class View:
         return [it.name for it in (relation or table).shape.columns]
 
     def left(self, tables: Iterable[Table]) -> list[Relation]:
-        known = {it.oid for it in tables}
-        return [
-            it.relation for oid, it in self.tables.items() if oid not in known and self.counts[oid]
-        ]
+        oids = self.tables.keys() - {it.oid for it in tables}
+        return [it.relation for oid, it in self.tables.items() if oid in oids and self.counts[oid]]
 
     def fields(self, plan: Plan) -> Fields | None:
         """What makes the fields of a table's rows, None where it isn't here."""
@@ -141,11 +139,8 @@ class View:
         for oid, summing in found.items():
             for fields in self.texts(summing.plan):
                 summing.add_fields(fields, 1)
-            if (
-                oid in self.tables
-                and oid in self.digests
-                and self.digests[oid] != summing.sums.totals()
-            ):
+            kept = self.digests.get(oid) if oid in self.tables else None
+            if kept is not None and kept != summing.sums.totals():
                 self.wrong.append(self.tables[oid].relation)
         self.take_back(found)
         return {oid: it.sums for oid, it in found.items()}
@@ -178,9 +173,8 @@ class View:
             self.check()
             relation, oid = image.relation, image.relation.oid
             if oid not in valued or valued[oid].valued.relation is not relation:
-                if [it[:3] for it in relation.shape.columns] != [
-                    it[:3] for it in by_oid[oid].table.columns
-                ]:
+                columns = [it[:3] for it in by_oid[oid].table.columns]
+                if [it[:3] for it in relation.shape.columns] != columns:
                     raise Passing(f"{relation.text()} was altered meanwhile: compare again")
                 form = self.tables[oid].target.form if oid in self.tables else BOTH
                 valued[oid] = Fields(Valued("", relation, form))

@@ -16,11 +16,12 @@ from pgsub_feed.tables.values import BOTH
 
 from ...drift.remembered import Remembered
 from ...follow.feed import FeedSettings
+from ...follow.retention import Limits
 from ...follow.sink_process import SinkSettings
 from ...follow.tables_process import TablesSettings
 from ...store.checkpoint_at_rest import read_known
-from .following import INDEXES
-from .numerics import numeric_option
+from .following import INDEXES, numeric_option
+from .server import has_begun
 from .types import within
 
 # What each of these options needs.
@@ -32,6 +33,7 @@ NEEDS = {
     "feed_segment_seconds": "feed",
     "feed_max_bytes": "feed",
     "feed_max_age": "feed",
+    "feed_base": "feed",
 }
 
 
@@ -70,6 +72,12 @@ class FeedOptions:
         "remove segments that are older, as 7d, and that all readers have read (default: as soon as all readers have, where there are any)",
         type=duration,
     )
+    feed_base: str = option(
+        "--feed-base WHETHER",
+        "keep the rows of the initial copy as files of the feed, too, yes or no (default: yes where --feed is named)",
+        "",
+        choices=["yes", "no"],
+    )
     tables: str = option(
         "--tables FILE",
         "keep ordinary tables in this file of SQLite, by `pgsub-connect tables` beside the follower (default: those that the store has had); the feed is STORE.feed by default",
@@ -89,38 +97,19 @@ class FeedOptions:
     indexes: bool = option("--indexes", f"with --tables: {INDEXES}", False)
     sink: Sequence[str] = option(
         "--sink URL",
-        f"write the rows to Redis or NATS, by `pgsub-connect sink` beside the follower, may be repeated: {FORMS}; the feed is STORE.feed by default",
+        f"write the rows to Redis, NATS or Kafka, by `pgsub-connect sink` beside the follower, may be repeated: {FORMS}; the feed is STORE.feed by default",
         (),
         type=url,
     )
 
     def feed_settings(self, store: str, mode: int) -> FeedSettings:
-        tables = (
-            TablesSettings(
-                self.tables,
-                self.feed,
-                store,
-                mode,
-                self.init,
-                self.digests,
-                self.numeric,
-                self.indexes,
-            )
-            if self.tables
-            else None
-        )
-        return FeedSettings(
-            store,
-            self.feed,
-            self.without_feed,
-            mode,
-            self.feed_segment_bytes,
-            self.feed_segment_seconds,
-            self.feed_max_bytes,
-            self.feed_max_age,
-            tables,
-            tuple(SinkSettings(it, self.feed, store, mode) for it in dict.fromkeys(self.sink)),
-        )
+        how = self.init, self.digests, self.numeric, self.indexes
+        tables = TablesSettings(self.tables, self.feed, store, mode, *how) if self.tables else None
+        sinks = (SinkSettings(it, self.feed, store, mode) for it in dict.fromkeys(self.sink))
+        limits = Limits(self.feed_max_bytes or None, self.feed_max_age)
+        sizes = self.feed_segment_bytes, self.feed_segment_seconds
+        has_base, whose = self.feed_base == "yes", (store, self.feed, self.without_feed, mode)
+        return FeedSettings(*whose, sizes[0], sizes[1], limits, tables, tuple(sinks), has_base)
 
 
 Settled = TypeVar("Settled", bound=FeedOptions)
@@ -136,11 +125,16 @@ def settled_feed(options: Settled, store: str) -> Settled:
         raise Unfit(
             f"the tables of {store} are in {was}: leave --tables out. To have them in {tables}, move or remove that file, or say --without-tables once"
         )
-    if not feed and not options.without_feed and os.path.exists(store):
-        feed = Remembered(store).feed
+    is_base_wanted = bool(feed)
+    if not feed and not options.without_feed and has_begun(store):
+        known = Remembered(store)
+        feed, is_base_wanted = known.feed, known.has_base
+    has_base = options.feed_base or ("yes" if is_base_wanted else "")
     feed = feed or (store + ".feed" if tables or options.sink else "")
     numeric = options.numeric or tables and read_numeric(tables) or BOTH
-    options = dataclasses.replace(options, tables=tables, feed=feed, numeric=numeric)
+    options = dataclasses.replace(
+        options, tables=tables, feed=feed, numeric=numeric, feed_base=has_base
+    )
     for given, needed in NEEDS.items():
         if getattr(options, given) and not getattr(options, needed):
             raise UsageError(f"--{given.replace('_', '-')} needs --{needed}")

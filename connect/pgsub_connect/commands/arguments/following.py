@@ -1,14 +1,20 @@
-"""Options on what follows a feed."""
+"""Options on what follows a feed, and the store beside it."""
+
+from __future__ import annotations
 
 import argparse
 import dataclasses
-from collections.abc import Iterable, Sequence
+from collections.abc import Collection, Iterable, Sequence
+from typing import Any
 
 from pgsub_feed.arguments import plain_name
+from pgsub_feed.interruption import Check
 from pgsub_feed.options import option, repeated
 from pgsub_feed.reader.reading import Reading
+from pgsub_feed.tables.values import AS_REAL, AS_TEXT, BOTH
 
-from ..beside import StoreBeside
+from ...store.at_rest import is_followed
+from ...store.export import ExportSettings, export_store
 from .files import mode_option
 
 INDEXES = "the server's indexes of btree over plain columns, none of them unique; what is left out is told"
@@ -28,16 +34,9 @@ class FollowingOptions:
     mode: int = mode_option("mode of a file that is made")
 
     def reading(self, tables: Iterable[str], until: int | None) -> Reading:
-        return Reading(
-            self.feed,
-            tuple(tables),
-            follows=not self.once,
-            until=until,
-            base=self.base,
-            store=StoreBeside(self.store, self.mode) if self.store else None,
-            name=self.reader,
-            mode=self.mode,
-        )
+        store = StoreBeside(self.store, self.mode) if self.store else None
+        more = not self.once, until, self.base, store, self.reader, self.mode
+        return Reading(self.feed, tuple(tables), *more)
 
 
 def add_beginning(parser: argparse.ArgumentParser, base: str) -> None:
@@ -72,3 +71,33 @@ def add_end(parser: argparse.ArgumentParser, done: str) -> None:
         help="follow the feed until a signal asks for the end (default)",
     )
     add("--once", dest="once", action="store_true", help=f"end once all that is there is {done}")
+
+
+def numeric_option(default: str = BOTH) -> Any:
+    return option(
+        "--numeric",
+        "numerics as REAL, those of more than 15 digits with their text in NAME_text (both, the default), as TEXT, or as REAL alone, which can't be verified (real)",
+        default,
+        choices=(BOTH, AS_TEXT, AS_REAL),
+    )
+
+
+def check_numeric(parser: argparse.ArgumentParser, numeric: str, has_digests: bool) -> None:
+    """Rejects digests of values that aren't kept."""
+    if numeric == AS_REAL and has_digests:
+        parser.error("--digests needs the exact values, which --numeric real doesn't keep")
+
+
+@dataclasses.dataclass(frozen=True)
+class StoreBeside:
+    """One whose exports have this mode."""
+
+    path: str
+    mode: int
+
+    def is_followed(self) -> bool:
+        return is_followed(self.path)
+
+    def export(self, into: str, form: str, chosen: Collection[str], check: Check) -> None:
+        settings = ExportSettings(self.path, into, form, tuple(chosen), self.mode)
+        export_store(settings, check)

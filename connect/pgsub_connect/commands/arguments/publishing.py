@@ -7,6 +7,7 @@ from collections.abc import Sequence
 from pgsub_feed.options import add_fields, option, repeated
 
 from ...server.publication_setup import Wanted
+from .texts import check_needs
 from .types import within
 
 
@@ -36,7 +37,8 @@ class PublishingOptions:
     )
 
     def wanted(self, publications: Sequence[str]) -> Wanted:
-        return Wanted(list(publications), list(self.table), self.all_tables, self.keyless)
+        tables = list(self.table)
+        return Wanted(list(publications), tables, self.all_tables, self.keyless, not self.create)
 
 
 @dataclasses.dataclass(frozen=True)
@@ -73,10 +75,4 @@ def check_publishing(parser: argparse.ArgumentParser, options: PublishingOptions
 
 def check_creates(parser: argparse.ArgumentParser, options: PublishingOptions) -> None:
     """Rejects options on what is made where nothing is."""
-    for name, given in (
-        ("table", options.table),
-        ("all-tables", options.all_tables),
-        ("failover", options.failover),
-    ):
-        if given and not options.create:
-            parser.error(f"--{name} needs --create")
+    check_needs(parser, options, *((it, "create") for it in ("table", "all_tables", "failover")))

@@ -1,4 +1,4 @@
-"""Options on the server and the slot, and what they leave out."""
+"""Options on the server, the slot and the store that follows it, and what they leave out."""
 
 import dataclasses
 import os
@@ -11,12 +11,13 @@ from pgsub_feed.options import option, repeated
 from pgsub_feed.ownership import readable_by, readable_text
 
 from ...drift.remembered import Remembered
+from ...server import transport
 from ...server.addresses import parameters
 from ...server.name_length import check_lengths
 from ...server.publication_setup import inserts_of
 from ...server.subscription import Subscription
 from ...store.checkpoint_at_rest import read_known
-from ...store.checkpoint_lines import COPYING, Known
+from ...store.checkpoint_lines import COPYING, INTERRUPTED, Known
 from .files import mode_option, use_mode
 from .texts import check_texts, each
 from .types import seconds
@@ -78,11 +79,18 @@ def settled_server(
     check_texts([("--slot", options.slot), *each("--publication", options.publication), *told], dsn)
     check_lengths(options.slot, options.publication, keyless)
     warn_of_password(options, dsn, readable)
-    remembered = Remembered(store).publications() if store and os.path.exists(store) else []
+    remembered = Remembered(store).publications() if has_begun(store) else []
     names = followed_again(options.publication, keyless, remembered) or remembered or ["pgsub"]
     slot = slot_of(store, options.slot)
     use_mode(options.mode)
     return dataclasses.replace(options, dsn=dsn, slot=slot, publication=names)
+
+
+def has_begun(store: str) -> bool:
+    """Whether a store is there, or its copy was interrupted and goes on."""
+    if not store:
+        return False
+    return os.path.exists(store) or read_known(store + ".connector").phase in INTERRUPTED
 
 
 def slot_of(store: str, given: str) -> str:
@@ -115,10 +123,32 @@ def followed_again(
     where the store follows it."""
     names = list(publications)
     if keyless == "inserts":
-        names = [
-            it
-            for name in publications
-            for it in (name, inserts_of(name))
-            if it == name or it in remembered
-        ]
+        pairs = ((it, inserts_of(it)) for it in publications)
+        names = [it for one, two in pairs for it in ((one, two) if two in remembered else (one,))]
     return list(dict.fromkeys(names))
+
+
+PLAINTEXT = "plaintext"
+
+
+@dataclasses.dataclass(frozen=True)
+class StoreOptions(ServerOptions):
+    """The store, its server, and what may be accepted of that."""
+
+    store: str = ""
+    accept: Sequence[str] = option(
+        "--accept", "connect without TLS although it was in use before", (), choices=(PLAINTEXT,)
+    )
+
+
+Stored = TypeVar("Stored", bound=StoreOptions)
+
+
+def settled_store(
+    options: Stored, keyless: str = "refuse", told: Iterable[tuple[str, str]] = ()
+) -> Stored:
+    """The options with what they leave out, once it is known whether TLS was in use."""
+    options = settled_server(options, options.store, keyless, told)
+    if options.store:
+        transport.OWN.begin(read_known(options.store + ".connector").encrypted, options.accept)
+    return options

@@ -1,5 +1,7 @@
-"""Words that the server or the program `pgsub` is told."""
+"""What is rejected of a command line: words that the server or the program `pgsub` can't be told, and
+options without the one that they need."""
 
+import argparse
 from collections.abc import Iterable
 
 from pgsub_feed.errors import UsageError
@@ -20,3 +22,14 @@ def check_texts(told: Iterable[tuple[str, str]], dsn: str = "") -> None:
 def each(option: str, texts: Iterable[str]) -> list[tuple[str, str]]:
     """The words of an option that may be repeated."""
     return [(option, it) for it in texts]
+
+
+# The words of options whose fields have other names.
+NAMES = {"other": "with"}
+
+
+def check_needs(parser: argparse.ArgumentParser, options: object, *pairs: tuple[str, str]) -> None:
+    """Rejects an option that is given without the one that it needs."""
+    for given, needed in pairs:
+        if getattr(options, given) and not getattr(options, needed):
+            parser.error(f"--{NAMES.get(given, given).replace('_', '-')} needs --{needed}")

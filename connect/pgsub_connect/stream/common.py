@@ -1,16 +1,12 @@
-"""What several parts of a follower have."""
+"""What all parts of a follower have, handed over as one."""
 
-from __future__ import annotations
-
-from typing import TYPE_CHECKING, NamedTuple
+from typing import NamedTuple
 
 from ..drift.remembered import Remembered
 from ..drift.tolerance import Tolerance
 from ..server.subscription import Subscription
+from ..status.progress import Progress
 from ..store.checkpoint import Checkpoint
-
-if TYPE_CHECKING:
-    from ..status.progress import Progress
 
 
 class Common(NamedTuple):

@@ -1,0 +1,224 @@
+"""The first rows of a feed as files beside its segments, as `pgsub_feed.reader.base` reads them, by
+a process that gets the rows of an initial copy while they are read.
+
+Where that ends before all rows came, nothing is left of them; the module `store.base_of_store` makes
+them then.
+"""
+
+from __future__ import annotations
+
+import contextlib
+import json
+import os
+import shutil
+import sqlite3
+import sys
+import zlib
+from collections.abc import Callable, Iterable, Iterator, Mapping
+from json.encoder import encode_basestring  # type: ignore[attr-defined]
+from typing import BinaryIO, NamedTuple
+
+from pgsub_feed import log
+from pgsub_feed.errors import Failure, FileError, Passing, Stopped
+from pgsub_feed.files import NEW, sync_folder
+from pgsub_feed.interruption import Check
+from pgsub_feed.ownership import set_mode
+from pgsub_feed.program import check_signals, guarded
+from pgsub_feed.reader.base import FOLDER, FORMAT, file_name, remove_base
+from pgsub_feed.reader.lines import HEAD_SIZE
+from pgsub_feed.relation import Relation
+from pgsub_feed.tables.schema import table_line
+from pgsub_feed.tables.values import Malformed
+from pgsub_feed.texts import counted, lsn_text, parse_lsn
+
+from ..drift.remembered import Remembered
+from .copied_rows import READ, rows_of
+from .file import choose
+
+# How many bytes of rows wait until they are written, and how many a file has at least, but for the
+# last one.
+ROOM, LEAST = 1 << 20, 1 << 26
+NULL, TEXT, BINARY = b"ntb"
+
+
+class Wanted(NamedTuple):
+    """The feed's folder, the store whose tables are remembered, the mode of the files, the LSN as
+    of which the rows are, and what the feed is of."""
+
+    feed: str
+    store: str
+    mode: int
+    point: int
+    system: str
+    database: str
+    slot: str
+
+    def words(self) -> list[str]:
+        return [self.feed, self.store, f"{self.mode:o}", lsn_text(self.point), *self[4:]]
+
+
+def wanted_of(words: list[str]) -> Wanted:
+    feed, store, mode, point, *source = words
+    return Wanted(feed, store, int(mode, 8), parse_lsn(point), *source)
+
+
+def row_line(body: bytes) -> bytes:
+    """A row of a tuple as its line."""
+    cells, at = [], 2
+    for _ in range(int.from_bytes(body[:2], "big")):
+        kind = body[at] if at < len(body) else 0
+        if kind == NULL:
+            cells.append("null")
+            at += 1
+            continue
+        begin = at + 5
+        at = begin + int.from_bytes(body[at + 1 : begin], "big")
+        if kind == TEXT:
+            cells.append(encode_basestring(body[begin:at].decode()))
+        elif kind == BINARY:
+            cells.append(f'{{"hex":"{body[begin:at].hex()}"}}')
+        else:
+            raise Malformed
+    if at != len(body):
+        raise Malformed
+    return f"[{','.join(cells)}]\n".encode()
+
+
+class BaseFile:
+    """One of the files. Its head is written once it is complete."""
+
+    def __init__(self, folder: str, number: int, wanted: Wanted) -> None:
+        self.number, self.wanted = number, wanted
+        path = os.path.join(folder, file_name(number))
+        flags = os.O_WRONLY | os.O_CREAT | os.O_EXCL | os.O_CLOEXEC
+        self.file = open(os.open(path, flags, 0o600), "wb")
+        os.fchmod(self.file.fileno(), wanted.mode)
+        self.file.write(b" " * HEAD_SIZE)
+        self.rows = self.bytes = self.crc = 0
+
+    def put(self, lines: bytes, rows: int) -> None:
+        self.file.write(lines)
+        self.crc, self.bytes = zlib.crc32(lines, self.crc), self.bytes + len(lines)
+        self.rows += rows
+
+    def finish(self, is_last: bool) -> None:
+        it = self.wanted
+        told: dict[str, object] = {"base": FORMAT, "lsn": lsn_text(it.point)}
+        told.update(system=it.system, database=it.database, slot=it.slot)
+        told.update(number=self.number, last=is_last, rows=self.rows, bytes=self.bytes)
+        told["crc"] = f"{self.crc:08x}"
+        line = json.dumps(told, ensure_ascii=False, separators=(",", ":")).encode()
+        if len(line) >= HEAD_SIZE:
+            raise FileError("the names of database and slot are too long")
+        self.file.seek(0)
+        self.file.write(line.ljust(HEAD_SIZE - 1) + b"\n")
+        self.file.flush()
+        os.fsync(self.file.fileno())
+        self.file.close()
+
+
+class BaseWriter:
+    """Writes the rows of some relations, in the order in which they come."""
+
+    def __init__(
+        self, folder: str, wanted: Wanted, relations: Mapping[int, Relation], check: Check
+    ) -> None:
+        self.folder, self.wanted, self.check = folder, wanted, check
+        self.definitions = {oid: table_line(it) + b"\n" for oid, it in relations.items()}
+        self.waiting = dict[int, list[bytes]]()
+        self.size = self.rows = 0
+        self.empty = set(self.definitions)
+        self.file = BaseFile(folder, 1, wanted)
+
+    def add(self, oid: int, body: bytes) -> None:
+        if oid not in self.definitions:
+            raise Malformed
+        line = row_line(body)
+        self.waiting.setdefault(oid, []).append(line)
+        self.size += len(line)
+        if self.size > ROOM:
+            self.write()
+
+    def write(self) -> None:
+        """Writes what waits, the rows of one table after those of another."""
+        self.check()
+        if self.file.bytes >= LEAST:
+            self.file.finish(False)
+            self.file = BaseFile(self.folder, self.file.number + 1, self.wanted)
+        for oid, lines in self.waiting.items():
+            self.file.put(self.definitions[oid] + b"".join(lines), len(lines))
+            self.rows += len(lines)
+            self.empty.discard(oid)
+        self.waiting.clear()
+        self.size = 0
+
+    def finish(self) -> None:
+        self.write()
+        for oid in sorted(self.empty):
+            self.file.put(self.definitions[oid], 0)
+        self.file.finish(True)
+
+
+@contextlib.contextmanager
+def placed_folder(feed: str, mode: int) -> Iterator[str]:
+    """Gives a new folder for the first rows of a feed, which gets its name at the end. An error
+    leaves nothing of it."""
+    folder = os.path.join(feed, FOLDER)
+    new = folder + NEW
+    remove_base(feed)
+    os.mkdir(new, 0o700)
+    try:
+        set_mode(new, mode | (mode & 0o444) >> 2)
+        yield new
+        sync_folder(os.path.join(new, file_name(1)))
+        os.rename(new, folder)
+        sync_folder(folder)
+    except BaseException:
+        shutil.rmtree(new, ignore_errors=True)
+        raise
+
+
+def write_base(
+    wanted: Wanted,
+    relations: Mapping[int, Relation],
+    rows: Iterable[tuple[int, bytes, int]],
+    check: Check,
+) -> int:
+    """Writes the rows, each as often as it is there; returns how many they are."""
+    with placed_folder(wanted.feed, wanted.mode) as folder:
+        writer = BaseWriter(folder, wanted, relations, check)
+        for oid, body, copies in rows:
+            for _ in range(copies):
+                writer.add(oid, body)
+        writer.finish()
+    return writer.rows
+
+
+def written(wanted: Wanted, source: BinaryIO, check: Check) -> int:
+    """Writes the files; the exit status."""
+
+    def write() -> int:
+        known = choose({}, Remembered(wanted.store), wanted.point)
+        return write_base(wanted, {it.oid: it for it in known}, rows_of(source), check)
+
+    return told(wanted, write)
+
+
+def told(wanted: Wanted, write: Callable[[], int]) -> int:
+    """Tells how many rows were written, or why there are none; the exit status."""
+    try:
+        rows = write()
+        log.info(f"{wanted.feed} has {counted(rows, 'row')} from before its first commit")
+        return 0
+    except Stopped:
+        return Passing.STATUS
+    except (Failure, Malformed, OSError, UnicodeDecodeError, sqlite3.Error) as error:
+        why = "a row isn't one of its table" if isinstance(error, Malformed) else error
+        log.warning(f"{wanted.feed} gets no first rows: {why}")
+        return Passing.STATUS
+
+
+def run() -> None:
+    wanted, check = wanted_of(sys.argv[1:]), check_signals()
+    with open(0, "rb", buffering=READ) as source:
+        sys.exit(guarded(lambda: written(wanted, source, check)))

@@ -1,0 +1,186 @@
+"""Tables that follow a feed make the changes of several commits at once, those of a row joined."""
+
+from __future__ import annotations
+
+import functools
+import random
+import sqlite3
+from collections import Counter
+from contextlib import closing
+from typing import Any
+from unittest import mock
+
+from feed_load import Load
+
+from pgsub_connect.commands import tables as tables_module
+from pgsub_feed.interruption import never
+from pgsub_feed.reader.commits import Cell, Change
+from pgsub_feed.relation import Column, Relation, Shape
+from pgsub_feed.tables import following
+from pgsub_feed.tables.applier import Applier
+from pgsub_feed.tables.table import Kept
+from pgsub_feed.tables.waiting import Joined
+
+from .feeds import delete, insert, table, update
+from .test_feed_tables import TablesCase
+from .vectors import logged
+
+# A row as it was or is; None where there is none.
+Image = list[Cell] | None
+
+
+class Executed:
+    """Counts by statement the rows that were written."""
+
+    def __init__(self) -> None:
+        self.rows = Counter[str]()
+
+    def run(self, applier: Applier, kept: Kept, statement: str, rows: list[Any]) -> None:
+        self.rows[statement.split()[0]] += len(rows)
+        RUN(applier, kept, statement, rows)
+
+
+RUN = Applier.run
+ONE_BY_ONE = mock.patch.object(
+    following, "Applier", functools.partial(lambda rows, check, joins: Applier(rows, check))
+)
+
+
+class Steps(TablesCase):
+    """What is written of several commits that are there at once."""
+
+    def written(self, **more: Any) -> dict[str, int]:
+        counted = Executed()
+        with mock.patch.object(Applier, "run", lambda *words: counted.run(*words)):
+            self.run_it(**more)
+        return dict(counted.rows)
+
+    def test_a_row_that_changes_again_and_again_is_written_once(self) -> None:
+        self.take(insert("1", "a"), insert("2", "a"))
+        self.run_it()
+        for number in range(100):
+            old, new = ("a" if not number else str(number - 1)), str(number)
+            self.take(update(["1", old], ["1", new]), update(["2", old], ["2", new]))
+        self.assertEqual(self.written(), {"UPDATE": 2})
+        self.assertEqual(self.rows("SELECT * FROM stock ORDER BY 1"), [(1, "99"), (2, "99")])
+
+    def test_a_row_that_comes_and_goes_is_never_written(self) -> None:
+        self.take(insert("1", "a"))
+        self.run_it()
+        self.take(insert("2", "b"), update(["2", "b"], ["3", "b"]), delete("3", "b"))
+        self.take(delete("1", "a"))
+        self.take(insert("1", "c"))
+        self.assertEqual(self.written(), {"UPDATE": 1})
+        self.assertEqual(self.rows("SELECT * FROM stock"), [(1, "c")])
+
+    def test_rows_that_change_places(self) -> None:
+        self.take(insert("1", "a"), insert("2", "b"))
+        self.run_it()
+        self.take(update(["1", "a"], ["3", "a"]), update(["2", "b"], ["1", "b"]))
+        self.take(update(["3", "a"], ["2", "a"]))
+        self.run_it()
+        self.assertEqual(self.rows("SELECT * FROM stock ORDER BY 1"), [(1, "b"), (2, "a")])
+
+    def test_a_unique_index_of_the_users_sees_each_step(self) -> None:
+        self.take(insert("1", "a"), insert("2", "b"))
+        self.run_it()
+        with closing(sqlite3.connect(self.into)) as db:
+            db.execute("CREATE UNIQUE INDEX mine ON stock (name)")
+        self.take(update(["1", "a"], ["1", "x"]))
+        self.take(update(["2", "b"], ["2", "a"]))
+        self.take(update(["1", "x"], ["1", "b"]))
+        self.assertEqual(self.written(), {"UPDATE": 3})
+        self.assertEqual(self.rows("SELECT * FROM stock ORDER BY 1"), [(1, "b"), (2, "a")])
+
+    def test_a_trigger_of_the_users_sees_each_step_of_all_tables(self) -> None:
+        other = table(2, "other")
+        self.take(insert("1", "a"), insert("1", "a", of=other))
+        self.run_it()
+        with closing(sqlite3.connect(self.into)) as db:
+            db.execute("CREATE TABLE seen (name TEXT)")
+            db.execute(
+                "CREATE TRIGGER mine AFTER UPDATE ON other BEGIN"
+                " INSERT INTO seen SELECT name FROM stock; END"
+            )
+        for old, new in (("a", "b"), ("b", "c")):
+            self.take(update(["1", old], ["1", new]), update(["1", old], ["1", new], of=other))
+        self.run_it()
+        self.assertEqual(self.rows("SELECT name FROM seen ORDER BY rowid"), [("b",), ("c",)])
+
+    def test_what_another_program_removed_is_still_found_out(self) -> None:
+        self.take(insert("1", "a"), insert("2", "b"))
+        self.run_it()
+        with closing(sqlite3.connect(self.into)) as db, db:
+            db.execute("DELETE FROM stock WHERE id = 2")
+        self.take(update(["1", "a"], ["1", "b"]))
+        self.take(update(["2", "b"], ["2", "c"]))
+        self.run_it(1)
+        self.assertIn("another program has changed the file", self.asides()[0][2])
+
+
+class Random(TablesCase):
+    """Feeds of every kind of change end in the same file, made at once or step by step."""
+
+    def made(self, name: str, **more: Any) -> dict[str, list[Any]]:
+        self.into = str(self.folder / name)
+        self.run_it(**more)
+        with closing(sqlite3.connect(self.into)) as db:
+            names = [
+                it for (it,) in db.execute("SELECT name FROM sqlite_schema WHERE type = 'table'")
+            ]
+            return {it: sorted(db.execute(f'SELECT * FROM "{it}"'), key=repr) for it in names}
+
+    def run_it(self, status: int = 0, **more: Any) -> list[str]:
+        with logged() as told:
+            self.assertEqual(tables_module.follow_feed(self.options(**more), never), status)
+        return told
+
+    def test_both_ways(self) -> None:
+        for seed in range(20):
+            with self.subTest(seed=seed):
+                self.setUp()
+                load = Load(random.Random(seed))
+                for number in range(30):
+                    self.take(*load.lines(20))
+                    if number % 10 == 9:
+                        self.repaired(*load.anew())
+                self.take(*load.last())
+                at_once = self.made("rows.db", digests=True)
+                with ONE_BY_ONE:
+                    self.assertEqual(at_once, self.made("rows2.db", digests=True))
+                self.doCleanups()
+
+
+class Fits(TablesCase):
+    """Changes that don't fit those before them are made as they came."""
+
+    def joined(self) -> Joined:
+        columns = (Column("id", 23, -1, True), Column("name", 25, -1, False))
+        self.relation = Relation(1, "public", "stock", Shape("d", columns))
+        return Joined(0, Kept("stock", self.relation), self.relation)
+
+    def change(self, before: Image, after: Image) -> Change:
+        op = "c" if before is None else "d" if after is None else "u"
+        return Change(op, self.relation, 0, before, after)
+
+    def test_what_fits(self) -> None:
+        cases: tuple[tuple[tuple[Image, Image], tuple[Image, Image], bool], ...] = (
+            ((None, ["1", "a"]), (None, ["1", "b"]), False),
+            ((None, ["1", "a"]), (["1", "b"], ["1", "c"]), False),
+            ((None, ["1", "a"]), (["1", "b"], None), False),
+            ((["1", "a"], None), (["1", "a"], ["1", "b"]), False),
+            ((["1", "a"], None), (["1", "a"], None), False),
+            ((["2", "a"], ["2", "b"]), (["1", "a"], ["2", "a"]), False),
+            ((["2", "a"], None), (["1", "a"], ["2", "a"]), True),
+            ((["1", "a"], ["2", "a"]), (None, ["1", "b"]), True),
+            ((None, ["1", "a"]), (None, [None, "b"]), False),
+        )
+        for first, second, fits in cases:
+            with self.subTest(first=first, second=second):
+                joined = self.joined()
+                self.assertTrue(joined.add(self.change(*first)))
+                self.assertEqual(joined.add(self.change(*second)), fits)
+
+    def test_a_truncation_is_made_by_itself(self) -> None:
+        joined = self.joined()
+        self.assertFalse(joined.add(Change("t", self.relation, 0, None, None)))

@@ -1,0 +1,344 @@
+"""A feed that is read over two pipes, by a stand-in for ssh."""
+
+from __future__ import annotations
+
+import contextlib
+import json
+import os
+import pickle
+import random
+import signal
+import socket
+import subprocess
+import sys
+import time
+from pathlib import Path
+from typing import Any
+from unittest import mock
+
+from feed_text import Writer
+
+import pgsub_feed
+from pgsub_feed import Commit, Damaged, FileError, Insert, Passing, Truncate, Unfit
+from pgsub_feed.errors import Stopped, UsageError
+from pgsub_feed.pipe import following
+from pgsub_feed.pipe.following import Address
+from pgsub_feed.pipe.pipes import Cut, Pipes
+
+from .bases import make_base
+from .feeds import STOCK, FeedCase, insert, table
+from .test_consumer import EXAMPLE, random_lines, replayed
+
+CONNECT = Path(__file__).resolve().parent.parent
+OTHER = table(2, "other", schema="sales")
+# Runs the last of its words, and notes the process.
+STAND_IN = """#!/bin/sh
+for it; do last=$it; done
+echo $$ >> "$0.pids"
+eval "exec $last"
+"""
+
+
+class PipeCase(FeedCase):
+    """A test with a stand-in for ssh."""
+
+    def setUp(self) -> None:
+        super().setUp()
+        self.ssh = self.folder / "ssh"
+        self.ssh.write_text(STAND_IN)
+        self.ssh.chmod(0o700)
+        self.environment = {
+            **os.environ,
+            "PGSUB_SSH": str(self.ssh),
+            "PATH": f"{CONNECT}:{os.environ['PATH']}",
+            "PYTHONPATH": str(CONNECT),
+        }
+        patched = mock.patch.dict(os.environ, self.environment)
+        patched.start()
+        self.addCleanup(patched.stop)
+        self.url = f"ssh://somewhere{self.path}"
+
+    def pids(self) -> list[int]:
+        path = Path(f"{self.ssh}.pids")
+        return [int(it) for it in path.read_text().split()] if path.exists() else []
+
+    def read(self, after: int | None = None, **more: Any) -> list[Commit]:
+        return list(pgsub_feed.read(self.url, after, **more))
+
+    def noted(self) -> str:
+        return (self.path / "readers/mine").read_text().strip()
+
+
+class Reads(PipeCase):
+    def test_it_gives_what_a_reader_of_the_folder_gets(self) -> None:
+        for number in range(1, 4):
+            self.feed.commit(number << 8, [insert(str(number), "ä\n"), insert("7", None, of=OTHER)])
+        for after in (None, 0, 0x200, 0x300):
+            for tables in ((), ("stock",)):
+                with self.subTest(after, tables=tables):
+                    found = self.read(after, tables=tables)
+                    there = list(pgsub_feed.read(self.path, after, tables=tables))
+                    self.assertEqual(found, there)
+
+    def begin_with_rows(self) -> None:
+        self.feed.path.unlink()
+        self.feed = Writer(self.path, 0x100)
+        rows = [(STOCK, (str(it), "ä\r\n")) for it in range(1000)]
+        make_base(self.path, 0x100, [STOCK, OTHER], rows, room=1000, least=5000)
+        self.feed.commit(0x200, [insert("2000", "a")])
+
+    def test_first_rows(self) -> None:
+        self.begin_with_rows()
+        for after in (None, 0, 0x100, 0x200):
+            with self.subTest(after):
+                self.assertEqual(self.read(after), list(pgsub_feed.read(self.path, after)))
+        first, second, *_ = self.read(0)
+        self.assertIsInstance(first.changes[0], Truncate)
+        self.assertTrue(all(isinstance(it, Insert) for it in second.changes))
+
+    def test_a_cut_between_first_rows(self) -> None:
+        """All of them come again, each table truncated first."""
+        self.begin_with_rows()
+        rows, cuts = list[str](), 0
+        for commit in pgsub_feed.read(self.url, 0, follow=True):
+            for it in commit.changes:
+                if isinstance(it, Insert):
+                    rows.append(str(it.after["id"]))
+                elif it.table.oid == STOCK.oid:
+                    rows.clear()
+                    cuts += 1
+            if len(self.pids()) < 3 and rows:
+                os.kill(self.pids()[-1], signal.SIGKILL)
+            if commit.lsn == 0x200:
+                break
+        self.assertEqual((rows, cuts), ([*map(str, range(1000)), "2000"], 3))
+
+    def test_large_commits(self) -> None:
+        rows = [insert(str(number), "x" * 1000) for number in range(1000)]
+        self.feed.commit(0x100, rows)
+        self.feed.commit(0x200, [insert("a" * 3_000_000, None)])
+        first, second = self.read(0)
+        self.assertEqual(len(first.changes), 1000)
+        (last,) = second.changes
+        assert isinstance(last, Insert)
+        self.assertEqual(len(str(last.after["id"])), 3_000_000)
+
+    def test_many_that_are_had_at_once(self) -> None:
+        """(So that both pipes are full.)"""
+        for number in range(1, 20001):
+            self.feed.commit(number, [])
+        self.assertEqual(len(self.read(0, reader="mine")), 20000)
+        self.assertEqual(self.noted(), "0/4E20")
+
+    def test_a_reader_with_a_name(self) -> None:
+        for number in range(1, 4):
+            self.feed.commit(number << 8, [insert(str(number), "a")])
+        found = pgsub_feed.read(self.url, 0x100, reader="mine", follow=True)
+        next(found)
+        self.assertEqual(self.noted(), "0/100")
+        next(found)
+        # (what the body hasn't ended with isn't done)
+        found.close()  # type: ignore[attr-defined]
+        self.assertEqual(self.noted(), "0/200")
+        self.assertEqual(len(self.read(0x200, reader="mine")), 1)
+        self.assertEqual(self.noted(), "0/300")
+
+    def test_it_follows(self) -> None:
+        self.feed.commit(0x100, [insert("1", "a")])
+        found = pgsub_feed.read(self.url, 0, follow=True)
+        self.assertEqual(next(found).lsn, 0x100)
+        self.feed.commit(0x200, [insert("2", "a")])
+        self.assertEqual(next(found).lsn, 0x200)
+        os.kill(self.pids()[-1], signal.SIGKILL)
+        self.feed.commit(0x300, [insert("3", "a")])
+        self.assertEqual(next(found).lsn, 0x300)
+        self.assertEqual(len(self.pids()), 2)
+
+    def test_it_ends_where_it_is_asked_to(self) -> None:
+        def check() -> None:
+            if self.pids():
+                raise Stopped
+
+        with self.assertRaises(Stopped):
+            next(pgsub_feed.read(self.url, 0, follow=True, check=check))
+
+
+class Faults(PipeCase):
+    def test_what_the_other_side_tells(self) -> None:
+        self.feed.commit(0x100, [insert("1", "a")])
+        with self.assertRaisesRegex(Unfit, "somewhere.*no commit ends at 0/80"):
+            self.read(0x80, follow=True)
+        self.feed.put(b"x" * 300)
+        with self.assertRaisesRegex(FileError, "somewhere.*reading 3 CommitLine"):
+            self.read(0)
+        self.url += "/none"
+        with self.assertRaisesRegex(FileError, "there is no feed"):
+            self.read(0, follow=True)
+
+    def test_a_feed_that_is_never_reached(self) -> None:
+        with mock.patch.dict(os.environ, {"PGSUB_SSH": "/bin/false"}):
+            with self.assertRaisesRegex(Passing, "somewhere.*can't be read"):
+                self.read(0, follow=True)
+        with mock.patch.dict(os.environ, {"PGSUB_SSH": "/none/at/all"}):
+            with self.assertRaisesRegex(FileError, "/none/at/all: No such file"):
+                self.read(0)
+
+    def test_what_is_no_feed(self) -> None:
+        said = self.folder / "said"
+        for text, error, told in (
+            (b"hello\n", Damaged, "no line of a commit"),
+            (b'{"feed":0}\n', Damaged, "no head"),
+            (b'{"feed', Passing, "it has ended"),
+            (b"x" * (3 << 20), Passing, "a line is too long"),
+            (b'{"fault":7,"text":"busy"}\n', Passing, "busy"),
+            (b'{"fault":[]\n', Passing, "it says"),
+        ):
+            said.write_bytes(text)
+            with self.subTest(text[:20]), mock.patch.dict(
+                os.environ, {"PGSUB_SSH": f"/bin/sh -c 'read it; cat {said}'"}
+            ), self.assertRaisesRegex(error, told):
+                self.read(0)
+
+    def test_another_feed_in_its_place(self) -> None:
+        """A cut, after which the other side has another one."""
+        self.feed.commit(0x100, [insert("1", "a")])
+        found = pgsub_feed.read(self.url, 0, follow=True)
+        next(found)
+        text = self.feed.path.read_bytes()
+        self.feed.path.write_bytes(text.replace(b'"7"', b'"8"'))
+        os.kill(self.pids()[-1], signal.SIGKILL)
+        with mock.patch.object(following, "PATIENCE", 0.5):
+            with self.assertRaisesRegex(
+                Damaged, "and before of slot pgsub of database shop, system 7"
+            ):
+                next(found)
+
+    def test_addresses(self) -> None:
+        self.assertEqual(Address.of("ssh://a@b:7/c%20d"), Address("a@b", 7, "/c d"))
+        words = Address.of("ssh://b/it's").words(True, "x")
+        self.assertEqual(words[-3:-1], ["--", "b"])
+        self.assertTrue(words[-1].endswith("""--feed '/it'"'"'s' --follow --reader x"""), words[-1])
+        for wrong in ("ssh:///a", "ssh://b", "ssh://b:x/a", "ssh://b:0/a", "ssh://b/a?c"):
+            with self.subTest(wrong), self.assertRaises(UsageError):
+                Address.of(wrong)
+
+
+class Serves(PipeCase):
+    """The side of the feed."""
+
+    def serve(self, said: bytes, *words: str) -> tuple[int, bytes]:
+        command = [str(CONNECT / "pgsub-feed"), "--pipe", "--feed", str(self.path), *words]
+        done = subprocess.run(command, input=said, capture_output=True, timeout=30, check=False)
+        return done.returncode, done.stdout
+
+    def test_words(self) -> None:
+        for words in (["--table", "a"], ["--from", "0/1"], ["--undo", "0/1", "0/2"]):
+            self.assertEqual(self.serve(b"\n", *words)[0], 2)
+
+    def test_what_a_reader_cant_say(self) -> None:
+        self.feed.commit(0x100, [insert("1", "a")])
+        for said in (b"x\n", b"0/100\n0/200\n", b"0/100\n0/80\n"):
+            with self.subTest(said):
+                status, told = self.serve(said)
+                self.assertEqual(status, 2)
+                self.assertIn(b'{"fault":2,"text":"the reader ', told)
+
+    def test_over_a_socket(self) -> None:
+        """(Which is one file, for both ways.)"""
+        self.feed.commit(0x100, [insert("1", "a" * 1_000_000)])
+        mine, theirs = socket.socketpair()
+        command = [str(CONNECT / "pgsub-feed"), "--pipe", "--feed", str(self.path)]
+        end = theirs.fileno()
+        with mine, theirs, subprocess.Popen(command, stdin=end, stdout=end) as child:
+            theirs.close()
+            pipes = Pipes(mine.fileno(), mine.fileno(), lambda: None)
+            pipes.put(b"0/0\n")
+            self.assertTrue(pipes.line().startswith(b'{"feed":1'))
+            size = json.loads(pipes.line())["bytes"]
+            self.assertEqual(sum(map(len, pipes.pieces(size))), size)
+            self.assertEqual(pipes.line(), b'{"done":"0/100"}\n')
+            mine.shutdown(socket.SHUT_WR)
+            self.assertEqual(child.wait(30), 0)
+
+    def test_a_reader_that_says_nothing(self) -> None:
+        self.assertEqual(self.serve(b""), (0, b""))
+
+    def test_a_commit_that_is_cut_while_it_is_given(self) -> None:
+        """(A pipe that nobody reads takes 64 KB.)"""
+        self.feed.commit(0x100, [insert("1", "a" * 3_000_000)])
+        (in_read, in_write), (out_read, out_write) = os.pipe(), os.pipe()
+        command = [str(CONNECT / "pgsub-feed"), "--pipe", "--feed", str(self.path)]
+        child = subprocess.Popen(command, stdin=in_read, stdout=out_write)
+        for it in (in_read, out_write):
+            os.close(it)
+        pipes = Pipes(out_read, in_write, lambda: None)
+        pipes.put(b"0/0\n")
+        pipes.line()
+        os.truncate(self.feed.path, 2000)
+        with self.assertRaises(Cut):
+            for _ in pipes.pieces(3_000_000):
+                pass
+        self.assertEqual(child.wait(30), 0)
+        for it in (in_write, out_read):
+            os.close(it)
+
+
+class Killed(PipeCase):
+    """The example of the documents with a feed elsewhere: reader and feed's side are killed."""
+
+    most = 8000
+
+    def setUp(self) -> None:
+        super().setUp()
+        self.killed = set[int]()
+
+    def start(self) -> subprocess.Popen[bytes]:
+        words = [sys.executable, str(EXAMPLE), self.url, str(self.folder / "dict")]
+        return subprocess.Popen(words, env=self.environment)
+
+    def kept(self) -> tuple[int, dict[Any, Any]]:
+        path = self.folder / "dict"
+        found: tuple[int, dict[Any, Any]] = (0, {})
+        if path.exists():
+            found = pickle.loads(path.read_bytes())
+        return found
+
+    def test_killed_at_random(self) -> None:
+        """(One whose first way is cut ends, and its supervisor starts it again.)"""
+        rng, rows = random.Random(7), dict[int, dict[str, str]]()
+        kills, child = 0, self.start()
+        for number in range(1, 301):
+            self.feed.commit(number << 8, list(random_lines(rng, rows)))
+            if number % 15 == 0:
+                time.sleep(rng.random() * 0.4)
+                if rng.random() < 0.5:
+                    child.kill()
+                    child.wait()
+                    kills += 1
+                else:
+                    kills += self.kill_server()
+            child = self.start() if child.poll() is not None else child
+        try:
+            until = time.monotonic() + 60
+            while self.kept()[0] < self.feed.at and time.monotonic() < until:
+                child = self.start() if child.poll() is not None else child
+                time.sleep(0.02)
+        finally:
+            child.kill()
+            child.wait()
+        self.assertGreater(kills, 10)
+        lsn, found = self.kept()
+        self.assertEqual((lsn, found), replayed(self.path))
+        self.assertGreater(len(found), 10)
+
+    def kill_server(self) -> bool:
+        """Kills the side of the feed, once there is one that wasn't killed yet."""
+        until = time.monotonic() + 5
+        while time.monotonic() < until:
+            for it in set(self.pids()) - self.killed:
+                self.killed.add(it)
+                with contextlib.suppress(ProcessLookupError):
+                    os.kill(it, signal.SIGKILL)
+                    return True
+            time.sleep(0.01)
+        return False
