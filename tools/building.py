@@ -16,6 +16,9 @@ PROGRAM = "pgsub"
 COST = re.compile(r"^\| `(\w+)` \| (\d+) \|", re.M)
 DONE = re.compile(r"^crate (\w+): ")
 PROVED = re.compile(r"^fn (\w+)::.*: proved$")
+# before a crate, once all that it stands on is there; and how many of its functions were checked
+BEGUN = re.compile(r"^rt: chose --jobs \d+ for (\w+)$")
+SO_FAR = re.compile(r"^so far: (\d+) of (\d+) functions checked")
 # Whoever waits hears something in this time, in seconds.
 SILENCE = 60.0
 
@@ -58,18 +61,22 @@ class Building:
         self.done: set[str] = set()
         # (those that were there before were built in no time)
         self.spent = 0.0
-        self.began, self.crate, self.functions = now, "", 0
+        self.began, self.crate, self.functions, self.all = now, "", 0, 0
 
     def left(self, now: float) -> str:
         rest = sum(cost for name, cost in self.costs.items() if name not in self.done)
-        return (
-            f"{minutes(rest * (now - self.began) / self.spent)} left"
-            if self.spent
-            else "time left isn't known yet"
-        )
+        if self.spent:
+            return f"{minutes(rest * (now - self.began) / self.spent)} left"
+        measured = f"{minutes(rest)} of a processor left, as it was measured"
+        return measured if self.done else "time left isn't known yet"
 
     def note(self, line: str, now: float) -> str:
         """Notes a line of rt's. Returns what it tells."""
+        if (found := BEGUN.match(line)) and found[1] in self.below:
+            self.done |= self.below[found[1]] - {found[1]}
+            self.crate, self.functions, self.all = found[1], 0, 0
+        if found := SO_FAR.match(line):
+            self.functions, self.all = int(found[1]), int(found[2])
         if (found := PROVED.match(line)) and found[1] in self.below:
             self.functions = self.functions + 1 if found[1] == self.crate else 1
             self.crate = found[1]
@@ -77,14 +84,15 @@ class Building:
             return ""
         self.done |= self.below[found[1]]
         self.spent += self.costs[found[1]]
-        self.crate, self.functions = "", 0
+        self.crate, self.functions, self.all = "", 0, 0
         return (
             f"{found[1]} is proved, {len(self.done)} of {len(self.below)} crates, {self.left(now)}"
         )
 
     def waiting(self, now: float) -> str:
         """What is told where nothing was for a while."""
-        at = f"{self.functions} functions of {self.crate} are proved" if self.crate else "proving"
+        count = f"{self.functions} of {self.all}" if self.all else f"{self.functions}"
+        at = f"{count} functions of {self.crate} are proved" if self.crate else "proving"
         return f"{at}, {len(self.done)} of {len(self.below)} crates, {self.left(now)}"
 
 

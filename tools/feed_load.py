@@ -104,6 +104,14 @@ class Load:
         """The changes of a commit."""
         return [line for _ in range(self.rng.randrange(most)) for line in self.line()]
 
+    def anew(self) -> list[Line]:
+        """All rows of some table, as they come anew."""
+        rows: dict[int, list[list[Any]]] = {it: list(self.rows[it].values()) for it in self.rows}
+        of, there = self.rng.choice(
+            [(self.bag, self.copies), *((self.tables[it], rows[it]) for it in rows)]
+        )
+        return [Line(of, "t"), *(Line(of, "c", None, it) for it in there)]
+
     def last(self) -> list[Line]:
         """What tells the shape and the name that each table has at the end."""
         return [line for oid in self.names for line in self.insert(oid, str(10 * KEYS + oid))]

@@ -8,4 +8,4 @@
 # this machine, its start among them, and what each takes of the reader's processor. Redis keeps a log of commands. Needs Debian's
 # python3-psycopg, python3-redis, redis-server and nats-server.
 source "$(dirname "$0")/../common.sh"
-PYTHONPATH="$top/tools:$top/bench/tables" /usr/bin/python3 "$here/sinks.py" "$@"
+PYTHONPATH="$top/tools:$top/bench:$top/bench/tables" /usr/bin/python3 "$here/sinks.py" "$@"

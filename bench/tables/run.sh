@@ -6,6 +6,7 @@
 #
 # The feed is made for it: a table of four columns with a key, with inserts alone, or a quarter of them and then updates of any row. Told
 # are the changes that `pgsub-connect tables --once` takes in a second, its start among them, what each takes of a processor, the same with
-# --digests, and how long it takes from a commit in the feed until a SELECT sees it. Needs Debian's python3-psycopg.
+# --digests, what 20,000 transactions of pgbench take, and how long it takes from a commit in the
+# feed until a SELECT sees it. Needs Debian's python3-psycopg.
 source "$(dirname "$0")/../common.sh"
-PYTHONPATH="$top/tools" /usr/bin/python3 "$here/tables.py" "$@"
+PYTHONPATH="$top/tools:$top/bench" /usr/bin/python3 "$here/tables.py" "$@"

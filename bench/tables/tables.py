@@ -15,9 +15,11 @@ import time
 from collections.abc import Iterator
 from pathlib import Path
 
+import pgbench_feed
 from built import TOP
 from feed_text import Column, Definition, Line, Writer, lsn_text
 
+TRANSACTIONS = 20000
 COMMAND = TOP / "connect/pgsub-connect"
 STOCK = Definition(
     16384,
@@ -118,6 +120,21 @@ def lag(base: sqlite3.Connection, writer: Writer, number: int, pause: float) -> 
     return time.monotonic() - began
 
 
+def of_pgbench(folder: Path, transactions: int) -> float:
+    """The processor seconds that transactions of pgbench take, without the first rows."""
+    took = []
+    for count in (0, transactions):
+        pgbench_feed.write(folder / "feed", count)
+        before = processor()
+        subprocess.run(words(folder, "--once"), check=True, stderr=subprocess.DEVNULL)
+        took.append(processor() - before)
+        for path in (folder / "feed").iterdir():
+            path.unlink()
+        (folder / "feed").rmdir()
+        (folder / "rows.db").unlink()
+    return took[1] - took[0]
+
+
 def main() -> None:
     parser = argparse.ArgumentParser(prog="bench/run tables")
     parser.add_argument("--changes", type=int, default=400000)
@@ -135,6 +152,12 @@ def main() -> None:
                     ),
                     flush=True,
                 )
+    with tempfile.TemporaryDirectory(dir=options.folder) as folder:
+        took = of_pgbench(Path(folder), TRANSACTIONS)
+    print(
+        f"\n{TRANSACTIONS:,} transactions of pgbench take {took:.2f} s of a processor.",
+        flush=True,
+    )
     print(
         "\n| A commit each | Until a SELECT sees it, ms: median | Of 20 one takes longer than |\n|---|---|---|"
     )

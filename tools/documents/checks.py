@@ -15,9 +15,9 @@ from . import texts
 SHARES = {
     "README.md": 800,
     "docs/ARCHITECTURE.md": 1700,
-    "docs/PROOFS.md": 3000,
+    "docs/PROOFS.md": 3250,
     "docs/PROTOCOL.md": 3000,
-    "docs/OPERATING.md": 3200,
+    "docs/OPERATING.md": 3300,
     "docs/DECISIONS.md": 1400,
     "docs/PERFORMANCE.md": 1000,
     "docs/CONTRIBUTING.md": 1400,

@@ -92,12 +92,22 @@ def well_formed(case, program):
         return
     file = program.file("recording.pgx", recording(rng, delivery.sessions))
     compare("a recording", program, ["apply", *words, file], status, rows, line)
+    watched(program, len(delivery.sessions), ["watch", *words, file])
     if luck > 0.85 and version == 2:
         resumed(program, delivery, file)
     elif luck > 0.82:
         shown(program, delivery.sessions, version, words, file)
     elif luck > 0.73:
         same(rng, program, maker, history, (delivery, file), words)
+
+
+def watched(program, sessions, words):
+    """No rule is found broken of sessions that a well-formed server sends, and all is watched."""
+    status, out, err = program.run(*words)
+    lines = out.decode().splitlines()
+    wrong = [line for line in lines if " broken at " in line or " not watched from " in line]
+    if (status, err, lines.count("session")) != (0, b"", sessions) or wrong:
+        raise Difference(f"a watch: pgsub {' '.join(words)}\n   {show(out)} {show(err)}")
 
 
 def resumed(program, read, file):

@@ -18,6 +18,8 @@ from .wire import NULL, UNSENT, Column, Definition, text
 NUMBERS, TEXTS = (20, 21, 23, 25, 700, 701, 1043, 1700, 99999), (25, 1043, 99999)
 INTEGERS, FLOATS, NUMERIC = (20, 21, 23), (700, 701), 1700
 NAMES = [it for it in history.NAMES if it not in (b"", b"A")]
+# The xid of a commit that the follower has made.
+ANEW = 2
 
 
 class Values(history.Values):
@@ -145,6 +147,8 @@ class Fed:
         for transaction in Maker(rng).history():
             if transaction.end <= at:
                 continue
+            if tables and transaction.end > at + 1 and rng.random() < 0.1:
+                at = self.add_anew(tables, at + 1, rng)
             lines = [line for change in transaction.changes for line in lines_of(tables, change)]
             about = (
                 feed_text.About(transaction.lsn, transaction.xid, rng.getrandbits(50))
@@ -156,6 +160,17 @@ class Fed:
             self.rows[at] = rows_in(tables)
             if rng.random() < 0.2 and can_be_exported(tables):
                 self.stores[at] = model.contents(tables, at)
+
+    def add_anew(self, tables, at, rng):
+        """The follower's own commit, in which the rows of some table come anew; returns its end."""
+        definition, rows = rng.choice(list(tables.values()))
+        of = definition_of(definition)
+        lines = [feed_text.Line(of, "t")]
+        for cells, copies in rows.values():
+            lines += [feed_text.Line(of, "c", None, row_of(cells))] * copies
+        self.commits.append((at, lines, feed_text.About(at - 1, ANEW, 0)))
+        self.rows[at] = rows_in(tables)
+        return at
 
 
 def can_be_exported(tables):

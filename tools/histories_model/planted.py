@@ -382,6 +382,8 @@ class Planted:
             return 3, b"", b"pgsub: capture too long\n"
         if words[0] == "same":
             return self.same(words)
+        if words[0] == "watch":
+            return 0, b"session\n" * len(sessions_of(self.files[words[-1]])), b""
         try:
             read = self.read(words, words[-1])
         except BadLine as bad:

@@ -124,6 +124,9 @@ class RedisServer(Engine):
         """The LSN of the sink; "" where none is there yet."""
         return str(self.client().get("pgsub:lsn") or "")
 
+    def role(self) -> str:
+        return str(self.client().info("replication")["role"])
+
     def hashes(self) -> dict[str, dict[str, str]]:
         """All rows by their keys."""
         client = self.client()
@@ -139,6 +142,37 @@ class RedisServer(Engine):
         return {key: client.xrange(key) for key in client.scan_iter(count=1000, _type="stream")}
 
 
+class Sentinel(Engine):
+    """One that watches a Redis, and by itself has another one take its place."""
+
+    program, package = "redis-server", "redis-server"
+
+    def __init__(self, folder: Path, watched: RedisServer) -> None:
+        super().__init__(folder)
+        # (it rewrites the file)
+        (folder / "config").write_text(
+            f"port {self.port}\nbind 127.0.0.1\ndir {folder}\nsentinel monitor live 127.0.0.1 {watched.port} 1\n"
+            "sentinel down-after-milliseconds live 500\nsentinel failover-timeout live 2000\n"
+        )
+
+    def words(self) -> list[str]:
+        return ["redis-server", str(self.folder / "config"), "--sentinel"]
+
+    def url(self) -> str:
+        return f"redis+sentinel://127.0.0.1:{self.port}/live/0"
+
+    def client(self) -> Any:
+        return importlib.import_module("redis").Redis(port=self.port, decode_responses=True)
+
+    def knows_replica(self) -> bool:
+        return bool(self.client().sentinel_master("live")["num-slaves"])
+
+    def names(self, redis: RedisServer) -> bool:
+        """Whether that one is the master, and says so too."""
+        _, port = self.client().sentinel_get_master_addr_by_name("live")
+        return bool(port == redis.port and redis.role() == "master")
+
+
 class NatsServer(Engine):
     """It has JetStream, in its folder."""
 
@@ -150,10 +184,11 @@ class NatsServer(Engine):
 
     def words(self) -> list[str]:
         config = self.folder / "config"
-        config.write_text(
-            f'listen: "127.0.0.1:{self.port}"\njetstream {{ store_dir: "{self.folder}/js" }}\nmax_payload: {self.most}\n'
-        )
+        config.write_text(self.config())
         return ["nats-server", "-c", str(config)]
+
+    def config(self) -> str:
+        return f'listen: "127.0.0.1:{self.port}"\njetstream {{ store_dir: "{self.folder}/js" }}\nmax_payload: {self.most}\n'
 
     def url(self) -> str:
         return f"nats://127.0.0.1:{self.port}"
@@ -190,6 +225,37 @@ class NatsServer(Engine):
                     line.partition(": ")[2] for line in headers if line.startswith("Nats-Msg-Id:")
                 ]
                 yield it["subject"], ids[0], json.loads(base64.b64decode(it["data"]))
+
+
+class NatsMember(NatsServer):
+    """One of the servers of a cluster. `routes`: the ports by which they know each other, its own
+    first."""
+
+    def __init__(self, folder: Path, routes: list[int]) -> None:
+        super().__init__(folder)
+        self.routes = routes
+
+    def config(self) -> str:
+        routes = ", ".join(f'"nats-route://127.0.0.1:{it}"' for it in self.routes[1:])
+        listens = f'listen: "127.0.0.1:{self.routes[0]}"'
+        cluster = f"cluster {{ name: live, {listens}, routes: [{routes}] }}"
+        return f"server_name: server{self.port}\n{super().config()}{cluster}\n"
+
+    def wait(self) -> None:
+        # (there is no JetStream before most of them are there)
+        Engine.wait(self)
+
+    def has_leader(self) -> bool:
+        with contextlib.suppress(OSError, Failed):
+            return "error" not in self.ask("STREAM.NAMES")
+        return False
+
+
+def nats_cluster(folder: Path, count: int) -> list[NatsMember]:
+    """The servers of a cluster."""
+    ports = [free_port() for _ in range(count)]
+    others = [[it, *(other for other in ports if other != it)] for it in ports]
+    return [NatsMember(folder / str(at), it) for at, it in enumerate(others)]
 
 
 class Asker:

@@ -339,13 +339,52 @@ def compare_tables(cluster: Cluster, path: Path, *publications: str, database: s
     return compare_file(path, tables_of_server(cluster, *publications, database=database))
 
 
-# By schema and name of a table that has rows, a number for these, which is another one for other
-# rows.
-Digests = Dict[Tuple[str, str], int]
+# How many rows there are, and a number for these, which is another one for other rows.
+Digest = Tuple[int, int]
+# By schema and name of a table that has rows.
+Digests = Dict[Tuple[str, str], Digest]
+NO_ROWS = 0, 0
 
 
-def digest_of(rows: Mapping[Any, int]) -> int:
-    return hash(frozenset(rows.items()))
+class Unlike(Failed):
+    """A file had other rows at an LSN than those to which the feed leads there, in these tables:
+    how many, and which."""
+
+    def __init__(self, at: int, found: Digests, wanted: Digests) -> None:
+        tables = sorted({*found, *wanted})
+        self.at = at
+        self.tables = {
+            it: found.get(it, NO_ROWS) for it in tables if found.get(it) != wanted.get(it)
+        }
+        told = [
+            f"{'.'.join(it)} ({rows}, where it leads to {wanted.get(it, NO_ROWS)[0]})"
+            for it, (rows, _) in self.tables.items()
+        ]
+        super().__init__(
+            f"at {at:X} a reader saw other rows of {', '.join(told)} than the feed leads to"
+        )
+
+
+def digest_of(rows: Mapping[Any, int]) -> Digest:
+    return sum(rows.values()), hash(frozenset(rows.items()))
+
+
+def explained(feed: Path, base: Replay | None, unlike: Unlike) -> str:
+    """After which commits a feed leads to the rows that were seen of each table."""
+    found: dict[tuple[str, str], list[str]] = {it: [] for it in unlike.tables}
+
+    def look(state: Replay) -> None:
+        led = digests_of_replay(state)
+        for table, digest in unlike.tables.items():
+            if led.get(table, NO_ROWS) == digest:
+                found[table].append(f"{state.at:X}")
+
+    rows_of_feed(feed, base, look)
+    told = (
+        f"{'.'.join(table)} after {f'{at[0]} to {at[-1]}' if at else 'no commit'}"
+        for table, at in found.items()
+    )
+    return f"it leads to those of {', '.join(told)}"
 
 
 def digests_of_file(path: Path) -> tuple[Digests, str]:
@@ -404,10 +443,7 @@ class Reader(threading.Thread):
         """Fails where it has seen other rows than those to which the feed leads there."""
         found = self.seen.get(state.at)
         if found is not None and found != (wanted := digests_of_replay(state)):
-            names = [".".join(it) for it in {*found, *wanted} if found.get(it) != wanted.get(it)]
-            raise Failed(
-                f"at {state.at:X} a reader saw other rows of {', '.join(sorted(names))} than the feed leads to"
-            )
+            raise Unlike(state.at, found, wanted)
 
     def finish(self) -> None:
         self.ended.set()

@@ -177,6 +177,11 @@ class Supervisor(threading.Thread):
         with open(self.log, "rb") as log:
             return log.read()[-2000:].decode(errors="replace")
 
+    def said(self, words: str) -> list[str]:
+        """The lines of its log that have these words."""
+        with open(self.log, encoding="utf-8", errors="replace") as log:
+            return [line.rstrip() for line in log if words in line]
+
     def check(self) -> None:
         if self.failure:
             raise Failed(f"{self.failure}\n{self.last_said()}")

@@ -8,6 +8,7 @@ from __future__ import annotations
 
 import collections
 import contextlib
+import copy
 import random
 import subprocess
 import time
@@ -22,9 +23,11 @@ from .cluster import Cluster
 from .errors import Failed
 from .feeds import (
     Reader,
+    Unlike,
     base_of,
     check_images,
     compare_tables,
+    explained,
     log_changes,
     rows_of_feed,
     segments,
@@ -32,7 +35,7 @@ from .feeds import (
 from .follower import Supervisor, checkpoint_of, is_adding, is_confirmed, wait_until
 from .load import LOGGED, SCHEMA, Mixed
 from .options import Options
-from .rows import check_file, compare, rows_of_server, rows_of_store
+from .rows import Rows, check_file, compare, rows_of_server, rows_of_store
 from .sessions import Session
 
 SLOT = "pgsub"
@@ -252,7 +255,7 @@ class Fed:
         # before that lack its changes)
         above = self.base.at if self.base else 0
         seen = {it for it in self.reader.seen if it >= above}
-        rows, state = rows_of_feed(self.feed, self.base, self.look)
+        rows, state = self.replay()
         compare(rows_of_server(self.run.cluster, "pgsub"), rows)
         count, images = compare_tables(self.run.cluster, self.rows, "pgsub"), check_images(
             self.feed, *self.logged, above=above
@@ -264,8 +267,20 @@ class Fed:
         read = f"{len(seen)} states of them read"
         return f"; a feed of {len(segments(self.feed))} segments, {state.changes} changes replayed, {images} images, {count} rows in tables, {read}"
 
+    def replay(self) -> tuple[Rows, Replay]:
+        base = copy.deepcopy(self.base)
+        try:
+            return rows_of_feed(self.feed, self.base, self.look)
+        except Unlike as unlike:
+            raise Failed(f"{unlike}; {explained(self.feed, base, unlike)}") from None
+
     def look(self, state: Replay) -> None:
-        self.reader.check(state)
+        try:
+            self.reader.check(state)
+        except Failed as failed:
+            # (a table that was set aside has no rows there, and may be back by now)
+            asides = self.run.supervisor.said("is set aside")
+            raise Failed("\n".join((str(failed), *asides))) from None
         self.checked.add(state.at)
 
 

@@ -34,7 +34,7 @@ Architecture: amd64
 Maintainer: {maintainer}
 Installed-Size: {size}
 Depends: {needs}
-Suggests: sqlite3, python3-redis
+Suggests: sqlite3, python3-redis, python3-confluent-kafka
 Section: database
 Priority: optional
 Description: exact copies of PostgreSQL tables by logical replication

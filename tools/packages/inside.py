@@ -1,11 +1,10 @@
 """Tries a package where neither checkout nor toolchain is: it is started as root, in a copy of a
 machine's files.
 
-In its folder are README.md, the packages in `first` and `second`, the tar file, and the module that
-runs walkthroughs. The last line is `N passed, M failed`.
+In its folder are README.md, the packages in `first` and `second`, the tar file, and the modules that
+run walkthroughs and plant faults. The last line is `N passed, M failed`.
 """
 
-import json
 import os
 import pwd
 import shlex
@@ -14,16 +13,14 @@ import signal
 import subprocess
 import sys
 import time
-from collections.abc import Callable, Iterable
+from collections.abc import Iterable
 from pathlib import Path
 
 from documents import walkthroughs
+from trying.faults import try_faults
+from trying.machine import ENVIRONMENT, SECONDS, SERVER, USER, Counts, Following, Wrong, run
 
 HERE = Path(__file__).resolve().parent
-USER = "newcomer"
-SERVER = Path("/tmp/server")
-ENVIRONMENT = {**os.environ, "PGHOST": str(SERVER), "DEBIAN_FRONTEND": "noninteractive"}
-SECONDS = 120.0
 # Debian's packages that the trial needs, each with a command of it.
 NEEDS = {
     "postgresql": "pg_lsclusters",
@@ -36,39 +33,6 @@ UNITS = [
     Path("/usr/lib/systemd/system", it)
     for it in ("pgsub@.service", "pgsub-account@.service", "pgsub-sink@.service")
 ]
-
-
-class Wrong(Exception):
-    """Something isn't as it should be."""
-
-
-class Counts:
-    passed = failed = 0
-
-    def note(self, what: str, wrong: list[str]) -> None:
-        self.passed += not wrong
-        self.failed += bool(wrong)
-        print("FAILED" if wrong else "ok", what, *wrong, sep="\n  " if wrong else " ", flush=True)
-
-    def tried(self, what: str, call: Callable[[], None]) -> None:
-        try:
-            call()
-            self.note(what, [])
-        except (Wrong, OSError, ValueError, subprocess.SubprocessError) as wrong:
-            self.note(what, [f"{type(wrong).__name__}: {wrong}"])
-
-
-def run(*words: str, user: str = "root", **more: str) -> str:
-    """Runs a command as a user, and returns what it prints."""
-    before = [] if user == "root" else ["runuser", "-u", user, "--"]
-    ran = subprocess.run(
-        [*before, *words], capture_output=True, text=True, env={**ENVIRONMENT, **more}, cwd="/tmp"
-    )
-    if ran.returncode:
-        raise Wrong(
-            f"{' '.join(words)}: status {ran.returncode}: {ran.stdout[-2000:]} {ran.stderr[-2000:]}"
-        )
-    return ran.stdout.strip()
 
 
 def prepared() -> None:
@@ -153,52 +117,6 @@ def start_server() -> None:
     )
 
 
-class Following:
-    """A follower of README's shop, started again by the new user, with the tables that follow."""
-
-    def __init__(self, folder: Path) -> None:
-        self.folder = folder
-        self.log = folder / "follower.log"
-        with open(self.log, "a") as log:
-            words = [
-                "runuser",
-                "-u",
-                USER,
-                "--",
-                "pgsub-connect",
-                "follow",
-                "--dsn",
-                "dbname=shop",
-                "--store",
-                "copy.db",
-            ]
-            words += ["--tables", "rows.db", "--status-file", "status.json"]
-            self.process = subprocess.Popen(
-                words, cwd=folder, env={**ENVIRONMENT, "HOME": f"/home/{USER}"}, stderr=log
-            )
-
-    def wait_for(self, state: str) -> dict[str, object]:
-        until = time.monotonic() + SECONDS
-        while time.monotonic() < until and self.process.poll() is None:
-            try:
-                found: dict[str, object] = json.loads((self.folder / "status.json").read_text())
-            except (OSError, ValueError):
-                found = {}
-            if found.get("state") == state:
-                return found
-            time.sleep(0.2)
-        raise Wrong(f"the follower isn't {state}: {self.log.read_text()[-2000:]}")
-
-    def stop(self) -> None:
-        pids = run("pgrep", "-u", USER, "-f", "pgsub-connect follow").split()
-        for it in pids:
-            os.kill(int(it), signal.SIGTERM)
-        if self.process.wait(SECONDS):
-            raise Wrong(
-                f"the follower ended with status {self.process.returncode}: {self.log.read_text()[-2000:]}"
-            )
-
-
 def rows(folder: Path) -> dict[str, str]:
     """The rows of the server's table, those of an export, and those of the tables that follow."""
     query = "SELECT sku, quantity FROM stock ORDER BY 1"
@@ -252,7 +170,7 @@ def upgrade(counts: Counts, folder: Path) -> None:
             os.kill(int(it), signal.SIGKILL)
         status = following.process.wait(SECONDS)
         if status != 7 or "install both from one package" not in following.log.read_text():
-            raise Wrong(f"status {status}: {following.log.read_text()[-2000:]}")
+            raise Wrong(f"status {status}: {following.said()}")
 
     counts.tried("the old connector doesn't start the new program", refuse)
     run("psql", "-q", "-c", insert, "shop", user=USER)
@@ -350,6 +268,7 @@ def main() -> int:
     run("mkdir", str(folder), user=USER)
     walk(counts, "server", USER, folder)
     upgrade(counts, folder)
+    try_faults(counts, Path(f"/home/{USER}/faults"))
     counts.tried("the tar file", unpack_tar)
     counts.tried("removed", removed)
     counts.tried("purged", purged)

@@ -108,7 +108,8 @@ def try_packages(build: Build, out: Path, room: Path, suites: Sequence[str]) -> 
         shutil.copy(folder / f"pgsub_{version}_amd64.deb", trial / name)
     shutil.copy(out / f"pgsub-{build.version}-x86_64.tar.gz", trial)
     shutil.copy(TOP / "README.md", trial)
-    shutil.copytree(TOP / "tools/documents", trial / "documents")
+    for package in ("documents", "trying"):
+        shutil.copytree(TOP / "tools" / package, trial / package)
     shutil.copy(TOP / "tools/packages/inside.py", trial)
     if not suites:
         return run_trial(Path("/"), hidden(), trial, room / "mounted")

@@ -10,7 +10,7 @@ from pathlib import Path
 from .definitions import TOKEN, Module, Name, Statement, named_by, names_of, note_import
 
 # the files of proofs that hold worked cases
-FILES = re.compile(r"(?:Rows|Samples|Live\w*)$")
+FILES = re.compile(r"(?:Rows|Samples|Live\w*|Life\w+)$")
 HEAD = re.compile(r"^(?:pub )?([^\s:=]+) : ")
 
 

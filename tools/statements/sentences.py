@@ -25,7 +25,7 @@ SECTIONS = (
     ("docs/PROOFS.md", "Following a live server", "pgfollow"),
     ("docs/PROOFS.md", "A run over files", "pgruns"),
     ("docs/PROOFS.md", "What each crate promises", ""),
-    ("docs/FEED.md", "What is proved", "pgfeed"),
+    ("docs/PROOFS.md", "A feed", "pgfeed"),
 )
 CRATE_ITEM = re.compile(r"^- `(\w+)`")
 SENTENCE = re.compile(r"(?<=[.:;])\s+(?=[A-Z`|>])")

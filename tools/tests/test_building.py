@@ -74,6 +74,17 @@ class Case(unittest.TestCase):
             "mid is proved, 2 of 3 crates, about 10 min left",
         )
 
+    def test_what_a_crate_stands_on_is_there_before_it(self) -> None:
+        build = Building(CRATES, COSTS, 0.0)
+        self.assertEqual(build.note("rt: chose --jobs 1 for pgsub", 1.0), "")
+        for line, told in (("", "0"), ("so far: 7 of 53 functions checked; the", "7 of 53")):
+            build.note(line, 2.0)
+            self.assertEqual(
+                build.waiting(61.0),
+                f"{told} functions of pgsub are proved, 2 of 3 crates,"
+                " about 10 min of a processor left, as it was measured",
+            )
+
     def test_minutes(self) -> None:
         self.assertEqual(
             [minutes(it) for it in (59, 60, 3599)],

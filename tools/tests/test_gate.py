@@ -68,6 +68,24 @@ class Moves(unittest.TestCase):
         )
         self.assertEqual(self.files(), before)
 
+    def test_what_failed_is_told_once_more_at_the_end(self) -> None:
+        several = "".join(f"echo row {it} is right\n" for it in range(500))
+        (self.top / "tools/mutants").write_text(
+            f"#!/bin/sh\necho commands FAILED\n{several}echo 3 passed, 1 failed\nexit 1\n"
+        )
+        environment = {**os.environ, "RT_JOBS": "2"}
+        ran = subprocess.run(
+            [self.top / "tools/gate", "--proofs"], capture_output=True, text=True, env=environment
+        )
+        self.assertEqual(
+            ran.stdout.splitlines()[-3:],
+            [
+                "gate: tools/mutants --gate --prove --jobs 2 failed: 3 passed, 1 failed",
+                "commands FAILED",
+                "3 passed, 1 failed",
+            ],
+        )
+
     def test_what_a_killed_gate_left_joins_what_is_there(self) -> None:
         self.write("pgone/mutants/must-fail/first.edit")
         self.write("pgone/mutants/must-fail/second.edit")

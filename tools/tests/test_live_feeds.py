@@ -20,8 +20,11 @@ try:
         Images,
         Reader,
         Tables,
+        Unlike,
         compare_file,
         definition_of,
+        digests_of_replay,
+        explained,
         has,
         held,
         kind_of,
@@ -163,11 +166,36 @@ class OfTables(unittest.TestCase):
         state.change({"op": "c", "oid": 1, "before": None, "after": ["1", b]})
         return state
 
+    def test_where_a_feed_leads_to_what_was_seen(self) -> None:
+        feed = self.path.parent / "feed"
+        feed.mkdir()
+        definition = self.replayed("1").definitions[1]
+        text = json.dumps({"base": "0/100"}).ljust(1023) + "\n"
+        for at, b in ((0x200, "2"), (0x300, "3")):
+            change = {"op": "c", "oid": 1, "n": 0, "before": None, "after": ["1", b]}
+            lines = "".join(json.dumps(it) + "\n" for it in ({"op": "table", **definition}, change))
+            commit = {"end": f"0/{at:X}", "prev": f"0/{at - 0x100:X}", "changes": 1}
+            text += json.dumps({**commit, "bytes": len(lines)}).ljust(255) + "\n" + lines
+        (feed / f"{0x100:016X}").write_text(text)
+        seen = self.replayed("1")
+        seen.change({"op": "c", "oid": 1, "before": None, "after": ["1", "2"]})
+        found = digests_of_replay(seen)
+        nothing: dict[tuple[str, str], tuple[int, int]] = {}
+        for wanted, told in (
+            (found, "public.t after 200 to 200"),
+            (nothing, "public.t after no commit"),
+        ):
+            unlike = Unlike(0x300, wanted, {("public", "t"): (9, 9)})
+            self.assertIn(told, explained(feed, self.replayed("1"), unlike))
+
     def test_what_a_reader_sees(self) -> None:
         reader = Reader(self.path)
         reader.read()
         reader.check(self.replayed("-0"))
-        with self.assertRaisesRegex(Failed, "at 100 a reader saw other rows of public.t"):
+        told = (
+            r"at 100 a reader saw other rows of public.t \(1, where it leads to 1\) than the feed"
+        )
+        with self.assertRaisesRegex(Failed, told):
             reader.check(self.replayed("2"))
         self.put("0/100", 1, 5.0)
         reader.read()

@@ -105,7 +105,22 @@ class Case(unittest.TestCase):
             text=True,
             env={**os.environ, "PGSUB_SINK": "unix:///no/socket"},
         )
-        self.assertEqual((words[-1], ran.returncode), ("$OPTIONS", 7), ran.stderr)
+        # (a follower that is started later makes it: this is started again then)
+        restarts = [str(ran.returncode)]
+        self.assertEqual((words[-1], sink["RestartForceExitStatus"]), ("$OPTIONS", restarts))
+        self.assertIn("there is no feed /var/lib/pgsub/shop/copy.db.feed", ran.stderr)
+
+    def test_a_sink_of_a_folder_that_is_no_feed_stays_ended(self) -> None:
+        """One that isn't there yet is looked for every ten seconds."""
+        sink = settings_of((TOP / "connect" / UNITS[2]).read_text())
+        self.assertEqual((sink["Restart"], sink["RestartSec"]), (["on-abnormal"], ["10"]))
+        (self.room / "file").write_text("")
+        words = ["sink", "redis://127.0.0.1:1", "--feed", f"{self.room}/file"]
+        ran = subprocess.run(
+            [TOP / "connect/pgsub-connect", *words], capture_output=True, text=True, timeout=60
+        )
+        self.assertEqual(ran.returncode, 3, ran.stderr)
+        self.assertNotIn("3", sink["RestartForceExitStatus"])
 
     def test_a_filter_of_calls(self) -> None:
         """Lines allow one after the other, and take away."""

@@ -117,12 +117,13 @@ def moving(place: Place, *more: str) -> Iterator[Child]:
 
 
 @contextlib.contextmanager
-def changing(place: Place, seed: str, *more: str) -> Iterator[Child]:
-    """A follower, while changes of every kind are made. At the end it has caught up."""
+def changing(place: Place, seed: str, *more: str, pause: float = 0.05) -> Iterator[Child]:
+    """A follower, while changes of every kind are made, by three workers that rest for so many
+    seconds on average. At the end it has caught up."""
     place.run(*SCHEMA, "CREATE PUBLICATION pgsub FOR ALL TABLES")
     child = place.start("--create", *more)
     place.catch_up(child)
-    workers = [Worker(place.cluster, f"{seed} {it}", 0.05) for it in range(3)]
+    workers = [Worker(place.cluster, f"{seed} {it}", pause) for it in range(3)]
     for it in workers:
         it.start()
     try:

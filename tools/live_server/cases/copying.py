@@ -14,8 +14,9 @@ from ..errors import Failed
 from ..feeds import compare_tables, reading
 from ..follower import children_of, is_adding, kill_all, wait_until
 from ..place import SERVER, Place
+from .basing import equal
 from .case import Case
-from .common import now_in_tables, rows_file
+from .common import feed_of, now_in_tables, rows_file
 
 
 def added(place: Place, child: Child) -> None:
@@ -116,7 +117,7 @@ def locks_are_short(place: Place) -> None:
 
 def cut(place: Place) -> None:
     """A copy of ten tables is killed: those that were stored whole follow, and the others are added
-    one by one."""
+    one by one. The feed has them all, by first rows of the former."""
     tables = [f"part{it}" for it in range(10)]
     for it in tables:
         place.run(
@@ -131,7 +132,8 @@ def cut(place: Place) -> None:
             child.kill()
 
     proxy.before("COPY (", hold, 10)
-    child = place.start("--create", "--all-tables", dsn=place.dsn(proxy.folder))
+    words = "--create", "--all-tables", "--feed", str(feed_of(place))
+    child = place.start(*words, dsn=place.dsn(proxy.folder))
     wait_until(lambda: not child.is_running(), "the kill", 60)
     for it in tables:
         place.run(
@@ -139,9 +141,11 @@ def cut(place: Place) -> None:
             f"DELETE FROM {it} WHERE id < 10",
             f"INSERT INTO {it} VALUES (0, NULL)",
         )
-    child = place.start("--create", "--all-tables")
-    child.wait_for("of an interrupted copy are kept")
+    child = place.start()
+    child.wait_for("an interrupted copy goes on")
+    child.wait_for("its first rows are read from")
     added(place, child)
+    equal(place)
     if place.value("SELECT count(*) FROM pg_replication_slots") != "1":
         raise Failed("a slot is left")
 

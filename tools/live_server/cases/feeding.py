@@ -72,6 +72,10 @@ def one_command(place: Place) -> None:
         place.change()
         now_in_tables(place)
         equal_tables(place)
+    # (readers are looked at now and then)
+    wait_until(
+        lambda: bool(place.status(status).get("readers")), "looking at readers", 20, child.check
+    )
     found = place.status(status)
     if found["readers"]["tables"]["lag_bytes"] < 0 or found["feed_bytes"] < 1024:
         raise Failed(f"the status says {found}")
@@ -94,6 +98,16 @@ def until_now(place: Place) -> None:
     place.change()
     place.ends(OK, "", "--tables", str(rows_file(place)), "--until", "now")
     equal_tables(place)
+
+
+def waited_from_the_start(place: Place) -> None:
+    """Who waits for tables at the moment of a start waits until they are made."""
+    place.stock()
+    lsn = place.value("SELECT pg_current_wal_insert_lsn()")
+    child = place.start("--create", "--tables", str(rows_file(place)))
+    wait(place, lsn)
+    equal_tables(place)
+    child.stop()
 
 
 def refused(place: Place) -> None:
@@ -408,6 +422,7 @@ def old_segments_go(place: Place) -> None:
 CASES = (
     Case("feed-one-command", one_command),
     Case("feed-until-now", until_now),
+    Case("feed-waited-from-the-start", waited_from_the_start),
     Case("feed-refused", refused),
     Case("feed-older-store", older_store),
     Case("feed-of-every-change", every_change),

@@ -113,6 +113,35 @@ def while_away(place: Place) -> None:
         raise Failed("it goes on with it")
 
 
+def labels_within(place: Place) -> None:
+    """A label that was renamed is mended where it is within an array, a domain, a range or a
+    composite type, and nothing is done about one that was added."""
+    place.run(
+        "CREATE TYPE tone AS ENUM ('sad', 'ok')",
+        "CREATE DOMAIN moods AS tone[]",
+        "CREATE TYPE span AS RANGE (subtype = tone)",
+        "CREATE TYPE pair AS (a int, b moods)",
+    )
+    types = ("tone[]", "moods", "span", "pair", "int[]")
+    values = ("{sad}", "{sad}", "[sad,sad]", '(1,"{sad,ok}")', "{1}")
+    for at, (kind, value) in enumerate(zip(types, values)):
+        place.run(
+            f"CREATE TABLE within{at} (id int PRIMARY KEY, it {kind})",
+            f"INSERT INTO within{at} SELECT it, '{value}' FROM generate_series(1, 20) it",
+        )
+    child = begin(place)
+    place.run("ALTER TYPE tone ADD VALUE 'fine'", "INSERT INTO within0 VALUES (30, '{fine}')")
+    place.catch_up(child)
+    child.stop()
+    place.run("ALTER TYPE tone RENAME VALUE 'sad' TO 'blue'")
+    child = place.start()
+    child.wait_for("4 tables altered, copied anew beside what is followed")
+    healed(place, child)
+    verify(place)
+    if ends_well(place, child).count(DONE) != 1 or "within4" in child.said():
+        raise Failed(f"other tables are copied anew too: {child.said()}")
+
+
 def not_done(place: Place) -> None:
     """A label that was added, and a column that is null in the rows that are there, make nothing
     wrong: nothing is copied, nothing is told."""
@@ -241,6 +270,7 @@ def under_load(place: Place) -> None:
 CASES = (
     Case("altered-while-followed", while_followed),
     Case("altered-while-away", while_away),
+    Case("altered-within-other-types", labels_within),
     Case("altered-and-right", not_done),
     Case("altered-above-the-limit", above_the_limit),
     Case("altered-and-told", told_alone),

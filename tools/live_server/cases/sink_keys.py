@@ -267,8 +267,31 @@ def documents(place: Place) -> None:
     child.stop()
 
 
+def dropped_just_now(place: Place) -> None:
+    """Of a commit after its table's key was dropped no line is written by that key, however soon it
+    comes."""
+    place.run(*STOCK)
+    child = start(place)
+    following = place.started(Search(place).words("--follow"))
+    place.run("INSERT INTO stock VALUES (5000, 'x')")
+    following.wait_for('"_id":"5000"')
+    place.run(
+        "ALTER TABLE stock DROP CONSTRAINT stock_pkey",
+        "INSERT INTO stock VALUES (6000, 'a')",
+        "INSERT INTO stock VALUES (6000, 'b')",
+    )
+    following.wait_for(
+        "it has the key none, and had id, so documents of the index stock may be wrong"
+    )
+    following.stop()
+    if '"_id":"6000"' in following.said():
+        raise Failed(f"rows are documents without a key: {following.said()}")
+    child.stop()
+
+
 CASES = (
     Case("sinks-keys-of-another-identity", hashes),
     Case("sinks-keys-that-are-altered", other_keys),
     Case("sinks-documents-by-primary-key", documents),
+    Case("sinks-key-dropped-just-now", dropped_just_now),
 )

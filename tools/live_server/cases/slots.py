@@ -203,7 +203,7 @@ def renamed_database(place: Place) -> None:
     place.equal()
     rename = "ALTER DATABASE store RENAME TO third"
     place.cluster.run(rename, "CREATE DATABASE store", database="postgres")
-    place.ends(UNFIT, "and not slot pgsub of store", seconds=30)
+    place.ends(UNFIT, "the database store, and this is a later one", seconds=30)
     place.database = "third"
     place.subcommand("drop", "--dsn", place.dsn(), "--store", str(place.store), "--yes")
     if place.value("SELECT count(*) FROM pg_replication_slots") != "0":

@@ -199,12 +199,13 @@ def others(place: Place) -> None:
     """Rejects another database, and a slot of another plugin."""
     place.stock()
     place.follow("--create")
-    place.ends(UNFIT, "the store follows slot", dsn=place.cluster.dsn("postgres"))
+    told = "and this is postgres: name that one by --dsn"
+    place.ends(UNFIT, told, dsn=place.cluster.dsn("postgres"))
     place.run(
         f"SELECT pg_drop_replication_slot('{place.slot}')",
         f"SELECT pg_create_logical_replication_slot('{place.slot}', 'test_decoding')",
     )
-    place.ends(UNFIT, "is not one of pgoutput")
+    place.ends(UNFIT, "is of the plugin test_decoding, and not one of pgoutput")
 
 
 def not_there(place: Place) -> None:

@@ -1,0 +1,60 @@
+#!/usr/bin/python3
+"""Keeps a feed's rows by the files that docs/FORMATS.md tells. Where it ends: start it again."""
+import json, os, pickle, sys, time, zlib
+
+feed, path = sys.argv[1:]
+at, tables, rows = pickle.load(open(path, "rb")) if os.path.exists(path) else (None, {}, {})
+segment, offset = "", 0
+
+def number(lsn):
+    return int("".join(it.zfill(8) for it in lsn.strip().split("/")), 16)
+
+def count(oid, cells, by, is_repair):
+    row, keys = dict(zip([it[0] for it in tables[oid]["columns"]], cells)), tables[oid]["key"]
+    key = json.dumps([row[it] for it in keys or row])
+    copies = rows[oid].pop(key, (row, 0))[1] + by
+    copies = max(by, 0) if is_repair and keys else copies  # (its `before` may never have been here)
+    rows[oid] |= {key: (row, copies)} if copies else {}
+
+def keep(lsn, lines, is_repair=False):
+    for it in map(json.loads, lines):
+        if isinstance(it, list):  # a row of the first copy, of the definition before it
+            it = {"op": "r", "oid": oid, "after": it}
+        oid = it["oid"]
+        if it["op"] == "table" and it != tables.get(oid):  # columns keep their values by name
+            tables[oid], before, rows[oid] = it, rows.get(oid, {}), {}
+            for row, copies in before.values():
+                count(oid, [row.get(name) for name, *_ in it["columns"]], copies, False)
+        if it["op"] == "t":
+            rows[oid] = {}
+        for row, by in ((it.get("before"), -1), (it.get("after"), 1)):
+            if row is not None:
+                count(oid, row, by, is_repair)
+    with open(path + ".new", "wb") as file:
+        pickle.dump((number(lsn), tables, rows), file)
+        os.fsync(file.flush() or file.fileno())
+    os.replace(path + ".new", path)
+    return number(lsn)
+
+def first_rows(file=1):
+    head, *lines = open(f"{feed}/base/{file:08}", "rb").read().splitlines(True)
+    told = json.loads(head)
+    assert zlib.crc32(b"".join(lines)) == int(told["crc"], 16), "a file of first rows is spoiled"
+    return told["lsn"], lines + ([] if told["last"] else first_rows(file + 1)[1])
+
+while True:
+    confirmed = open(f"{feed}/confirmed").read() if os.path.exists(f"{feed}/confirmed") else "0/0"
+    at = at or (keep(*first_rows()) if os.path.exists(f"{feed}/base") else 0)
+    name = max(it for it in os.listdir(feed) if len(it) == 16 and int(it, 16) <= at)
+    segment, offset = name, 1024 if name != segment else offset
+    with open(f"{feed}/{name}", "rb") as file:
+        line = file.read(256) if file.seek(offset) else b""
+        told = json.loads(line) if len(line) == 256 and line.strip(b"\0") else {}
+        text = file.read(told.get("bytes", 0))
+    end, is_repair = number(told.get("end", "0/0")), told.get("xid") == 2
+    if not end or len(text) < told["bytes"] or is_repair and number(confirmed) < end:
+        time.sleep(0.02)
+        continue
+    offset += 256 + len(text)
+    assert end <= at or number(told["prev"]) == at, "the feed lacks commits: begin anew"
+    at = keep(told["end"], text.splitlines(), is_repair) if end > at else at
