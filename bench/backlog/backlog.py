@@ -2,10 +2,10 @@
 after the other in each turn.
 
 The backlog is of pgbench's own script, at tables of pgbench's that have their rows in each copy
-from the start, or of inserts. Time counts from when the server's process that sends has begun until
-the follower has told that all is applied, and that all is on its disk. A subscription with
-synchronous_commit = off, the default, tells the second some time after the first. At the end of
-each run the rows are compared with the server's.
+from the start, or of inserts. Time counts from the follower's start until it has told that all is
+applied, and that all is on its disk. A subscription with synchronous_commit = off, the default,
+tells the second some time after the first. At the end of each run the rows are compared with the
+server's.
 """
 
 from __future__ import annotations
@@ -13,14 +13,12 @@ from __future__ import annotations
 import argparse
 import statistics
 import sys
-import time
-from dataclasses import dataclass
 from typing import Protocol
 
 from following import Follower, Program, Servers, Subscription, parser_of, plain_table, started
 from live_server.cluster import Cluster
 from live_server.pgbench import place
-from processor import processor_seconds
+from taking import Run, measured, processor_text, ratios
 
 CLIENTS = 4
 
@@ -90,37 +88,6 @@ class Inserts:
         return transactions
 
 
-@dataclass
-class Run:
-    """Seconds until a follower had applied all, until all was on its disk, and of a processor by
-    process until the first."""
-
-    applied: float
-    durable: float
-    processor: dict[str, float]
-
-
-def processors(pids: dict[str, int]) -> dict[str, float]:
-    return {part: processor_seconds(pid) for part, pid in pids.items()}
-
-
-def measured(servers: Servers, follower: Follower, end: str) -> Run:
-    """Lets a follower take what is in its slot."""
-    servers.rest()
-    follower.start()
-    began = time.monotonic()
-    pids = {**follower.processes(), "walsender": servers.sender(follower.slot) or 0}
-    before = processors(pids)
-    servers.wait_for(follower, "replay_lsn", end)
-    applied = time.monotonic() - began
-    after = processors(pids)
-    servers.wait_for(follower, "flush_lsn", end)
-    durable = time.monotonic() - began
-    follower.stop()
-    servers.compare(follower)
-    return Run(applied, durable, {part: after[part] - before[part] for part in pids})
-
-
 def followers(servers: Servers, turn: int) -> list[Follower]:
     return [
         Subscription(servers, f"default_{turn}", synchronous=False),
@@ -131,19 +98,12 @@ def followers(servers: Servers, turn: int) -> list[Follower]:
 
 
 HEAD = """\
-Seconds from the start of the stream until the server has been told that all is applied, and that all is on the follower's disk;
-transactions a second by the first; seconds of a processor until then, of what applies (the subscription's worker, the program), of the
-connector, and of the server's process that sends. Medians; the ratios of two rates are of the same turn, and their median stands first.
+Seconds from the follower's start until the server has been told that all is applied, and that all is on the follower's disk;
+transactions a second by the first; seconds of a processor of the stream until then, of what applies (the subscription's worker, the program),
+of the connector, and of the server's process that sends. Medians; the ratios of two rates are of the same turn, and their median stands first.
 
 | Follower | s, applied | s, on the disk | transactions/s | in each turn | of the default subscription's | of the synchronous one's | cpu s: applies | connector | sends |
 |---|---|---|---|---|---|---|---|---|---|"""
-
-
-def ratios(runs: list[Run], others: list[Run]) -> str:
-    """How many times the rate of another follower's one has, turn by turn: what else the machine
-    does differs less within a turn."""
-    found = [other.applied / it.applied for it, other in zip(runs, others)]
-    return f"{statistics.median(found):.2f}: {', '.join(f'{it:.2f}' for it in found)}"
 
 
 def line(runs: list[Run], transactions: int, subscriptions: list[list[Run]]) -> str:
@@ -153,13 +113,8 @@ def line(runs: list[Run], transactions: int, subscriptions: list[list[Run]]) -> 
     turns = ", ".join(f"{transactions / it.applied:,.0f}" for it in runs)
     beside = " | ".join(ratios(runs, it) for it in subscriptions)
 
-    def processor(*parts: str) -> str:
-        found = [sum(it.processor.get(part, 0) for part in parts) for it in runs]
-        return f"{statistics.median(found):.2f}" if any(found) else ""
-
-    processor_of = (
-        f"{processor('worker', 'filter')} | {processor('connector')} | {processor('walsender')}"
-    )
+    parts = (("worker", "filter"), ("connector",), ("walsender",))
+    processor_of = " | ".join(processor_text(runs, *it) for it in parts)
     return f"{applied:.2f} | {durable:.2f} | {transactions / applied:,.0f} | {turns} | {beside} | {processor_of}"
 
 
