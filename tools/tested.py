@@ -1,4 +1,8 @@
-"""Runs unit tests by pytest, and counts them."""
+"""Runs unit tests by pytest, and counts them.
+
+A test that fails beside others is run again, alone: where it passes five times in a row, the machine
+was too busy for it. That is told in a line `UNSTEADY ..`, since such a test is to be mended.
+"""
 
 from __future__ import annotations
 
@@ -7,26 +11,76 @@ import subprocess
 import sys
 import tempfile
 from collections.abc import Iterator
+from dataclasses import dataclass
 from pathlib import Path
 from xml.etree import ElementTree
 
 WRONG = ("failure", "error", "skipped")
+# How many failures at most are looked at again, and how often each.
+FEW, AGAIN = 3, 5
+PYTEST = (sys.executable, "-m", "pytest", "-q", "-p", "no:cacheprovider")
 
 
-def found_wrong(case: ElementTree.Element) -> Iterator[str]:
+@dataclass(frozen=True)
+class Wrong:
+    """What is wrong with a test: its module and class, its name, and whether it was left out."""
+
+    where: str
+    name: str
+    kind: str
+    text: str
+
+    def __str__(self) -> str:
+        return f"{self.where}.{self.name}: {self.kind}: {self.text}"
+
+    def place(self, folder: Path) -> str:
+        """How pytest names the test, "" where that can't be told."""
+        parts = [it for it in self.where.split(".") if it]
+        for at in range(len(parts), 0, -1):
+            file = Path(*parts[:at]).with_suffix(".py")
+            if (folder / file).is_file():
+                return "::".join([str(file), *parts[at:], self.name])
+        return ""
+
+
+def found_wrong(case: ElementTree.Element) -> Iterator[Wrong]:
     """What is wrong with a test. What a test needs is what the gate needs: one that is skipped
     checks nothing."""
     for kind in WRONG:
         for it in case.findall(kind):
             text = (it.text or it.get("message") or "").strip()
-            yield f"{case.get('classname')}.{case.get('name')}: {kind}: {text}"
+            yield Wrong(case.get("classname", ""), case.get("name", ""), kind, text)
 
 
-def results_in(report: Path) -> tuple[int, list[str]]:
+def results_in(report: Path) -> tuple[int, list[Wrong]]:
     """How many tests of a report passed, and what is wrong with the others."""
     cases = list(ElementTree.parse(report).iter("testcase"))
     wrong = [list(found_wrong(it)) for it in cases]
-    return sum(not it for it in wrong), [text for it in wrong for text in it]
+    return sum(not it for it in wrong), [found for it in wrong for found in it]
+
+
+def passes_alone(folder: Path, wrong: Wrong, environment: dict[str, str]) -> bool:
+    """Whether a test that failed passes each time where nothing runs beside it."""
+    if wrong.kind == "skipped" or not (place := wrong.place(folder)):
+        return False
+    command = [*PYTEST, place]
+    return all(
+        subprocess.run(command, cwd=folder, env=environment, capture_output=True).returncode == 0
+        for _ in range(AGAIN)
+    )
+
+
+def looked_at_again(
+    folder: Path, wrong: list[Wrong], environment: dict[str, str]
+) -> tuple[int, list[Wrong]]:
+    """How many of a few failures were the machine's, each of which is told, and the others."""
+    steady = [it for it in wrong if len(wrong) > FEW or not passes_alone(folder, it, environment)]
+    for it in wrong:
+        if it not in steady:
+            print(
+                f"UNSTEADY {it.where}.{it.name}: failed once, and passed {AGAIN} times alone: {it.text[-300:]!r}"
+            )
+    return len(wrong) - len(steady), steady
 
 
 def results_of(
@@ -39,16 +93,7 @@ def results_of(
     environment.pop("PYTHONDONTWRITEBYTECODE", None)
     with tempfile.TemporaryDirectory() as room:
         report = Path(room, "report.xml")
-        command = [
-            sys.executable,
-            "-m",
-            "pytest",
-            "-q",
-            "-p",
-            "no:cacheprovider",
-            f"--junitxml={report}",
-        ]
-        command += ["-n", str(jobs)] if jobs > 1 else []
+        command = [*PYTEST, f"--junitxml={report}", *(["-n", str(jobs)] if jobs > 1 else [])]
         ran = subprocess.run(
             [*command, *words, tests], cwd=folder, env=environment, capture_output=True, text=True
         )
@@ -58,8 +103,7 @@ def results_of(
             ]
         passed, wrong = results_in(report)
     # (a worker that died, or tests that can't be read, may be in no report)
-    return passed, wrong or (
-        [f"pytest ended with status {ran.returncode}\n{ran.stdout}{ran.stderr}"]
-        if ran.returncode
-        else []
-    )
+    if ran.returncode and not wrong:
+        return passed, [f"pytest ended with status {ran.returncode}\n{ran.stdout}{ran.stderr}"]
+    unsteady, steady = looked_at_again(folder, wrong, environment)
+    return passed + unsteady, [str(it) for it in steady]

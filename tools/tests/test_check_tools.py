@@ -1,7 +1,11 @@
 """What is counted of the unit tests, those of the tools and those of the connector."""
 
+import contextlib
+import io
+import os
 import tempfile
 import unittest
+import unittest.mock
 from pathlib import Path
 
 from tested import results_of
@@ -28,6 +32,24 @@ class Sample(unittest.TestCase):
 
 def test_alone(tmp_path):
     assert tmp_path.is_dir()
+"""
+
+
+# Fails where it runs first, or is told to fail after so many runs.
+SEEN = """
+import os
+import pathlib
+
+import pytest
+
+
+class TestSeen:
+    @pytest.mark.parametrize("word", ["a", "b"])
+    def test_again(self, word):
+        runs = pathlib.Path(os.environ["RUNS"], word)
+        count = int(runs.read_text()) if runs.exists() else 0
+        runs.write_text(str(count + 1))
+        assert str(count) not in os.environ["WRONG"].split(",")
 """
 
 
@@ -62,6 +84,32 @@ class Counted(unittest.TestCase):
         passed, wrong = self.results("", "import nowhere_to_be_found\n")
         self.assertEqual(passed, 0)
         self.assertIn("nowhere_to_be_found", "".join(wrong))
+
+    def again(self, *runs: int) -> tuple[int, list[str], str]:
+        """What is counted of two tests of which these runs fail, and what is told."""
+        wrong, told = ",".join(map(str, runs)), io.StringIO()
+        with tempfile.TemporaryDirectory() as room, unittest.mock.patch.dict(
+            os.environ, RUNS=room, WRONG=wrong
+        ), unittest.mock.patch("tested.AGAIN", 2), contextlib.redirect_stdout(told):
+            passed, failed = self.results("again", SEEN)
+        return passed, failed, told.getvalue()
+
+    def test_one_that_fails_by_chance_is_told(self) -> None:
+        passed, wrong, told = self.again(0)
+        self.assertEqual((passed, wrong), (2, []))
+        self.assertEqual(told.count("UNSTEADY test_sample.TestSeen.test_again["), 2)
+
+    def test_one_that_fails_now_and_then_is_wrong(self) -> None:
+        for run in (1, 2):
+            with self.subTest(run):
+                passed, wrong, told = self.again(0, run)
+                self.assertEqual((passed, len(wrong), told), (0, 2, ""))
+        self.assertEqual(self.again(), (2, [], ""))
+
+    def test_many_that_fail_are_wrong(self) -> None:
+        with unittest.mock.patch("tested.FEW", 1):
+            passed, wrong, told = self.again(0)
+        self.assertEqual((passed, len(wrong), told), (0, 2, ""))
 
     def test_none(self) -> None:
         passed, wrong = self.results("nothing_is_called_so")
