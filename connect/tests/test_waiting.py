@@ -227,6 +227,15 @@ class Told(FeedCase):
         kept.ask(0x100)
         self.assertEqual(kept.asked, {0x100})
 
+    def test_others_that_are_started_meanwhile_are_asked_too(self) -> None:
+        """As soon as nobody has the lock they may be there in the place of those that were."""
+        kept, lock = self.kept("import time; time.sleep(600)"), mock.MagicMock()
+        self.assertTrue(wait_for(lambda: kept.child is not None))
+        lock.__exit__.side_effect = lambda *_: setattr(kept, "asked", set())
+        with mock.patch.object(kept, "lock", lock):
+            kept.ask(0x100)
+        self.assertEqual(kept.asked, set())
+
     def test_a_pipe_that_is_full(self) -> None:
         """Nobody waits for who doesn't read it."""
         kept = self.kept("import time; time.sleep(60)")
