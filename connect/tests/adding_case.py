@@ -135,9 +135,9 @@ class Run:
 
     def end(self) -> None:
         self.follower.ending.stop_asked = True
-        self.thread.join(20)
+        self.thread.join(60)
 
-    def until(self, holds: Callable[[], bool], seconds: float = 20.0) -> bool:
+    def until(self, holds: Callable[[], bool], seconds: float = 60.0) -> bool:
         """Waits until something holds. Returns false where the run has ended before."""
         until = time.monotonic() + seconds
         while not holds():

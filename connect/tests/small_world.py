@@ -249,7 +249,7 @@ class WorldSource:
         self.is_open = False
 
 
-def wait_for(holds: Callable[[], bool], seconds: float = 20.0) -> bool:
+def wait_for(holds: Callable[[], bool], seconds: float = 60.0) -> bool:
     until = time.monotonic() + seconds
     while not holds():
         if time.monotonic() > until:

@@ -292,7 +292,7 @@ class Altered(Case):
         real = Adder.wants_session
         self.patch(Adder, "wants_session", wants_session)
         self.waits = False
-        run.thread.join(20)
+        run.thread.join(60)
         self.assertEqual(
             (run.raised, run.snapshots.hold.is_held, [oid for oid, _ in self.points]),
             (None, False, [T]),

@@ -97,13 +97,13 @@ class Pipes(Quiet):
         reads, writes = os.pipe()
         self.addCleanup(os.close, reads)
         self.addCleanup(os.close, writes)
-        it, began = Awake(), time.process_time()
+        it, began = Awake(), time.thread_time()
         self.assertEqual(it.select([reads], [], 0.3), ([], []))
         self.assertEqual(it.select([reads], [writes], 0.3), ([], [writes]))
-        self.assertLess(time.process_time() - began, 0.1)
+        self.assertLess(time.thread_time() - began, 0.1)
         thread = threading.Thread(target=os.write, args=(writes, b"x"))
         thread.start()
-        self.assertEqual(it.select([reads], [], 20.0), ([reads], []))
+        self.assertEqual(it.select([reads], [], 60.0), ([reads], []))
         thread.join()
 
 

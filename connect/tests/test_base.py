@@ -563,7 +563,7 @@ class Beside(Case):
     def test_killed(self) -> None:
         self.begin()
         assert self.it.child
-        until = time.monotonic() + 20
+        until = time.monotonic() + 60
         while not os.listdir(self.feed) and time.monotonic() < until:
             time.sleep(0.01)
         self.assertEqual(os.listdir(self.feed), ["base.new"])
@@ -580,13 +580,30 @@ class Beside(Case):
         self.assertEqual(os.listdir(self.feed), [])
 
 
+# Runs an example that has all first rows once this file is there: whoever is to kill it in the midst
+# of them may be late.
+HELD = """
+import os, pickle, runpy, sys, time
+from pgsub_feed import files
+write, path, may = files.replace_file, *sys.argv[1:3]
+def replace_file(name, content, *more):
+    while name == sys.argv[-1] and pickle.loads(content)[0] and not os.path.exists(may):
+        time.sleep(0.01)
+    return write(name, content, *more)
+files.replace_file = replace_file
+sys.argv[:] = [path, *sys.argv[3:]]
+runpy.run_path(path, run_name="__main__")
+"""
+
+
 class Killed(BaseCase):
     """The example of the documents, killed again and again, from the first rows on."""
 
     most = 8000
 
     def start(self) -> subprocess.Popen[bytes]:
-        words = [sys.executable, str(EXAMPLE), str(self.path), str(self.folder / "dict")]
+        words = [sys.executable, "-c", HELD, str(EXAMPLE), str(self.folder / "may")]
+        words += [str(self.path), str(self.folder / "dict")]
         return subprocess.Popen(words, env={**os.environ, "PYTHONPATH": str(CONNECT)})
 
     def kept(self) -> tuple[int, dict[Any, Any]]:
@@ -627,6 +644,7 @@ class Killed(BaseCase):
             self.assertEqual(child.wait(), -signal.SIGKILL)
             self.assertEqual(self.kept()[0], 0)
             child = self.start()
+        (self.folder / "may").touch()
         for number in range(2, 102):
             self.feed.commit(number << 8, list(random_lines(rng, rows)))
             if number % 10 == 0:

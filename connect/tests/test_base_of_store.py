@@ -216,7 +216,7 @@ class Beside(BesideCase):
         child.send_signal(signal.SIGSTOP)
         child.stdin.close()
         child.send_signal(signal.SIGCONT)
-        self.assertEqual((child.wait(20), os.listdir(self.feed)), (7, []))
+        self.assertEqual((child.wait(60), os.listdir(self.feed)), (7, []))
 
 
 class Followed(BesideCase):

@@ -849,7 +849,7 @@ class Kept(Copying):
 
         def copied(_: str) -> list[Row]:
             if left:
-                until = time.monotonic() + 20
+                until = time.monotonic() + 60
                 while not Remembered(self.store).copied and time.monotonic() < until:
                     time.sleep(0.001)
                 raise left.pop()

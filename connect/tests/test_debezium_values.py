@@ -22,6 +22,8 @@ from pgsub_feed.tables.floats import printed_float
 
 from connect_schemas import Invalid, check_schema, check_value, checked
 
+from .drawn import ANY
+
 DEFAULTS = read_settings(())
 NUMERIC, MONEY, BIT, VARBIT, TIME, TIMESTAMP, INTERVAL = 1700, 790, 1560, 1562, 1083, 1114, 1186
 MODIFIER_10_2, MODIFIER_3_MINUS_2 = ((10 << 16) | 2) + 4, ((3 << 16) | (-2 & 0x7FF)) + 4
@@ -204,10 +206,12 @@ class Values(unittest.TestCase):
             kind_of(VARBIT, -1, DEFAULTS).schema["parameters"], {"length": "2147483647"}
         )
 
+    @ANY
     @given(drawn.integers(-5000000 * 365, 5000000 * 365))
     def test_days(self, days: int) -> None:
         self.assertEqual(days_of(*date_of(days)), days)
 
+    @ANY
     @given(drawn.datetimes())
     def test_moments(self, moment: datetime.datetime) -> None:
         text = str(moment)
@@ -219,12 +223,14 @@ class Values(unittest.TestCase):
             moment.replace(tzinfo=datetime.timezone.utc),
         )
 
+    @ANY
     @given(drawn.integers())
     def test_whole_numbers(self, number: int) -> None:
         found = base64.b64decode(integer_bytes(number))
         self.assertEqual(int.from_bytes(found, "big", signed=True), number)
         self.assertFalse(len(found) > 1 and found[0] in (0, 255) and found[0] >> 7 == found[1] >> 7)
 
+    @ANY
     @given(drawn.decimals(allow_nan=False, allow_infinity=False))
     def test_decimals(self, number: Decimal) -> None:
         text = f"{number:f}"
@@ -235,6 +241,7 @@ class Values(unittest.TestCase):
     def test_a_large_decimal(self) -> None:
         self.assertEqual(unscaled(Decimal("9" * 131072 + "." + "9" * 16383), 16383) % 1000, 999)
 
+    @ANY
     @given(drawn.lists(drawn.none() | drawn.text()))
     def test_arrays(self, elements: list[str | None]) -> None:
         quoted = [
@@ -243,6 +250,7 @@ class Values(unittest.TestCase):
         ]
         self.assertEqual(read_elements("{" + ",".join(quoted) + "}"), elements)
 
+    @ANY
     @given(drawn.floats(width=32))
     def test_short_floats(self, number: float) -> None:
         text = "NaN" if number != number else printed_float(number, True)

@@ -89,7 +89,7 @@ class Reads(ExampleCase):
 
     def test_what_isnt_there_yet(self) -> None:
         self.feed.path.unlink()
-        self.assertNotEqual(self.start().wait(20), 0)
+        self.assertNotEqual(self.start().wait(60), 0)
         self.feed = type(self.feed)(self.path, 0)
         self.feed.commit(0x200, [insert("1", "a")])
         text = self.feed.text(0x300, [insert("2", "b")])
@@ -106,8 +106,10 @@ class Reads(ExampleCase):
     def test_a_repair_that_isnt_confirmed(self) -> None:
         make_base(self.path, P, [STOCK], [])
         self.feed.commit(0x200, [insert("1", "a")], About(0x1FF, 2, 0))
-        child = self.start()
-        time.sleep(1)
+        child, until = self.start(), time.monotonic() + 60
+        while not self.kept()[0] and time.monotonic() < until:
+            time.sleep(0.02)
+        time.sleep(0.5)
         self.assertEqual(self.kept(), (P, {STOCK.oid: []}))
         self.feed.confirm(0x200)
         self.wait(child)
@@ -116,7 +118,7 @@ class Reads(ExampleCase):
         make_base(self.path, P, [STOCK], [(STOCK, ("1", "a"))])
         path = self.path / "base/00000001"
         path.write_bytes(path.read_bytes().replace(b'"a"', b'"b"'))
-        self.assertEqual(self.start().wait(20), 1)
+        self.assertEqual(self.start().wait(60), 1)
 
 
 class Killed(ExampleCase):

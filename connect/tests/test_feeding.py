@@ -54,7 +54,7 @@ QUICK = (
 )
 
 
-def wait_until(holds: Callable[[], object], seconds: float = 20.0) -> bool:
+def wait_until(holds: Callable[[], object], seconds: float = 60.0) -> bool:
     until = time.monotonic() + seconds
     while not holds() and time.monotonic() < until:
         time.sleep(0.01)
@@ -722,7 +722,7 @@ class Tables(FeedCase):
         self.feed.commit(0x100, [insert("1", "x")])
         self.feed.path.write_bytes(b"x" * 2000)
         kept = self.kept()
-        kept.join(20)
+        kept.join(60)
         self.assertIn("reading 1 NotAFeed", self.progress.feed.tables_error)
         self.assertEqual(
             status_fields(self.progress, 0.0, 0.0)["tables_error"], self.progress.feed.tables_error

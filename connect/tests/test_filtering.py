@@ -58,7 +58,7 @@ class Case(Quiet):
 
     def end(self, child: Filter) -> FilterEnded:
         """Serves it until it ends."""
-        until = time.monotonic() + 20
+        until = time.monotonic() + 60
         while time.monotonic() < until:
             try:
                 child.serve(0.1)
@@ -177,7 +177,7 @@ class Ends(Case):
         self.assertIn("filter: pgsub: store 1 Clash", self.said)
 
     def test_a_signal_while_it_opens(self) -> None:
-        self.says("slow 30")
+        self.says("slow 600")
         calls: list[int] = []
 
         def check() -> None:
@@ -188,7 +188,7 @@ class Ends(Case):
         child, began = self.filter(), time.monotonic()
         with mock.patch.object(filter_module, "LOOK", 0.02), self.assertRaises(Stopped):
             child.start(check)
-        self.assertLess(time.monotonic() - began, 10.0)
+        self.assertLess(time.monotonic() - began, 60.0)
         self.assertFalse(child.is_running())
 
     def test_no_program(self) -> None:
@@ -222,7 +222,7 @@ class Misses(Case):
 
     def statuses(self, child: Filter) -> list[bytes]:
         """The next statuses that it has."""
-        until = time.monotonic() + 20
+        until = time.monotonic() + 60
         while time.monotonic() < until:
             if statuses := child.serve(0.1)[2]:
                 return statuses
@@ -235,7 +235,7 @@ class Misses(Case):
         child.push_payloads([begin(0x100, 7), delete(3), delete(4), commit(0x100, 0x108)])
         child.input.write()
         # (what it says comes before its status)
-        self.assertTrue(select.select([child.up], [], [], 20.0)[0])
+        self.assertTrue(select.select([child.up], [], [], 60.0)[0])
         with mock.patch("select.select", lambda *_: ([child.up], [], [])):
             self.assertEqual(len(child.serve(1.0)[2]), 1)
         self.assertEqual(child.missing, Missing(2, 0x108, 3))
@@ -345,7 +345,7 @@ class Given(Case):
             f" until [ -e {told} ]; do sleep 0.01; done; exit 1"
         )
         child.start()
-        until = time.monotonic() + 20
+        until = time.monotonic() + 60
         while child.input.takes and time.monotonic() < until:
             child.push_payloads([keepalive(1)] * 10)
         child.push_payloads([keepalive(1)] * 10)
@@ -368,7 +368,7 @@ class Given(Case):
             child.push_payloads(payloads)
         child.end_session()
         child.end_session()
-        until = time.monotonic() + 20
+        until = time.monotonic() + 60
         while child.waiting and time.monotonic() < until:
             child.serve(0.1)
         child.finish()

@@ -189,7 +189,7 @@ class Process(Case):
             writing.start()
             time.sleep(0.3)
             self.it.abandon()
-            writing.join(10)
+            writing.join(60)
             self.assertFalse(writing.is_alive())
             self.assertEqual(self.left(), [])
 
@@ -201,7 +201,7 @@ class Process(Case):
         """The copy goes on without it, and the tables are made from the store."""
         self.begin()
         assert self.it.child
-        until = time.monotonic() + 20
+        until = time.monotonic() + 60
         while not self.left() and time.monotonic() < until:
             time.sleep(0.01)
         self.assertEqual(self.left(), [f"rows.db.pgsub-{self.it.child.pid}"])
@@ -224,7 +224,7 @@ class Process(Case):
         files = [os.path.realpath(it) for it in Path(f"/proc/{child.pid}/fd").iterdir()]
         self.assertIn(os.path.realpath(f"/proc/self/fd/{self.lock}"), files)
         child.stdin.close()
-        self.assertEqual((child.wait(20), self.left()), (7, []))
+        self.assertEqual((child.wait(60), self.left()), (7, []))
 
     def test_no_process_to_be_had(self) -> None:
         with mock.patch("subprocess.Popen", side_effect=BlockingIOError(11, "unavailable")):
@@ -238,16 +238,16 @@ class Process(Case):
 
         def wait() -> None:
             begun.set()
-            ended.wait(10)
+            ended.wait(60)
 
         settings = TablesSettings(self.rows, self.feed, self.store)
         beside = Beside(settings, Progress(), wait=wait)
         with mock.patch.object(Beside, "run_once", return_value=2) as run:
             beside.start()
-            begun.wait(10)
+            begun.wait(60)
             self.assertFalse(run.called)
             ended.set()
-            beside.join(10)
+            beside.join(60)
             self.assertTrue(run.called)
 
 

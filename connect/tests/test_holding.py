@@ -320,10 +320,9 @@ class Requests(StoreCase):
     def test_no_lsn_in_time(self) -> None:
         with self.asked(seconds=0.01) as asker:
             self.snapshots.is_due(0x130)
-            asker.heard()
             time.sleep(0.02)
             self.snapshots.is_due(0x130)
-            self.assertIn("wasn't told in time", asker.error())
+            self.assertIn("wasn't told in time", asker.heard()[-1]["error"])
             self.assertFalse(self.snapshots.hold.stops())
             self.assertFalse(self.snapshots.is_due(0x130))
 

@@ -41,7 +41,7 @@ class Asks(StoreCase):
         for name in ("store.at_rest.LOOK", "copy.source.LOOK", "store.asking.STEP"):
             self.patch(f"pgsub_connect.{name}", 0.005)
         self.ended = threading.Event()
-        self.request = Request(self.path, 5.0, never)
+        self.request = Request(self.path, 60.0, never)
         self.addCleanup(self.request.close)
 
     @contextlib.contextmanager
@@ -92,7 +92,7 @@ class Asks(StoreCase):
                     self.request.tell(0x300)
                 self.request.close()
                 until = threading.Event()
-                for _ in range(1000):
+                for _ in range(12000):
                     if not snapshots.hold.into or until.wait(0.005):
                         break
                 self.assertIsNone(snapshots.hold.into)
@@ -116,7 +116,7 @@ class Asks(StoreCase):
         """Asks a follower that gives these answers, one for each line, and then ends, or not; and
         expects an error."""
         request, requests, over = (
-            Request(self.path, 5.0, check),
+            Request(self.path, 60.0, check),
             RequestSocket(self.path),
             threading.Event(),
         )

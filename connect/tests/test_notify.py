@@ -8,8 +8,7 @@ import socket
 import threading
 import time
 import unittest
-from collections.abc import Callable, Iterator
-from contextlib import contextmanager
+from collections.abc import Callable
 from unittest import mock
 
 from pgsub_connect.errors import ServerError
@@ -17,24 +16,26 @@ from pgsub_connect.follow import filter_life, schedule
 from pgsub_connect.follow.follower import Follower
 from pgsub_connect.status.notify import LONGER, Notifier, notifier_of
 from pgsub_connect.status.progress import ENDING, STATES, Progress
+from pgsub_connect.stream import filter as filter_module
 from pgsub_feed import files
 
 from .test_copying import Copying
 from .test_following import Case
 
-# Within how many seconds a manager wants signs of life, in these tests.
-WITHIN = 2.0
+# How many signs of life are waited for. Each wait is short in these tests, so they come within
+# seconds; where the loop stands still between two of them not all come in the time of a test.
+SIGNS = 100
 ALIVE = ("WATCHDOG=1", f"EXTEND_TIMEOUT_USEC={LONGER * 1000000}")
 
 
 class Manager:
-    """Listens at a socket, and notes when each line has come."""
+    """Listens at a socket, and notes each line."""
 
     def __init__(self, address: str) -> None:
         self.address = address
         self.socket = socket.socket(socket.AF_UNIX, socket.SOCK_DGRAM)
         self.socket.bind("\0" + address[1:] if address.startswith("@") else address)
-        self.told: list[tuple[float, str]] = []
+        self.told: list[str] = []
         self.ended = threading.Event()
         self.thread = threading.Thread(target=self.listen)
         self.thread.start()
@@ -42,9 +43,7 @@ class Manager:
     def listen(self) -> None:
         while not self.ended.is_set() or select.select([self.socket], [], [], 0)[0]:
             if select.select([self.socket], [], [], 0.02)[0]:
-                now = time.monotonic()
-                text = self.socket.recv(1 << 16).decode()
-                self.told += [(now, line) for line in text.split("\n")]
+                self.told += self.socket.recv(1 << 16).decode().split("\n")
 
     def close(self) -> None:
         self.ended.set()
@@ -52,13 +51,24 @@ class Manager:
         self.socket.close()
 
     def lines(self) -> list[str]:
-        return [line for _, line in list(self.told)]
+        return list(self.told)
 
-    def longest_silence(self, began: float, ended: float) -> float:
-        """The longest time without a sign of life between these."""
-        signs = [at for at, line in list(self.told) if line in ALIVE and began <= at <= ended]
-        times = [began, *signs, ended]
-        return max(after - before for before, after in zip(times, times[1:]))
+
+class Signs(Notifier):
+    """Tells at each call that all is well, and notes what was told."""
+
+    def __init__(self, address: str) -> None:
+        super().__init__(address)
+        self.interval = 0.0
+        self.told: list[str] = []
+
+    def beat(self, status: str) -> None:
+        self.told.append(status)
+        super().beat(status)
+
+    def count(self, state: str = "") -> int:
+        """How many there were in a state."""
+        return sum(it.startswith(state) for it in list(self.told))
 
 
 class Lines(unittest.TestCase):
@@ -69,7 +79,7 @@ class Lines(unittest.TestCase):
 
     def test_an_abstract_name_too(self) -> None:
         manager = self.manager(f"@pgsub-test-{os.getpid()}")
-        notifier = Notifier(manager.address, WITHIN)
+        notifier = Notifier(manager.address, 2.0)
         notifier.beat("connecting")
         notifier.ready()
         notifier.ready()
@@ -95,7 +105,7 @@ class Lines(unittest.TestCase):
                 notifier.stopping("stopped")
 
     def test_a_manager_that_is_gone(self) -> None:
-        notifier = Notifier("/nowhere/notify", WITHIN)
+        notifier = Notifier("/nowhere/notify", 2.0)
         notifier.ready()
         notifier.beat("following")
 
@@ -133,29 +143,18 @@ class Following(Case):
 
     def follower(self, **options: object) -> Follower:
         follower = super().follower(**options)
-        self.progress.notifier = Notifier(self.manager.address, WITHIN)
+        self.progress.notifier = self.signs = Signs(self.manager.address)
         return follower
 
-    @contextmanager
-    def watched(self) -> Iterator[None]:
-        """Demands signs of life within half of the time."""
-        began = time.monotonic()
-        yield
-        ended = time.monotonic()
-        self.assertGreater(ended - began, WITHIN / 2)
-        self.assertLess(self.manager.longest_silence(began, ended), WITHIN / 2)
-
-    def follow_for(self, follower: Follower, seconds: float) -> None:
-        until = time.monotonic() + seconds
-        with self.watched():
-            self.run_until(follower, lambda: time.monotonic() > until)
+    def follow(self, follower: Follower, state: str) -> None:
+        """Follows until there were many signs of life in a state."""
+        self.run_until(follower, lambda: self.signs.count(state) >= SIGNS)
 
     def test_ready_comes_after_the_login(self) -> None:
         """A server that doesn't answer yet isn't followed."""
         self.server.lets_in = False
         follower = self.follower()
-        until = time.monotonic() + 1.0
-        self.run_until(follower, lambda: time.monotonic() > until)
+        self.follow(follower, "connecting")
         self.assertNotIn("READY=1", self.manager.lines())
         self.assertIn(ALIVE[1], self.manager.lines())
         self.server.lets_in = True
@@ -166,62 +165,68 @@ class Following(Case):
         self.assertEqual((lines.count("READY=1"), lines.count("STOPPING=1")), (1, 1))
 
     def test_in_the_loop(self) -> None:
-        self.follow_for(self.follower(), WITHIN)
+        self.follow(self.follower(), "following")
+        self.manager.close()
         self.assertIn(ALIVE[0], self.manager.lines())
         self.assertIn("STATUS=following", self.manager.lines())
 
     def test_between_sessions(self) -> None:
-        self.patch(schedule, "FIRST_DELAY", 60.0)
+        self.patch(schedule, "FIRST_DELAY", 600.0)
         follower = self.follower()
         follower.start.note_connected(True)
         error = ServerError("gone", "57P01")
         with mock.patch.object(follower.session, "run", side_effect=error):
-            self.follow_for(follower, WITHIN)
+            self.follow(follower, "waiting to connect again")
+        self.manager.close()
         self.assertIn("STATUS=waiting to connect again", self.manager.lines())
 
     def test_while_the_store_is_opened(self) -> None:
+        self.patch(filter_module, "LOOK", 0.02)
         with open(self.store + ".says", "w", encoding="ascii") as file:
-            file.write("slow 2.0")
-        with self.watched():
-            self.run_until(self.follower(), lambda: self.server.sessions == 1)
+            file.write("slow 600")
+        self.follow(self.follower(), "opening the store")
+        self.manager.close()
         self.assertIn(ALIVE[1], self.manager.lines())
+        self.assertEqual(self.server.sessions, 0)
 
     def test_while_a_store_waits_that_others_have(self) -> None:
         follower = self.follower()
-        self.patch(filter_life, "OPENED_AFTER", (60.0,))
+        self.patch(filter_life, "OPENED_AFTER", (600.0,))
         with open(self.store + ".says", "w", encoding="ascii") as file:
             file.write("status 12 pgsub: the store is in use")
         follower.life.filter.words[0:1] = ["/bin/sh", "-c", "exit 12", "sh"]
-        self.follow_for(follower, WITHIN)
+        self.follow(follower, "opening the store")
 
     def test_while_the_store_is_copied(self) -> None:
-        parts = [1] * 40 + [0]
+        parts = [1] * SIGNS + [0]
 
         def copied(*_: int) -> int:
-            time.sleep(0.05)
+            time.sleep(0.005)
             return parts.pop(0)
 
         self.patch(files, "copied", copied)
         follower = self.follower()
-        with mock.patch.object(follower.snapshots, "finish"), self.watched():
+        with mock.patch.object(follower.snapshots, "finish"):
             follower.snapshots.path, follower.snapshots.asked = self.folder + "/into", True
             self.run_until(follower, lambda: not parts)
+        self.assertGreaterEqual(self.signs.count("copying the store"), SIGNS)
+        self.manager.close()
         self.assertIn("STATUS=copying the store", self.manager.lines())
 
     def test_where_the_loop_stands_nothing_is_told(self) -> None:
         follower = self.follower()
-        stood = list[float]()
+        told = list[int]()
 
         def stands(*_: object) -> bool:
-            if not stood:
-                stood.append(time.monotonic())
-                time.sleep(1.2 * WITHIN)
-                stood.append(time.monotonic())
+            if not told:
+                told.append(self.signs.count())
+                time.sleep(1.0)
+                told.append(self.signs.count())
             return False
 
         self.patch(follower.life.watch, "tend", stands)
-        self.run_until(follower, lambda: len(stood) == 2)
-        self.assertGreater(self.manager.longest_silence(*stood), 1.1 * WITHIN)
+        self.run_until(follower, lambda: len(told) == 2)
+        self.assertEqual(*told)
 
 
 class FirstRows(Copying):
@@ -230,21 +235,27 @@ class FirstRows(Copying):
         manager = Manager(self.folder + "/notify")
         self.addCleanup(manager.close)
         copier = self.copier()
-        self.progress.notifier = Notifier(manager.address, WITHIN)
-        began = time.monotonic()
-        real = copier.sender.wait_for
+        signs = self.progress.notifier = Signs(manager.address)
+        real, waits = copier.sender.wait_for, list[int]()
 
         def wait_for(has_come: Callable[[], bool], *more: int) -> None:
-            until = time.monotonic() + 0.6
-            real(lambda: time.monotonic() > until and has_come(), *more)
+            began, until = signs.count(), time.monotonic() + 60
+
+            def has() -> bool:
+                is_told = signs.count() - began >= SIGNS
+                return (is_told or time.monotonic() > until) and has_come()
+
+            try:
+                real(has, *more)
+            finally:
+                waits.append(signs.count() - began)
 
         with mock.patch.object(copier.sender, "wait_for", wait_for):
             copier.run()
-        ended = time.monotonic()
         manager.close()
         self.assertIn("READY=1", manager.lines())
-        self.assertGreater(ended - began, WITHIN / 2)
-        self.assertLess(manager.longest_silence(began, ended), WITHIN / 2)
+        # (the last one is that for the filter's end, which comes at once here)
+        self.assertGreaterEqual(min(waits[:-1]), SIGNS)
 
 
 if __name__ == "__main__":

@@ -208,9 +208,9 @@ class Times(Case):
         self.assertIsNotNone(relation_of(few))
         times = []
         for body in (few, many):
-            began = time.process_time()
+            began = time.thread_time()
             found = relation_of(body)
-            times.append(time.process_time() - began)
+            times.append(time.thread_time() - began)
         self.assertEqual(found and len(found.shape.columns), 60000)
         self.assertLess(times[1], 100 * times[0])
 
@@ -224,7 +224,7 @@ class Times(Case):
                 vectors.stop(),
             ]
         )
-        began = time.process_time()
+        began = time.thread_time()
         for xid in range(8, 20008):
             self.noting.note_all(
                 [
@@ -234,7 +234,7 @@ class Times(Case):
                     vectors.stream_abort(7, xid),
                 ]
             )
-        self.assertLess(time.process_time() - began, 10)
+        self.assertLess(time.thread_time() - began, 10)
         self.assertEqual(len(self.noting.open[7].relations.bodies), 20000)
 
 

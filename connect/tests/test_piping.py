@@ -80,10 +80,10 @@ class Reads(PipeCase):
                     there = list(pgsub_feed.read(self.path, after, tables=tables))
                     self.assertEqual(found, there)
 
-    def begin_with_rows(self) -> None:
+    def begin_with_rows(self, size: int = 1) -> None:
         self.feed.path.unlink()
         self.feed = Writer(self.path, 0x100)
-        rows = [(STOCK, (str(it), "ä\r\n")) for it in range(1000)]
+        rows = [(STOCK, (str(it), size * "ä\r\n")) for it in range(1000)]
         make_base(self.path, 0x100, [STOCK, OTHER], rows, room=1000, least=5000)
         self.feed.commit(0x200, [insert("2000", "a")])
 
@@ -97,8 +97,9 @@ class Reads(PipeCase):
         self.assertTrue(all(isinstance(it, Insert) for it in second.changes))
 
     def test_a_cut_between_first_rows(self) -> None:
-        """All of them come again, each table truncated first."""
-        self.begin_with_rows()
+        """All of them come again, each table truncated first. (They are more than a pipe takes, so
+        that none is cut once all was written.)"""
+        self.begin_with_rows(1000)
         rows, cuts = list[str](), 0
         for commit in pgsub_feed.read(self.url, 0, follow=True):
             for it in commit.changes:
@@ -228,7 +229,7 @@ class Serves(PipeCase):
 
     def serve(self, said: bytes, *words: str) -> tuple[int, bytes]:
         command = [str(CONNECT / "pgsub-feed"), "--pipe", "--feed", str(self.path), *words]
-        done = subprocess.run(command, input=said, capture_output=True, timeout=30, check=False)
+        done = subprocess.run(command, input=said, capture_output=True, timeout=60, check=False)
         return done.returncode, done.stdout
 
     def test_words(self) -> None:
@@ -258,7 +259,7 @@ class Serves(PipeCase):
             self.assertEqual(sum(map(len, pipes.pieces(size))), size)
             self.assertEqual(pipes.line(), b'{"done":"0/100"}\n')
             mine.shutdown(socket.SHUT_WR)
-            self.assertEqual(child.wait(30), 0)
+            self.assertEqual(child.wait(60), 0)
 
     def test_a_reader_that_says_nothing(self) -> None:
         self.assertEqual(self.serve(b""), (0, b""))
@@ -278,7 +279,7 @@ class Serves(PipeCase):
         with self.assertRaises(Cut):
             for _ in pipes.pieces(3_000_000):
                 pass
-        self.assertEqual(child.wait(30), 0)
+        self.assertEqual(child.wait(60), 0)
         for it in (in_write, out_read):
             os.close(it)
 
@@ -314,12 +315,12 @@ class Killed(PipeCase):
                 if rng.random() < 0.5:
                     child.kill()
                     child.wait()
-                    kills += 1
                 else:
-                    kills += self.kill_server()
+                    child = self.kill_server(child)
+                kills += 1
             child = self.start() if child.poll() is not None else child
         try:
-            until = time.monotonic() + 60
+            until = time.monotonic() + 120
             while self.kept()[0] < self.feed.at and time.monotonic() < until:
                 child = self.start() if child.poll() is not None else child
                 time.sleep(0.02)
@@ -331,14 +332,16 @@ class Killed(PipeCase):
         self.assertEqual((lsn, found), replayed(self.path))
         self.assertGreater(len(found), 10)
 
-    def kill_server(self) -> bool:
-        """Kills the side of the feed, once there is one that wasn't killed yet."""
-        until = time.monotonic() + 5
+    def kill_server(self, child: subprocess.Popen[bytes]) -> subprocess.Popen[bytes]:
+        """Kills the side of the feed, once there is one that wasn't killed yet. Returns the reader,
+        or another one where that has ended before."""
+        until = time.monotonic() + 60
         while time.monotonic() < until:
+            child = self.start() if child.poll() is not None else child
             for it in set(self.pids()) - self.killed:
                 self.killed.add(it)
                 with contextlib.suppress(ProcessLookupError):
                     os.kill(it, signal.SIGKILL)
-                    return True
+                    return child
             time.sleep(0.01)
-        return False
+        self.fail("nothing serves the feed")

@@ -26,6 +26,8 @@ from .small_server import SmallServer, error, message
 
 # libpq's environment is nothing to these tests.
 OTHERS = {name: value for name, value in os.environ.items() if not name.startswith("PG")}
+# What takes longer, in seconds, waits for nothing that comes: no machine is so busy.
+LATE = 30.0
 
 
 class StopsLater:
@@ -93,7 +95,7 @@ class Queries(Case):
         connection, began = self.connect(), time.monotonic()
         with self.assertRaisesRegex(ServerError, "didn't answer") as raised:
             connection.rows("SELECT", 0.1)
-        self.assertLess(time.monotonic() - began, 2.0)
+        self.assertLess(time.monotonic() - began, LATE)
         self.assertFalse(raised.exception.is_lasting())
 
     def test_start_replication_that_isnt_answered(self) -> None:
@@ -108,7 +110,7 @@ class Queries(Case):
         connection.check = StopsLater(2)
         with self.assertRaises(Stopped):
             connection.rows("SELECT")
-        until = time.monotonic() + 20
+        until = time.monotonic() + LATE
         while not self.server.canceled and time.monotonic() < until:
             time.sleep(0.01)
         self.assertEqual(self.server.canceled, 1)
@@ -260,14 +262,16 @@ class Connects(Case):
                 addresses_of(settings, never)
         self.assertFalse(raised.exception.is_lasting())
         began = time.monotonic()
-        with mock.patch("socket.getaddrinfo", side_effect=lambda *_, **__: [][: ended.wait(20)]):
+        with mock.patch(
+            "socket.getaddrinfo", side_effect=lambda *_, **__: [][: ended.wait(10 * LATE)]
+        ):
             with self.assertRaises(Stopped):
                 addresses_of(settings, StopsLater(3))
             with mock.patch.object(addresses, "CONNECT_LIMIT", 0.1), self.assertRaisesRegex(
                 ServerError, "no answer within"
             ):
                 addresses_of(settings, never)
-        self.assertLess(time.monotonic() - began, 2.0)
+        self.assertLess(time.monotonic() - began, LATE)
 
     def test_limits_of_connecting(self) -> None:
         """As libpq has them: two seconds at least, 0 for none, and the environment's where the DSN
@@ -312,9 +316,9 @@ class Copies(Case):
     def test_both_ways(self) -> None:
         self.server.to_send = [b"one", b"two" * 50000]
         connection = self.connect()
-        connection.run("START_REPLICATION", COPY_BOTH, 5.0)
+        connection.run("START_REPLICATION", COPY_BOTH, LATE)
         payloads: list[bytes] = []
-        until = time.monotonic() + 20
+        until = time.monotonic() + LATE
         while len(payloads) < 2 and time.monotonic() < until:
             if payload := connection.next_payload():
                 payloads.append(payload)
@@ -337,14 +341,14 @@ class Copies(Case):
         for quick in (True, False):
             server = self.start(5433 + quick)
             server.to_send = list(sent)
-            lots, more, until = list[list[bytes]](), True, time.monotonic() + 20
+            lots, more, until = list[list[bytes]](), True, time.monotonic() + LATE
             with mock.patch.object(
                 wire,
                 "GET_COPY_DATA",
                 wire.GET_COPY_DATA if quick else None,
             ):
                 connection = self.connect(server.dsn())
-                connection.run("START_REPLICATION", COPY_BOTH, 5.0)
+                connection.run("START_REPLICATION", COPY_BOTH, LATE)
                 while sum(map(len, lots)) < len(sent) and time.monotonic() < until:
                     found, more = connection.payloads(50, 1000)  # type: ignore[assignment]
                     lots += [found] if found else []
@@ -371,8 +375,8 @@ class Copies(Case):
                 "GET_COPY_DATA",
                 wire.GET_COPY_DATA if quick else None,
             ):
-                connection, found, until = self.connect(), list[bytes](), time.monotonic() + 20
-                connection.run("START_REPLICATION", COPY_BOTH, 5.0)
+                connection, found, until = self.connect(), list[bytes](), time.monotonic() + LATE
+                connection.run("START_REPLICATION", COPY_BOTH, LATE)
                 with self.assertRaisesRegex(ServerError, "terminating") as raised:
                     while time.monotonic() < until:
                         found += connection.payloads(1 << 20, 1 << 16)[0]
@@ -388,8 +392,8 @@ class Copies(Case):
         )
         for call in ("send", "flush"):
             with mock.patch.object(small_server, "COPY_BOTH", body):
-                connection, found, until = self.connect(), list[bytes](), time.monotonic() + 20
-                connection.run("START_REPLICATION", COPY_BOTH, 5.0)
+                connection, found, until = self.connect(), list[bytes](), time.monotonic() + LATE
+                connection.run("START_REPLICATION", COPY_BOTH, LATE)
                 while not found and time.monotonic() < until:
                     connection.consume()
                     found += connection.payloads(1 << 20, 1 << 16)[0]
@@ -425,7 +429,7 @@ class Copies(Case):
 
     def test_the_server_ends_a_session(self) -> None:
         connection = self.connect()
-        connection.run("START_REPLICATION", COPY_BOTH, 5.0)
+        connection.run("START_REPLICATION", COPY_BOTH, LATE)
         self.server.close()
         with self.assertRaises(ServerError) as raised:
             while connection.next_payload() == b"":

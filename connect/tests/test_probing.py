@@ -80,14 +80,16 @@ class Probes(unittest.TestCase):
         self.assertEqual(self.probe()[0], 0)
 
     def test_no_sign_of_life(self) -> None:
-        self.status["heartbeat"] = time_text(time.time() - 31)
+        now = time.time()
+        self.status["heartbeat"] = time_text(now - 31)
         for words, code in (
             ((), 1),
             (("--max-age", "1min"), 0),
             (("--max-age", "40"), 0),
             (("--max-age", "30s"), 1),
         ):
-            found, text = self.probe(*words)
+            with mock.patch("time.time", lambda: now):
+                found, text = self.probe(*words)
             self.assertEqual((found, "no sign of life for 3" in text), (code, bool(code)), words)
 
     def test_states(self) -> None:

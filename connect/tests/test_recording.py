@@ -107,7 +107,7 @@ class Case(Quiet):
     def record(self, *, append: bool = False, size: int = 1 << 20, **options: Any) -> Recorder:
         # (so that no fault makes it wait without end)
         subscription = Subscription(self.server.dsn(), publications=["pgsub"])
-        options.setdefault("seconds", 10.0)
+        options.setdefault("seconds", 60.0)
         recorder = Recorder(
             subscription, RecordSettings(**options), Recording(self.path, append, size)
         )
@@ -120,7 +120,7 @@ class Case(Quiet):
 
     def statuses(self, count: int) -> list[int]:
         """What the server was told to be flushed, once it was told so often."""
-        until = time.monotonic() + 20
+        until = time.monotonic() + 60
         while len(self.server.statuses) < count and time.monotonic() < until:
             time.sleep(0.01)
         return [flushed(body) for _, body in self.server.statuses]

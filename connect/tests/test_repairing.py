@@ -96,7 +96,7 @@ class Repairs(Case):
     @contextlib.contextmanager
     def compared(self) -> Iterator[Request]:
         """Has the stream held, and the changes of the table T in the file."""
-        with contextlib.closing(Request(self.store, 5.0, never, repairs=True)) as request:
+        with contextlib.closing(Request(self.store, 60.0, never, repairs=True)) as request:
             request.hold()
             self.hook("hold")
             point, lines = self.world.slot()
@@ -340,7 +340,7 @@ class Repaired(Repairs):
 
     def test_a_slot_that_is_behind(self) -> None:
         run = self.running(proto=1)
-        with contextlib.closing(Request(self.store, 5.0, never, repairs=True)) as request:
+        with contextlib.closing(Request(self.store, 60.0, never, repairs=True)) as request:
             request.hold()
             request.tell(run.follower.confirming.reached())
             with self.assertRaisesRegex(Passing, "is it of a standby behind"):

@@ -38,7 +38,7 @@ from pgsub_connect.server.connection import never
 try:
     asking = Asking(sys.argv[2], never)
     asking.say(ask=sys.argv[3], lsn="0/1", tables="x", into="x")
-    print(asking.answer(5.0))
+    print(asking.answer(60.0))
 except Exception as error:
     print(type(error).__name__, error)
 """
@@ -220,7 +220,7 @@ class Hostile(Case):
             self.assertEqual(asker.heard(), [{"reached": "0/1"}])
         self.requests.tend()
         self.assertEqual(self.requests.waiting, [])
-        self.assertLess(time.monotonic() - self.began, 10)
+        self.assertLess(time.monotonic() - self.began, 60)
         super().tearDown()
 
     def refused(self, said: bytes) -> str:
@@ -371,7 +371,7 @@ class Answers(Case):
             it.say(ask="copy")
             made.send(said)
             made.close()
-            return it.answer(0.5)
+            return it.answer(60.0)
 
     def test_what_is_no_answer(self) -> None:
         for said in (b"x\n", b"[]\n", b"\xff\n", b"[" * 100000 + b"\n"):

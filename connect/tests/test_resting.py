@@ -91,7 +91,7 @@ class Case(StoreCase):
     @contextlib.contextmanager
     def asker(self) -> Iterator[Asker]:
         """Another program, that is connected."""
-        until = time.monotonic() + 20
+        until = time.monotonic() + 60
         while not os.path.exists(self.path + ".sock") and time.monotonic() < until:
             time.sleep(0.005)
         with contextlib.closing(Asker(self.path)) as asker:

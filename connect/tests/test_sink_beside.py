@@ -141,14 +141,14 @@ class Runs(SinkCase):
 
     def test_one_that_has_ended_is_waited_for_no_more(self) -> None:
         sink = self.sink("raise SystemExit(4)")
-        sink.join(20)
+        sink.join(60)
         self.assertEqual((sink.has(0x500), sink.lasting), (True, 4))
 
     def test_what_no_wait_cures_ends_it(self) -> None:
         sink = self.sink(
             "import sys; print('t pgsub-connect: error: wrong', file=sys.stderr); sys.exit(4)"
         )
-        sink.join(20)
+        sink.join(60)
         with mock.patch("pgsub_feed.log.PROGRAM", "pgsub-connect"):
             self.assertFalse(sink.is_alive())
         self.assertRegex(str(self.shown()), "^ended: ")

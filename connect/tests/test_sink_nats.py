@@ -273,7 +273,10 @@ class GoesOn(NatsCase):
         self.fails(FileError, "it is no export", base=base + "-none")
         self.assertEqual(self.ids(), ["0/100:base:0"])
 
-        def publish(_: float) -> None:
+        now = [0.0]
+
+        def publish(seconds: float) -> None:
+            now[0] += seconds
             if self.server.last == 1:
                 self.server.add(
                     "pgsub.public.stock",
@@ -281,9 +284,8 @@ class GoesOn(NatsCase):
                     b"{}",
                 )
 
-        with mock.patch("time.sleep", publish), mock.patch(
-            "pgsub_feed.sinks.nats_engine.STILL", 0.01
-        ):
+        clock = mock.Mock(monotonic=lambda: now[0], sleep=publish)
+        with mock.patch("pgsub_feed.sinks.nats_engine.time", clock):
             self.fails(Passing, "another sink publishes the rows of a base there", base=base)
         self.assertEqual(self.ids(), ["0/100:base:0", "0/100:base:1"])
 

@@ -4,6 +4,7 @@ writes there."""
 from __future__ import annotations
 
 import contextlib
+import importlib
 import json
 import os
 import random
@@ -923,7 +924,7 @@ class PlainText(unittest.TestCase):
 class Certificates(unittest.TestCase):
     def raised_by(self, error: OSError, url: str) -> str:
         """How a connection ends of which the library tells this error."""
-        import redis  # type: ignore[import]
+        redis: Any = importlib.import_module("redis")
 
         def connect() -> None:
             try:

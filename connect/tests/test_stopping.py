@@ -35,7 +35,7 @@ from .stores import StoreCase
 CONNECT = Path(__file__).resolve().parents[1] / "pgsub-connect"
 # How long it may take until a process is where it waits, and how long it may go on once it is told
 # to end, in seconds.
-PATIENCE, HEARD = 60.0, 20.0
+PATIENCE, HEARD = 60.0, 60.0
 
 
 class Case(unittest.TestCase):
@@ -59,7 +59,7 @@ class Case(unittest.TestCase):
         time.sleep(0.3)
         began = time.monotonic()
         child.send_signal(signal.SIGTERM)
-        _, said = child.communicate(timeout=PATIENCE)
+        _, said = child.communicate(timeout=2 * HEARD)
         self.assertLess(time.monotonic() - began, HEARD, said)
         return child.returncode, said.decode()
 
@@ -236,7 +236,7 @@ class Sinks(FeedCase, Case):
         self.assertIn("all up to 0/200 is written", said)
 
     def test_redis_that_never_has_a_commit(self) -> None:
-        status, said, _ = self.ends_in_exec(PATIENCE)
+        status, said, _ = self.ends_in_exec(10 * HEARD)
         self.assertEqual(status, 7, said)
         self.assertIn("the engine doesn't answer", said)
 

@@ -3,6 +3,7 @@
 from __future__ import annotations
 
 import contextlib
+import itertools
 import os
 import select
 import subprocess
@@ -10,8 +11,9 @@ import sys
 import threading
 import time
 import unittest
-from collections.abc import Iterator
+from collections.abc import Callable, Iterator
 from pathlib import Path
+from typing import Any
 from unittest import mock
 
 from pgsub_connect.cli import main
@@ -141,6 +143,10 @@ class Answered(Quiet):
             self.assertEqual(beside.is_of(path), wanted, path)
 
 
+# They look for what they weren't told of after minutes.
+SLEEPY = "from pgsub_feed.reader import polling; polling.LEAST = polling.MOST = 600.0; "
+
+
 class Told(FeedCase):
     """Tables beside a follower, which sleep until they are told."""
 
@@ -160,47 +166,53 @@ class Told(FeedCase):
     def kept(self, code: str = "") -> Beside:
         return started(self, Beside(self.settings, Progress(), self.wake), code)
 
-    def following(self) -> Beside:
-        """One that sleeps by now."""
+    def following(self, begins: str = "") -> Beside:
+        """One that sleeps by now. It runs this before."""
         self.feed.commit(0x100, [insert("1", "x")])
-        kept = self.kept()
-        self.assertTrue(wait_for(lambda: any("from 0/" in it for it in self.said), 20), self.said)
+        kept = Beside(self.settings, Progress(), self.wake)
+        code = kept.words.index("-c") + 1
+        kept.words[code] = begins + kept.words[code]
+        started(self, kept)
+        self.assertTrue(wait_for(lambda: any("from 0/" in it for it in self.said)), self.said)
         kept.ask(0x100)
-        self.assertTrue(wait_for(lambda: kept.at == 0x100, 20))
+        self.assertTrue(wait_for(lambda: kept.at == 0x100))
         time.sleep(0.1)
         return kept
 
     def test_a_commit_is_seen_at_once(self) -> None:
-        """Without being told they would see it a second later."""
-        kept, took = self.following(), list[float]()
-        for number in range(2, 12):
+        """Without being told they would see it minutes later. On a busy machine some are seen
+        later, and on any one of them at once where nothing else is waited for."""
+        kept, took, ends = self.following(SLEEPY), list[float](), time.monotonic() + 60
+        for number in itertools.count(2):
             time.sleep(0.02)
             end = 0x100 * number
             self.feed.commit(end, [insert(str(number), "x")])
             began = time.monotonic()
             kept.tell()
-            while read_position(self.into)[0] < end and time.monotonic() < began + 20:
+            while read_position(self.into)[0] < end:
+                self.assertLess(time.monotonic(), began + 60)
                 time.sleep(0.0005)
             took.append(time.monotonic() - began)
-        self.assertLess(min(took), 0.05)
-        self.assertLess(sorted(took)[5], 0.5, took)
+            if len(took) > 9 and min(took) < 0.05 or time.monotonic() > ends:
+                break
+        self.assertLess(min(took), 0.05, took)
 
     def test_they_tell_what_is_asked_and_no_more(self) -> None:
         kept = self.following()
         before = self.woken
         self.feed.commit(0x200, [insert("2", "x")])
         kept.tell()
-        self.assertTrue(wait_for(lambda: read_position(self.into)[0] == 0x200, 20))
+        self.assertTrue(wait_for(lambda: read_position(self.into)[0] == 0x200))
         time.sleep(0.1)
         self.assertEqual((self.woken, kept.at), (before, 0x100))
         for lsn in (0x300, 0x250, 0x300):
             kept.ask(lsn)
         self.feed.commit(0x280, [insert("3", "x")])
         kept.tell()
-        self.assertTrue(wait_for(lambda: kept.at == 0x280, 20))
+        self.assertTrue(wait_for(lambda: kept.at == 0x280))
         self.feed.commit(0x300, [insert("4", "x")])
         kept.tell()
-        self.assertTrue(wait_for(lambda: kept.at == 0x300, 20))
+        self.assertTrue(wait_for(lambda: kept.at == 0x300))
         self.assertEqual(self.woken, before + 2)
 
     def test_others_that_are_started_are_asked_again(self) -> None:
@@ -210,15 +222,24 @@ class Told(FeedCase):
         assert kept.child
         with mock.patch("pgsub_connect.follow.process_beside.FIRST_DELAY", 0.01):
             kept.child.kill()
-            self.assertTrue(wait_for(lambda: self.woken > before, 20))
+            self.assertTrue(wait_for(lambda: self.woken > before))
         self.assertEqual(kept.asked, set())
         kept.ask(0x100)
         self.assertEqual(kept.asked, {0x100})
 
+    def test_others_that_are_started_meanwhile_are_asked_too(self) -> None:
+        """As soon as nobody has the lock they may be there in the place of those that were."""
+        kept, lock = self.kept("import time; time.sleep(600)"), mock.MagicMock()
+        self.assertTrue(wait_for(lambda: kept.child is not None))
+        lock.__exit__.side_effect = lambda *_: setattr(kept, "asked", set())
+        with mock.patch.object(kept, "lock", lock):
+            kept.ask(0x100)
+        self.assertEqual(kept.asked, set())
+
     def test_a_pipe_that_is_full(self) -> None:
         """Nobody waits for who doesn't read it."""
         kept = self.kept("import time; time.sleep(60)")
-        self.assertTrue(wait_for(lambda: kept.child is not None, 20))
+        self.assertTrue(wait_for(lambda: kept.child is not None))
         while kept.tell():
             pass
         kept.ask(0x100)
@@ -230,15 +251,20 @@ class Told(FeedCase):
 
     def test_what_isnt_an_lsn(self) -> None:
         kept = self.kept("print('x\\n0/5\\n\\xff', flush=True); import time; time.sleep(60)")
-        self.assertTrue(wait_for(lambda: kept.at == 5, 20))
+        self.assertTrue(wait_for(lambda: kept.at == 5))
 
     def test_at_rest(self) -> None:
         """They wake once a second, and then less."""
-        kept = self.following()
+        kept, until = self.following(), time.monotonic() + 60
         assert kept.child
-        before = switches(kept.child.pid)
+        before, found = -1, switches(kept.child.pid)
+        while found != before:
+            # (on a busy machine it takes longer until it sleeps)
+            self.assertLess(time.monotonic(), until)
+            time.sleep(0.5)
+            before, found = found, switches(kept.child.pid)
         time.sleep(3)
-        self.assertLess(switches(kept.child.pid) - before, 6)
+        self.assertLess(switches(kept.child.pid) - found, 6)
 
 
 def switches(pid: int) -> int:
@@ -263,22 +289,29 @@ class Input(unittest.TestCase):
         for name, by in (
             ("os.read", lambda file, size: reads(self.input if file == 0 else file, size)),
             ("os.write", lambda file, what: writes(self.answers if file == 1 else file, what)),
-            ("select.select", lambda r, w, x, t: ready([self.input], w, x, t)),
+            ("select.select", self.select),
         ):
             patch = mock.patch(name, by)
             patch.start()
             self.addCleanup(patch.stop)
+        self.ready, self.has_slept = ready, False
         self.parent = Parent(never)
         self.addCleanup(os.close, self.answers)
+
+    def select(self, reads: object, writes: list[int], other: list[int], seconds: float) -> Any:
+        """On the follower's words. Notes whether these were waited for in vain."""
+        found = self.ready([self.input], writes, other, seconds)
+        self.has_slept |= seconds > 0 and not found[0]
+        return found
 
     def tell(self, what: bytes) -> None:
         os.write(self.output, what)
 
-    def slept(self) -> float:
-        began = time.monotonic()
+    def slept(self) -> bool:
+        self.has_slept = False
         with mock.patch.object(self.parent, "pause", 0.05):
             self.parent.wait()
-        return time.monotonic() - began
+        return self.has_slept
 
     def test_what_was_told_before_it_is_waited_for(self) -> None:
         """Also where something else has read it meanwhile."""
@@ -287,10 +320,10 @@ class Input(unittest.TestCase):
             self.tell(b"\n")
             if checks:
                 self.parent.check()
-            self.assertLess(self.slept(), 0.04)
+            self.assertFalse(self.slept())
             while self.parent.has_told:
                 self.parent.wait()
-            self.assertGreater(self.slept(), 0.04)
+            self.assertTrue(self.slept())
         os.close(self.output)
 
     def test_its_end(self) -> None:
@@ -372,6 +405,20 @@ class Waited(FeedCase):
             self.assertEqual(asked, [{"ask": "wait", "lsn": "0/200", "tables": self.into}])
             self.assertEqual((self.wait("0/100"), len(asked)), (0, 1))
 
+    @contextlib.contextmanager
+    def by_clock(self, *steps: tuple[float, Callable[[], object]]) -> Iterator[None]:
+        """Time goes on where it is slept, whatever the machine does else; each of these is called
+        at its time, in seconds."""
+        now, left = [0.0], list(steps)
+
+        def sleep(seconds: float) -> None:
+            now[0] += seconds
+            while left and now[0] >= left[0][0]:
+                left.pop(0)[1]()
+
+        with mock.patch.object(wait, "time", mock.Mock(monotonic=lambda: now[0], sleep=sleep)):
+            yield
+
     def test_a_follower_of_other_tables(self) -> None:
         """File and feed are looked at."""
         answers: tuple[dict[str, object] | None, ...] = (
@@ -381,7 +428,7 @@ class Waited(FeedCase):
             None,
         )
         for answer in answers:
-            with self.followed(answer) as asked:
+            with self.followed(answer) as asked, self.by_clock():
                 self.assertEqual(self.wait("0/200", "--within", "0.3"), 7)
                 self.assertGreater(len(asked), 0)
             self.assertIn("wasn't reached in 0.3 seconds", self.told[-1])
@@ -390,7 +437,7 @@ class Waited(FeedCase):
         with contextlib.closing(RequestSocket(self.store)):
             began = time.monotonic()
             self.assertEqual(self.wait("0/200", "--within", "0.1"), 7)
-            self.assertLess(time.monotonic() - began, 5)
+            self.assertLess(time.monotonic() - began, 30)
         self.assertIn("wasn't reached in 0.1 seconds", self.told[-1])
 
     def test_without_a_follower(self) -> None:
@@ -416,14 +463,12 @@ class Waited(FeedCase):
         os.rename(self.into, self.into + ".later")
         os.unlink(self.store + ".connector")
         made = list[Checkpoint]()
-        steps = (
-            lambda: made.append(Checkpoint(self.store)),
-            lambda: made[0].note_tables(self.into),
-            lambda: os.rename(self.into + ".later", self.into),
+        steps: tuple[tuple[float, Callable[[], object]], ...] = (
+            (0.4, lambda: made.append(Checkpoint(self.store))),
+            (0.8, lambda: made[0].note_tables(self.into)),
+            (1.2, lambda: os.rename(self.into + ".later", self.into)),
         )
-        for at, step in enumerate(steps, 1):
-            threading.Timer(0.4 * at, step).start()
-        with mock.patch.object(wait, "STARTING", 0.6):
+        with self.by_clock(*steps), mock.patch.object(wait, "STARTING", 0.6):
             self.assertEqual(self.wait("0/100"), 0, self.told)
             os.rename(self.into, self.into + ".later")
             made[0].note_tables(self.into + ".other")
@@ -453,9 +498,13 @@ class Waited(FeedCase):
         self.assertNotIn("subprocess", imported)
 
     def test_a_signal(self) -> None:
+        code = (
+            "from pgsub_connect.store import asking; asking.STEP = 60.0; "
+            "from pgsub_connect.cli import run; run()"
+        )
         with contextlib.closing(RequestSocket(self.store)) as requests:
             child = subprocess.Popen(
-                [sys.executable, "-m", "pgsub_connect", "wait", "0/200", "--tables", self.into],
+                [sys.executable, "-c", code, "wait", "0/200", "--tables", self.into],
                 stderr=subprocess.PIPE,
                 cwd=Path(__file__).parents[1],
             )
@@ -464,13 +513,13 @@ class Waited(FeedCase):
                 requests.tend()
                 return bool(requests.waiting)
 
-            self.assertTrue(wait_for(is_asked, 20))
+            self.assertTrue(wait_for(is_asked))
             began = time.monotonic()
             child.terminate()
-            said = child.communicate(timeout=20)[1].decode()
+            said = child.communicate(timeout=120)[1].decode()
         self.assertEqual(child.returncode, 7, said)
         self.assertIn("ended before", said)
-        self.assertLess(time.monotonic() - began, 0.9)
+        self.assertLess(time.monotonic() - began, 30)
 
 
 if __name__ == "__main__":

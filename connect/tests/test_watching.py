@@ -4,6 +4,7 @@ from __future__ import annotations
 
 import dataclasses
 import tempfile
+import time
 import unittest
 from unittest import mock
 
@@ -191,6 +192,9 @@ class Found(Case):
 class Looks(Case):
     def test_where_a_table_is_unknown(self) -> None:
         watch = self.watch()
+        clock = mock.patch("time.monotonic", return_value=time.monotonic())
+        clock.start()
+        self.addCleanup(clock.stop)
         with mock.patch("pgsub_connect.follow.drift_watch.Connection") as connection, mock.patch(
             "pgsub_connect.follow.drift_watch.settle"
         ):

@@ -370,7 +370,7 @@ class Ends(Quiet):
             self.assertEqual(child.stdout.readline(), b"asked\n")
             self.assertIsNone(child.poll())
             child.send_signal(signal.SIGTERM)
-            self.assertEqual(child.wait(20), 128 + signal.SIGTERM)
+            self.assertEqual(child.wait(60), 128 + signal.SIGTERM)
 
 
 class Asks(Quiet):

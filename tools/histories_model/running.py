@@ -77,17 +77,19 @@ def run_all(made, options, folder):
         multiprocessing.Process(target=work, args=(made, options, folder, worker, queue))
         for worker in range(options.jobs)
     ]
-    for worker in workers:
-        worker.start()
     done = differ = 0
     running = len(workers)
     interrupted = False
     try:
+        for worker in workers:
+            worker.start()
         while running and differ < options.stop_after:
+            # (what one has told that ended before this is there)
+            alive = any(worker.is_alive() for worker in workers)
             try:
                 told = queue.get(timeout=10)
             except Empty:
-                if any(worker.is_alive() for worker in workers):
+                if alive:
                     continue
                 told, running = "the tool failed: a worker was killed", 0
             if isinstance(told, int):
@@ -104,6 +106,8 @@ def run_all(made, options, folder):
     except KeyboardInterrupt:
         interrupted = True
     for worker in workers:
+        if worker.pid is None:
+            continue
         if running:
             worker.terminate()
         worker.join()

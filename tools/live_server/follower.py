@@ -24,23 +24,35 @@ from .patience import Patience
 AGAIN = (7,)
 
 
-# A child that is on its way when its parent is stopped has begun by then, in seconds.
-BEGUN = 0.05
+# The states of a process that has ended, and of a thread that stands still or has ended, too.
+ENDED, STANDING = "ZX", "TZX"
 
 
 def nothing() -> None:
     """Checks nothing."""
 
 
-def has_ended(pid: int) -> bool:
-    """Whether a process has ended, whoever is still to learn of that."""
+def is_in(stat: Path, states: str) -> bool:
+    """Whether what this file of the system tells of is in one of some states. One that isn't there
+    has ended."""
     try:
-        return (
-            Path(f"/proc/{pid}/stat").read_text(encoding="utf-8").rpartition(")")[2].split()[0]
-            in "ZX"
-        )
+        return stat.read_text(encoding="utf-8").rpartition(")")[2].split()[0] in states
     except (FileNotFoundError, ProcessLookupError):
         return True
+
+
+def has_ended(pid: int) -> bool:
+    """Whether a process has ended, whoever is still to learn of that."""
+    return is_in(Path(f"/proc/{pid}/stat"), ENDED)
+
+
+def stands_still(pid: int) -> bool:
+    """Whether all threads of a process that was stopped stand still. One that starts a child does
+    so once that runs its own program."""
+    with contextlib.suppress(FileNotFoundError, ProcessLookupError):
+        threads = os.listdir(f"/proc/{pid}/task")
+        return all(is_in(Path(f"/proc/{pid}/task/{it}/stat"), STANDING) for it in threads)
+    return True
 
 
 def children_of(pid: int, word: str) -> list[int]:
@@ -117,7 +129,7 @@ class Supervisor(threading.Thread):
         child = self.child
         child.send_signal(signal.SIGSTOP)
         try:
-            time.sleep(BEGUN)
+            wait_until(lambda: stands_still(child.pid), "to stand still", step=0.002)
             yield filters_of(child.pid)
         finally:
             child.send_signal(signal.SIGCONT)

@@ -11,7 +11,7 @@ from pathlib import Path
 
 from beside import Beside, Proofs, links, moved
 
-WAIT = 10
+WAIT = 60
 
 
 class Runs(unittest.TestCase):

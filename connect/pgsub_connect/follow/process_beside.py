@@ -135,15 +135,22 @@ class ProcessBeside(threading.Thread):
     def tell(self, text: str = "") -> bool:
         """Tells that the feed has more, or something else. Returns false where the pipe is full, so
         that it is about to look anyway, or nothing runs."""
-        with self.lock, contextlib.suppress(OSError):
+        with self.lock:
+            return self.put(text)
+
+    def put(self, text: str) -> bool:
+        """The same for who has the lock."""
+        with contextlib.suppress(OSError):
             if self.child and self.child.stdin and not self.child.stdin.closed:
                 return os.write(self.child.stdin.fileno(), f"{text}\n".encode()) > 0
         return False
 
     def ask(self, lsn: int) -> None:
         """Has it tell its LSN once it is this one or above."""
-        if lsn not in self.asked and self.tell(lsn_text(lsn)):
-            self.asked.add(lsn)
+        # (with the lock: another one that is started meanwhile wasn't asked)
+        with self.lock:
+            if lsn not in self.asked and self.put(lsn_text(lsn)):
+                self.asked.add(lsn)
 
     def hear_output(self, said: IO[bytes]) -> None:
         """Notes what it tells of its LSN."""
