@@ -54,6 +54,18 @@ class Started(unittest.TestCase):
         self.assertEqual(len(names), len(urls), names)
         self.assertIn("sink-unix-%2Frun%2Fredis.sock%3Fdb%3D3", names)
 
+    def test_another_one_is_asked_too(self) -> None:
+        """One that ends just as it was asked never answers."""
+        sink = Sink(SinkSettings("nats://h", "f", "s"), Progress())
+
+        def tell(_: str) -> bool:
+            sink.asked = set()
+            return True
+
+        with mock.patch.object(sink, "tell", tell):
+            sink.ask(0x100)
+        self.assertEqual(sink.asked, set())
+
     def test_options(self) -> None:
         words = ["follow", "--store", "s", "--sink", "redis://h/1", "--sink", "nats://h"]
         options = settled_feed(options_of([*words, "--sink", "redis://h/1"]), "s")

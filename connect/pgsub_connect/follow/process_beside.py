@@ -142,8 +142,10 @@ class ProcessBeside(threading.Thread):
 
     def ask(self, lsn: int) -> None:
         """Has it tell its LSN once it is this one or above."""
-        if lsn not in self.asked and self.tell(lsn_text(lsn)):
-            self.asked.add(lsn)
+        # (those of a process that is started meanwhile are others)
+        asked = self.asked
+        if lsn not in asked and self.tell(lsn_text(lsn)):
+            asked.add(lsn)
 
     def hear_output(self, said: IO[bytes]) -> None:
         """Notes what it tells of its LSN."""
