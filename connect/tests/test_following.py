@@ -450,7 +450,7 @@ class Sessions(Case):
 class LastLook(unittest.TestCase):
     def test_a_server_that_hangs_is_not_waited_for(self) -> None:
         """Not once the end was asked for."""
-        told = []
+        told: list[bool] = []
 
         def look_again(check: Callable[[], None], _: int) -> bool:
             with contextlib.suppress(ServerError):

@@ -4,6 +4,7 @@ writes there."""
 from __future__ import annotations
 
 import contextlib
+import importlib
 import json
 import os
 import random
@@ -926,7 +927,7 @@ class Certificates(unittest.TestCase):
         return type(self.failure_by(error, url)).__name__
 
     def failure_by(self, error: OSError, url: str) -> Failure:
-        import redis  # type: ignore[import]
+        redis: Any = importlib.import_module("redis")
 
         def connect() -> None:
             try:
