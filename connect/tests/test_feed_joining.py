@@ -108,6 +108,32 @@ class Steps(TablesCase):
         self.run_it()
         self.assertEqual(self.rows("SELECT name FROM seen ORDER BY rowid"), [("b",), ("c",)])
 
+    def test_tables_that_were_not_chosen_are_told_of_again_and_again(self) -> None:
+        self.take(insert("1", "0"))
+        self.run_it(table=["stock"])
+        others = table(2, "other"), table(3, "third")
+        for at in range(50):
+            left = [insert(str(at), "a", of=it) for it in others]
+            self.take(update(["1", str(at)], ["1", str(at + 1)]), *left)
+        self.assertLess(self.written(table=["stock"])["UPDATE"], 5)
+        self.assertEqual(self.rows("SELECT * FROM stock"), [(1, "50")])
+
+    def test_tables_that_are_set_aside_are_told_of_again_and_again(self) -> None:
+        others = table(2, "other"), table(3, "third")
+        self.take(insert("1", "0"), *(insert("1", "a", of=it) for it in others))
+        self.run_it()
+        for name in ("other", "third"):
+            with closing(sqlite3.connect(self.into)) as db, db:
+                db.execute(f"DELETE FROM {name}")
+        self.take(*(delete("1", "a", of=it) for it in others))
+        self.run_it(1)
+        for at in range(50):
+            left = [insert(str(at), "a", of=it) for it in others]
+            self.take(update(["1", str(at)], ["1", str(at + 1)]), *left)
+        self.assertLess(self.written(status=1)["UPDATE"], 5)
+        self.assertEqual(self.rows("SELECT * FROM stock"), [(1, "50")])
+        self.assertEqual(len(self.asides()), 2)
+
     def test_large_rows_do_not_wait_for_thousands_of_others(self) -> None:
         """(Their commit may have as many as it likes.)"""
         most = 0

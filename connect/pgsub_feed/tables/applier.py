@@ -83,7 +83,7 @@ class Applier:
     def describe(self, relation: Relation) -> None:
         """Has the table of a relation be as it is told."""
         kept = self.rows.as_told(relation)
-        if kept is None:
+        if kept is None and not self.rows.is_left(relation):
             # (it may take another table's name)
             self.flush()
             kept = self.rows.describe(relation, self.at)
