@@ -2,6 +2,7 @@
 
 from __future__ import annotations
 
+import weakref
 import zlib
 from collections.abc import Callable
 from types import SimpleNamespace
@@ -69,6 +70,8 @@ class FakeKafka:
         self.tells: Error | None = None
         self.room = 100
         self.configs = list[dict[str, Any]]()
+        # the producers that have threads
+        self.producers = weakref.WeakSet[Producer]()
 
     def module(self) -> SimpleNamespace:
         return SimpleNamespace(
@@ -128,7 +131,8 @@ class Producer:
         if "no.such" in config:
             raise KafkaException('No such configuration property: "no.such"')
         self.fake, self.config, self.waiting = fake, config, list[Message]()
-        fake.configs.append(config)
+        fake.configs.append({**config, "on_delivery": None, "error_cb": None})
+        fake.producers.add(self)
 
     def __len__(self) -> int:
         return len(self.waiting)

@@ -36,11 +36,12 @@ from pgsub_connect.store.base_files import BaseFile as Written
 from pgsub_connect.store.base_files import written
 from pgsub_connect.store.copied_rows import DONE
 from pgsub_feed import Commit, Damaged, Insert, Truncate, Unfit
-from pgsub_feed.errors import FileError
+from pgsub_feed.errors import FileError, Stopped
 from pgsub_feed.interruption import never
 from pgsub_feed.reader.base import BaseFiles, has_base, remove_base
 from pgsub_feed.reader.positions import Noted
 from pgsub_feed.reader.reading import Reading
+from pgsub_feed.reader.whole import Whole
 from pgsub_feed.sinks.first_rows import base_of
 from pgsub_feed.tables.file import Rows
 
@@ -129,10 +130,14 @@ class Reads(BaseCase):
         self.make(300, room=500, least=5000)
         files = BaseFiles(str(self.path))
         found: dict[int, list[Any]] = {}
-        for relation, span in files.spans():
+        spans = files.spans(never)
+        for relation, span in spans:
             found.setdefault(relation.oid, []).extend(files.rows(relation, span))
         self.assertEqual(found[STOCK.oid], [[str(it), f"a{it}"] for it in range(300)])
         self.assertEqual((len(found[OTHER.oid]), found[NONE.oid]), (300, []))
+        # (of many spans, since all of them are kept)
+        self.assertEqual(len({id(relation) for relation, _ in spans}), 3)
+        self.assertGreater(len(spans), 10)
 
     def test_values(self) -> None:
         row = ('"\\\n\t\x7fä€\U0001f600', b"\0\xff")
@@ -179,6 +184,18 @@ class Reads(BaseCase):
 
         found = next(pgsub_feed.read(self.path, 0, follow=True, check=check))
         self.assertTrue(found.is_base)
+
+    def test_a_first_segment_that_has_no_head_yet(self) -> None:
+        """What the rows are of isn't known then."""
+        self.make()
+        text = self.feed.path.read_bytes()
+        self.feed.path.write_bytes(text[:100])
+        with contextlib.closing(Whole(str(self.path), 0)) as reader:
+            self.assertIsNone(reader.next())
+            self.feed.path.write_bytes(text)
+            commit = reader.next()
+            self.assertEqual(commit and commit.base, 0)
+            self.assertEqual(reader.head and reader.head.slot, "pgsub")
 
     def test_a_reader_with_a_name_has_nothing_until_all_are_there(self) -> None:
         self.make()
@@ -473,6 +490,13 @@ class Sinks(BaseCase):
     def test_none(self) -> None:
         with self.assertRaisesRegex(Unfit, "there may be rows from before"):
             self.base_of()
+
+    def test_the_end_is_heard_while_they_are_looked_at(self) -> None:
+        self.make(100, room=100, least=1000)
+        check = mock.Mock(side_effect=[None, None, Stopped])
+        with self.assertRaises(Stopped):
+            with base_of(Reading(str(self.path), (), follows=False), check):
+                self.fail()
 
 
 class Process(Case):

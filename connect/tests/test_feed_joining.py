@@ -16,6 +16,7 @@ from pgsub_connect.commands import tables as tables_module
 from pgsub_feed.interruption import never
 from pgsub_feed.reader.commits import Cell, Change
 from pgsub_feed.relation import Column, Relation, Shape
+from pgsub_feed.tables import applier as applier_module
 from pgsub_feed.tables import following
 from pgsub_feed.tables.applier import Applier
 from pgsub_feed.tables.table import Kept
@@ -40,7 +41,7 @@ class Executed:
         RUN(applier, kept, statement, rows)
 
 
-RUN = Applier.run
+RUN, PUT = Applier.run, Applier.put
 ONE_BY_ONE = mock.patch.object(
     following, "Applier", functools.partial(lambda rows, check, joins: Applier(rows, check))
 )
@@ -106,6 +107,53 @@ class Steps(TablesCase):
             self.take(update(["1", old], ["1", new]), update(["1", old], ["1", new], of=other))
         self.run_it()
         self.assertEqual(self.rows("SELECT name FROM seen ORDER BY rowid"), [("b",), ("c",)])
+
+    def test_tables_that_were_not_chosen_are_told_of_again_and_again(self) -> None:
+        self.take(insert("1", "0"))
+        self.run_it(table=["stock"])
+        others = table(2, "other"), table(3, "third")
+        for at in range(50):
+            left = [insert(str(at), "a", of=it) for it in others]
+            self.take(update(["1", str(at)], ["1", str(at + 1)]), *left)
+        self.assertLess(self.written(table=["stock"])["UPDATE"], 5)
+        self.assertEqual(self.rows("SELECT * FROM stock"), [(1, "50")])
+
+    def test_tables_that_are_set_aside_are_told_of_again_and_again(self) -> None:
+        others = table(2, "other"), table(3, "third")
+        self.take(insert("1", "0"), *(insert("1", "a", of=it) for it in others))
+        self.run_it()
+        for name in ("other", "third"):
+            with closing(sqlite3.connect(self.into)) as db, db:
+                db.execute(f"DELETE FROM {name}")
+        self.take(*(delete("1", "a", of=it) for it in others))
+        self.run_it(1)
+        for at in range(50):
+            left = [insert(str(at), "a", of=it) for it in others]
+            self.take(update(["1", str(at)], ["1", str(at + 1)]), *left)
+        self.assertLess(self.written(status=1)["UPDATE"], 5)
+        self.assertEqual(self.rows("SELECT * FROM stock"), [(1, "50")])
+        self.assertEqual(len(self.asides()), 2)
+
+    def test_large_rows_do_not_wait_for_thousands_of_others(self) -> None:
+        """(Their commit may have as many as it likes.)"""
+        most = 0
+
+        def put(applier: Applier, change: Change) -> None:
+            nonlocal most
+            PUT(applier, change)
+            waiting = (it for it in applier.waiting.values() if isinstance(it, Joined))
+            most = max(most, sum(len(it.rows) for it in waiting))
+
+        text = "x" * 10000
+        self.take(*(insert(str(it), text) for it in range(100)))
+        with mock.patch.object(Applier, "put", put), mock.patch.object(
+            applier_module, "ROOM", 1 << 16
+        ):
+            self.run_it()
+        self.assertEqual(
+            self.rows("SELECT count(*), sum(length(name)) FROM stock"), [(100, 10**6)]
+        )
+        self.assertLess(most, 10)
 
     def test_what_another_program_removed_is_still_found_out(self) -> None:
         self.take(insert("1", "a"), insert("2", "b"))

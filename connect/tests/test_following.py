@@ -9,6 +9,7 @@ import threading
 import time
 import unittest
 from collections.abc import Callable, Iterator, Sequence
+from types import SimpleNamespace
 from typing import Any
 from unittest import mock
 
@@ -452,6 +453,31 @@ class Sessions(Case):
         self.run_until(follower, holds)
         follower.life.finish()
         self.assertLess(time.monotonic() - connecting[0], connection_module.QUICK / 2)
+
+
+class LastLook(unittest.TestCase):
+    def test_a_server_that_hangs_is_not_waited_for(self) -> None:
+        """Not once the end was asked for."""
+        told: list[bool] = []
+
+        def look_again(check: Callable[[], None], _: int) -> bool:
+            with contextlib.suppress(ServerError):
+                for _ in range(1000):
+                    check()
+                    time.sleep(0.001)
+                return True
+            return False
+
+        relations = SimpleNamespace(wants_look=True, note_look=told.append)
+        it: Any = SimpleNamespace(
+            noting=SimpleNamespace(relation_log=relations),
+            life=SimpleNamespace(watch=SimpleNamespace(look_again=look_again)),
+            progress=mock.Mock(),
+            confirming=SimpleNamespace(position=0),
+        )
+        with mock.patch.object(session_module, "LAST", 0.02):
+            session_module.Session.look_last(it)
+        self.assertEqual(told, [True])
 
 
 class Meets(Case):

@@ -3,6 +3,7 @@
 from __future__ import annotations
 
 import contextlib
+import gc
 import json
 import unittest
 from types import SimpleNamespace
@@ -336,12 +337,23 @@ class Says(KafkaCase):
             room = self.server.configs[-1]["queue.buffering.max.kbytes"]
             self.assertGreaterEqual(room << 10, max(size, 64 << 20))
 
+    def test_no_producer_is_left(self) -> None:
+        """Each has threads and connections, which a sink that waits for its cluster would collect."""
+        self.take(insert("1", "a"))
+        gc.disable()
+        self.addCleanup(gc.enable)
+        self.run_it()
+        self.assertEqual(len(self.server.producers), 0)
+        self.server.accepts = 0
+        self.fails(Passing, "_transport")
+        self.assertEqual(len(self.server.producers), 0)
+
     def test_urls(self) -> None:
         for url in ("kafka://", "kafka://h/topic", "kafka://user:word@h"):
             with self.assertRaises(UsageError):
                 parts_of(url)
-        self.url = "kafka://h?no.such=1"
-        self.fails(UsageError, "no.such=1: known properties are")
+        self.url = "kafka://h?sasl.password=secret"
+        self.fails(UsageError, "^sasl.password: known properties are")
         self.url = "kafka://h"
         self.fails(UsageError, "--as is for Redis", form="streams")
         self.fails(

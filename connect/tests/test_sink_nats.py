@@ -226,6 +226,23 @@ class GoesOn(NatsCase):
             "it has a part of a commit that ends at 0/100, and the feed's next one ends at 0/180",
         )
 
+    def test_another_commit_ends_at_the_same_lsn(self) -> None:
+        """As where the filter was killed before the store had it, and a table is added by now: its
+        changes are left out then, so others have their numbers."""
+        other = table(2, "other")
+        changes = [insert("1", "a"), insert("1", "b", of=other), insert("2", "c", of=other)]
+        for accepts, left in ((3, changes[1:]), (3, changes[:1]), (2, changes[1:2])):
+            self.server.stream, self.server.last = None, 0
+            for at, lines in enumerate((changes, left)):
+                self.feed.path.unlink()
+                self.feed.at = 0
+                self.feed.begin()
+                self.feed.commit(0x100, lines)
+                self.server.accepts = None if at else accepts
+                kind, text = (Unfit, "the feed's has other changes") if at else (Passing, "conn")
+                self.fails(kind, text)
+            self.assertEqual(len(self.server.ids()), accepts)
+
     def test_messages_of_others(self) -> None:
         self.run_it_with(
             "its last one, 1, isn't of a sink",

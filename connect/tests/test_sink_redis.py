@@ -924,6 +924,9 @@ class PlainText(unittest.TestCase):
 class Certificates(unittest.TestCase):
     def raised_by(self, error: OSError, url: str) -> str:
         """How a connection ends of which the library tells this error."""
+        return type(self.failure_by(error, url)).__name__
+
+    def failure_by(self, error: OSError, url: str) -> Failure:
         redis: Any = importlib.import_module("redis")
 
         def connect() -> None:
@@ -939,7 +942,7 @@ class Certificates(unittest.TestCase):
             pool.from_url.return_value.make_connection.return_value = made
             Connection(url)
         self.assertIn("Redis at h:6379: ", str(found.exception))
-        return type(found.exception).__name__
+        return found.exception
 
     def test_a_wrong_one_isnt_waited_for(self) -> None:
         """Nor one that the host rejects, or a file that isn't there."""
@@ -965,6 +968,20 @@ class Certificates(unittest.TestCase):
         self.assertEqual(
             self.raised_by(FileNotFoundError(2, "No such file"), "unix:///s"), "Passing"
         )
+
+    def test_one_that_is_only_cut_off_for_it(self) -> None:
+        """What it says of a certificate may be lost with the connection."""
+        for error, url, is_told in (
+            (ConnectionResetError(104, "reset"), "rediss://h", True),
+            (BrokenPipeError(32, "pipe"), "rediss://h", True),
+            (ssl.SSLEOFError(8, "EOF occurred in violation of protocol"), "rediss://h", True),
+            (ConnectionRefusedError(111, "refused"), "rediss://h", False),
+            (ConnectionResetError(104, "reset"), "redis://h", False),
+        ):
+            with self.subTest(error=error, url=url):
+                found = self.failure_by(error, url)
+                self.assertIsInstance(found, Passing)
+                self.assertEqual("it may want another certificate" in str(found), is_told)
 
     def test_the_name_of_the_host_is_looked_at(self) -> None:
         """Unless the URL says otherwise."""

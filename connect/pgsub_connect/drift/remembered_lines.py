@@ -31,19 +31,8 @@ only later versions have are left to these; those that earlier ones hadn't may b
 from collections.abc import Callable
 from typing import Any
 
-from pgsub_feed.json_texts import (
-    LARGEST,
-    Unreadable,
-    flag_of,
-    list_of,
-    lsn_of,
-    object_of,
-    oid_of,
-    parsed,
-    read_plain,
-    text_of,
-    whole_of,
-)
+from pgsub_feed.json_texts import LARGEST, Unreadable, flag_of, list_of, lsn_of, object_of
+from pgsub_feed.json_texts import oid_of, parsed, read_plain, text_of, whole_of
 from pgsub_feed.texts import is_utf_8
 
 # Raises an Unreadable where a value is of another kind.

@@ -14,6 +14,9 @@ from .filter_life import STEP, check_end
 from .schedule import Delay
 from .session_start import SessionStart
 
+# For how long a last look is waited for once the end was asked for, in seconds.
+LAST = 5.0
+
 
 class Session:
     """The session that is open, if any."""
@@ -124,8 +127,15 @@ class Session:
     def look_last(self) -> None:
         """Takes the look that is due by now: readers may wait for what it tells of keys."""
         relations, watch = self.noting.relation_log, self.life.watch
+        until = time.monotonic() + LAST
+
+        def check() -> None:
+            self.progress.beat()
+            if time.monotonic() > until:
+                raise ServerError("the server didn't answer in time")
+
         if relations.wants_look:
-            is_done = watch.look_again(self.progress.beat, self.confirming.position)
+            is_done = watch.look_again(check, self.confirming.position)
             relations.note_look(not is_done)
 
     def keep_on(self, began: float) -> None:

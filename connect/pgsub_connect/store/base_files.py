@@ -11,7 +11,6 @@ import contextlib
 import json
 import os
 import shutil
-import sqlite3
 import sys
 import zlib
 from collections.abc import Callable, Iterable, Iterator, Mapping
@@ -19,7 +18,7 @@ from json.encoder import encode_basestring  # type: ignore[attr-defined]
 from typing import BinaryIO, NamedTuple
 
 from pgsub_feed import log
-from pgsub_feed.errors import Failure, FileError, Passing, Stopped
+from pgsub_feed.errors import FileError
 from pgsub_feed.files import NEW, sync_folder
 from pgsub_feed.interruption import Check
 from pgsub_feed.ownership import set_mode
@@ -32,7 +31,7 @@ from pgsub_feed.tables.values import Malformed
 from pgsub_feed.texts import counted, lsn_text, parse_lsn
 
 from ..drift.remembered import Remembered
-from .copied_rows import READ, rows_of
+from .copied_rows import READ, attempted, rows_of
 from .file import choose
 
 # How many bytes of rows wait until they are written, and how many a file has at least, but for the
@@ -206,16 +205,12 @@ def written(wanted: Wanted, source: BinaryIO, check: Check) -> int:
 
 def told(wanted: Wanted, write: Callable[[], int]) -> int:
     """Tells how many rows were written, or why there are none; the exit status."""
-    try:
-        rows = write()
-        log.info(f"{wanted.feed} has {counted(rows, 'row')} from before its first commit")
-        return 0
-    except Stopped:
-        return Passing.STATUS
-    except (Failure, Malformed, OSError, UnicodeDecodeError, sqlite3.Error) as error:
-        why = "a row isn't one of its table" if isinstance(error, Malformed) else error
-        log.warning(f"{wanted.feed} gets no first rows: {why}")
-        return Passing.STATUS
+
+    def make() -> None:
+        rows = counted(write(), "row")
+        log.info(f"{wanted.feed} has {rows} from before its first commit")
+
+    return attempted(make, f"{wanted.feed} gets no first rows")
 
 
 def run() -> None:

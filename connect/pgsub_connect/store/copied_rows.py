@@ -11,7 +11,7 @@ import contextlib
 import os
 import sqlite3
 import sys
-from collections.abc import Iterator
+from collections.abc import Callable, Iterator
 from typing import BinaryIO, NamedTuple
 
 from pgsub_feed import log
@@ -76,15 +76,21 @@ def fill(wanted: Wanted, source: BinaryIO, check: Check) -> None:
 
 
 def filled(wanted: Wanted, source: BinaryIO, check: Check) -> int:
-    """Makes the file, or tells why there is none; the exit status."""
+    """Makes the file; the exit status."""
+    lacks = f"{wanted.into} can't be made while rows are copied"
+    return attempted(lambda: fill(wanted, source, check), lacks)
+
+
+def attempted(make: Callable[[], None], lacks: str) -> int:
+    """Makes something of rows, or tells why it isn't there; the exit status."""
     try:
-        fill(wanted, source, check)
+        make()
         return 0
     except Stopped:
         return Passing.STATUS
-    except (Failure, Malformed, OSError, sqlite3.Error) as error:
+    except (Failure, Malformed, OSError, UnicodeDecodeError, sqlite3.Error) as error:
         why = "a row isn't one of its table" if isinstance(error, Malformed) else error
-        log.warning(f"{wanted.into} can't be made while rows are copied: {why}")
+        log.warning(f"{lacks}: {why}")
         return Passing.STATUS
 
 

@@ -61,7 +61,8 @@ def read_settings(words: Iterable[str], schemas: bool = False) -> Settings:
                 )
             prefix = value
         elif name not in VALUES:
-            raise UsageError(f"{word}: known properties are {', '.join((PREFIX, *VALUES))}")
+            # (without its value, which may be a password in the wrong place)
+            raise UsageError(f"{name}: known properties are {', '.join((PREFIX, *VALUES))}")
         elif value not in VALUES[name]:
             raise UsageError(f"{word}: {name} is {' or '.join(VALUES[name])}")
         else:

@@ -15,6 +15,7 @@ from typing import Any, NamedTuple, Protocol
 from ..errors import FileError, Unfit
 from ..faults import COUNTS, LINE, NOT_A_FEED, OTHER_FEED, WIDTH, Damaged
 from ..files import NEW
+from ..interruption import Check
 from ..relation import Relation
 from ..texts import lsn_text, parse_lsn
 from .commits import Cells, Head
@@ -129,8 +130,9 @@ class BaseFile:
             raise Damaged(COUNTS, self.path, HEAD_SIZE, told)
         self.file.seek(HEAD_SIZE)
 
-    def spans(self) -> list[tuple[Relation, Span]]:
-        """Where the rows of each definition are."""
+    def spans(self, known: dict[bytes, Relation]) -> list[tuple[Relation, Span]]:
+        """Where the rows of each definition are. `known`: the relations of lines, which come again
+        and again."""
         found, told, offset = list[tuple[Relation, Span]](), list[tuple[int, bytes]](), HEAD_SIZE
         self.file.seek(offset)
         for line in self.file:
@@ -138,9 +140,11 @@ class BaseFile:
                 told.append((offset, line))
             offset += len(line)
         for (at, line), (end, _) in zip(told, [*told[1:], (offset, b"")], strict=True):
-            (section,) = sections_of(self.path, at, [line], None)
+            if line not in known:
+                (section,) = sections_of(self.path, at, [line], None)
+                known[line] = section.relation
             begin = at + len(line)
-            found.append((section.relation, Span(self.number, begin, end - begin)))
+            found.append((known[line], Span(self.number, begin, end - begin)))
         return found
 
     def part(self, relation: Relation, offset: int, size: int) -> Iterator[Section]:
@@ -235,12 +239,13 @@ class BaseFiles:
         for file in self.files():
             yield from file.sections()
 
-    def spans(self) -> list[tuple[Relation, Span]]:
+    def spans(self, check: Check) -> list[tuple[Relation, Span]]:
         """Where the rows of each definition are."""
-        found = []
+        found, known = [], dict[bytes, Relation]()
         for file in self.files():
+            check()
             file.check()
-            found += file.spans()
+            found += file.spans(known)
         return found
 
     def rows(self, relation: Relation, span: Span) -> Iterator[Cells]:

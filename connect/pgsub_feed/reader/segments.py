@@ -156,13 +156,14 @@ class Segment:
 
 
 def read_source(folder: str) -> Head | None:
-    """What a feed is a feed of, by the head of its last segment; None where that isn't there
+    """What a feed is a feed of, by the head of its last segment that has one; None where none has
     yet."""
-    for base, name in segments(folder)[-1:]:
+    for base, name in reversed(segments(folder)):
         with contextlib.suppress(FileNotFoundError), contextlib.closing(
             Segment(folder, base, name)
         ) as segment:
-            return segment.head
+            if segment.head:
+                return segment.head
     return None
 
 

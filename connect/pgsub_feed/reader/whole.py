@@ -80,10 +80,9 @@ class Whole(Reader):
     def next(self) -> Commit | None:
         if not self.at and not self.has_looked:
             bases = [base for base, _ in segments(self.folder)]
-            if not bases:
-                # (first rows are there before the first segment is)
+            # (first rows are there before the first segment is, and before that has its head)
+            if not bases or not self.look(bases):
                 return None
-            self.look(bases)
         if self.at or not self.sections:
             return super().next()
         commit = self.sections.next()
@@ -91,10 +90,13 @@ class Whole(Reader):
             self.at = self.sections.lsn
         return commit or super().next()
 
-    def look(self, bases: list[int]) -> None:
+    def look(self, bases: list[int]) -> bool:
+        """Looks which rows there are. Returns false where the feed isn't there yet."""
         self.head = read_source(self.folder)
-        rows = self.base or base_of_feed(self.folder, bases, self.head)
-        self.sections, self.has_looked = Sections(rows) if rows else None, True
+        if self.head:
+            rows = self.base or base_of_feed(self.folder, bases, self.head)
+            self.sections, self.has_looked = Sections(rows) if rows else None, True
+        return self.has_looked
 
     def is_lasting(self) -> bool:
         # (who reads has some of them, and a feed's first rows are written once)

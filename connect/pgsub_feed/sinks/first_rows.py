@@ -12,7 +12,7 @@ from ..errors import FileError
 from ..files import own_name, remove
 from ..interruption import Check
 from ..meter import Meter
-from ..reader.base import BaseFiles, Section
+from ..reader.base import BaseFiles, Section, Span
 from ..reader.commits import Cells
 from ..reader.reading import Reading
 from ..reader.selection import Chosen
@@ -44,18 +44,20 @@ class Base:
 class OfFeed(Base):
     """Those beside the feed."""
 
-    def __init__(self, files: BaseFiles, chosen: tuple[str, ...]) -> None:
+    def __init__(self, files: BaseFiles, chosen: tuple[str, ...], check: Check) -> None:
         self.files, self.chosen, self.lsn = files, Chosen(chosen), files.lsn
-        self.spans = files.spans()
+        # by OID where rows of a table are
+        self.parts = dict[int, list[tuple[Relation, Span]]]()
+        for relation, span in files.spans(check):
+            self.parts.setdefault(relation.oid, []).append((relation, span))
 
     def tables(self) -> list[Relation]:
-        found = {relation.oid: relation for relation, _ in self.spans}
-        return [it for it in found.values() if self.chosen(it)]
+        found = [parts[-1][0] for parts in self.parts.values()]
+        return [it for it in found if self.chosen(it)]
 
     def rows(self, relation: Relation) -> Iterator[Cells]:
-        for told, span in self.spans:
-            if told.oid == relation.oid:
-                yield from self.files.rows(told, span)
+        for told, span in self.parts[relation.oid]:
+            yield from self.files.rows(told, span)
 
 
 def numbered(base: Base, relations: Iterable[Relation]) -> Iterator[tuple[Relation, int, Cells]]:
@@ -134,7 +136,7 @@ def base_of(reading: Reading, check: Check) -> Iterator[Base]:
         finally:
             remove(path)
     elif files := first_rows_of(reading, check):
-        yield OfFeed(files, reading.chosen)
+        yield OfFeed(files, reading.chosen, check)
     else:
         yield Base()
 

@@ -129,7 +129,11 @@ class Cluster:
         self.most = int(config.get(LARGEST, 1000000))
         self.topics = dict[str, Any]()
         # which cluster it is, by whatever name its brokers were found
-        self.id = str(self.listed().cluster_id or servers)
+        try:
+            self.id = str(self.listed().cluster_id or servers)
+        except BaseException:
+            self.close()
+            raise
 
     def made(self, kind: Any, config: dict[str, Any]) -> Any:
         try:
@@ -288,3 +292,5 @@ class Cluster:
     def close(self) -> None:
         self.producer.purge()
         self.producer.flush(TICK)
+        # (its threads and connections end once nothing names it, and it names this one)
+        del self.producer

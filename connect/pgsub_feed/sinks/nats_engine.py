@@ -15,6 +15,7 @@ from typing import Any
 from .. import log
 from ..errors import Passing, Stopped, TooLarge, Unfit
 from ..interruption import Check
+from ..json_texts import LARGEST, object_of, parsed
 from ..reader.commits import Commit, TableLine
 from ..reader.following import Read
 from ..reader.selection import Chosen
@@ -51,8 +52,9 @@ class Nats:
         self.at = self.end = 0
         self.looked = time.monotonic()
         # of the commit of which a part is published already: where it ends, and the number of the
-        # last change
+        # last change, with what is said of that
         self.part: tuple[int, int] | None = None
+        self.part_said = b""
         # whether there is a part of a base
         self.has_left = False
         self.trail = Trail()
@@ -89,6 +91,7 @@ class Nats:
             self.has_left = True
             return False
         rows = self.go_on(commit, read.lsn, read.n)
+        self.part_said = last.data
         if rows is not None and last is commit:
             self.remove_before(last.sequence - rows, info)
         return True
@@ -152,10 +155,7 @@ class Nats:
 
     def take(self, commit: Commit, read: Read) -> None:
         if self.part and self.part[0] != commit.end:
-            raise Unfit(
-                f"{self.stream.where}: it has a part of a commit that ends at {lsn_text(self.part[0])}, and the feed's next one ends at"
-                f" {commit.text()}: remove it to begin anew"
-            )
+            raise self.other_part(f"the feed's next one ends at {commit.text()}")
         for message in whole(commit, lambda: self.messages(commit, read), self.check):
             self.publish(message)
         self.part, self.end = None, commit.end
@@ -164,12 +164,23 @@ class Nats:
         """The messages of a commit that aren't there yet. Nothing is published of one that has a
         change which is too large."""
         after = self.part[1] if self.part else -1
+        is_known = after < 0
         for part in read():
-            if isinstance(part, TableLine) or part.n <= after:
+            if isinstance(part, TableLine) or part.n < after or not self.chosen(part.relation):
                 continue
-            if self.chosen(part.relation):
-                yield self.sized(change_message(self.name, commit, part))
+            message = change_message(self.name, commit, part)
+            if part.n > after:
+                yield self.sized(message)
+            else:
+                is_known = are_alike(message.payload, self.part_said)
+        if not is_known:
+            # (a filter that was killed may have left out a table since, by which numbers are others)
+            raise self.other_part("the feed's has other changes")
         yield last_message(self.name, commit, self.about)
+
+    def other_part(self, found: str) -> Unfit:
+        where = f"a part of a commit that ends at {lsn_text(self.part[0] if self.part else 0)}"
+        return Unfit(f"{self.stream.where}: it has {where}, and {found}: remove it to begin anew")
 
     def sized(self, message: Said) -> Said:
         size, most = len(self.stream.headers(message.id)) + len(message.payload), self.stream.most
@@ -225,6 +236,14 @@ class Nats:
 
     def close(self) -> None:
         self.stream.wire.close()
+
+
+def are_alike(one: bytes, other: bytes) -> bool:
+    """Whether two messages tell the same change. (An earlier version may tell less of it.)"""
+    with contextlib.suppress(ValueError):
+        told, said = (object_of(parsed(it, LARGEST)) for it in (one, other))
+        return all(told[it] == said[it] for it in told.keys() & said.keys())
+    return False
 
 
 def connect(url: str, stream: str, replicas: int, check: Check) -> Nats:

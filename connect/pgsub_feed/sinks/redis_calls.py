@@ -30,6 +30,8 @@ PASSES = (
 )
 # What TLS says where the host rejects the certificate of a sink, or wants one.
 OF_CERTIFICATE = ("CERTIFICATE", "UNKNOWN_CA")
+# How a connection ends by the other side: by these, or as the library says it.
+CUT, CLOSED = (ConnectionResetError, BrokenPipeError, ssl.SSLEOFError), "closed by server"
 # How long to wait for a connection, and for what it says, in seconds.
 CONNECT, LONGEST = 10.0, 300.0
 # From how many bytes on Redis may end a connection because of them.
@@ -114,6 +116,7 @@ class Connection:
 
     def __init__(self, url: str, check: Check = never) -> None:
         self.check, self.is_lost, self.is_encrypted = check, False, url.startswith("rediss:")
+        self.has_answered = False
         try:
             self.redis: Any = importlib.import_module("redis")
         except ModuleNotFoundError:
@@ -179,14 +182,20 @@ class Connection:
                 raise FileError(
                     f"{self.where}: a file that its URL names by ssl_ca_certs, ssl_certfile or ssl_keyfile isn't there"
                 ) from None
-            hint = (
+            told = shortened(str(error)) or type(error).__name__
+            raise Passing(f"{self.where}: {told}{self.hint(size, error)}") from None
+
+    def hint(self, size: int, error: BaseException) -> str:
+        """What it may be that the other side has ended a connection for, after so many bytes."""
+        if size > MUCH:
+            return (
                 f" (of {size >> 20} MB that were sent: client-query-buffer-limit may be below that)"
-                if size > MUCH
-                else ""
             )
-            raise Passing(
-                f"{self.where}: {shortened(str(error)) or type(error).__name__}{hint}"
-            ) from None
+        is_cut = CLOSED in str(error) or any(isinstance(it, CUT) for it in causes(error))
+        if self.is_encrypted and is_cut and not self.has_answered:
+            # (it may be gone before it is read that it rejects the certificate)
+            return " (before it said anything: it may want another certificate, by ssl_certfile and ssl_keyfile)"
+        return ""
 
     def text(self, error: Exception) -> str:
         """An error as Redis has said it: the library takes the code away from those that it
@@ -213,6 +222,7 @@ class Connection:
             return [self.said() for _ in commands]
 
         found: list[Any] = self.guarded(len(packed), call, GRACE)
+        self.has_answered = True
         return found
 
     def said(self) -> Any:

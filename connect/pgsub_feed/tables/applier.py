@@ -16,6 +16,9 @@ from .user_sql import has_triggers, has_unique_indexes
 from .values import Value
 from .waiting import Joined, Ordered, Waiting
 
+# How many bytes of the feed's lines wait at most: rows may be large.
+ROOM = 32 << 20
+
 
 class Applier:
     """Makes changes in the open transaction, those of one kind to one table at once.
@@ -29,6 +32,8 @@ class Applier:
         self.told: dict[int, Relation] = {}
         self.kept: dict[int, Kept | None] = {}
         self.waiting: dict[int, Waiting] = {}
+        # how many bytes these have, about, and each change of the commit
+        self.bytes = self.each = 0
         # those of them whose name another one has
         self.older = set[int]()
         # of the commit: where it ends, and whether it repairs rows, but for tables that it
@@ -57,6 +62,7 @@ class Applier:
             self.flush()
             self.forget()
         self.at, self.is_repair = commit.end, is_repair
+        self.each = commit.bytes // max(commit.changes, 1)
         self.truncated.clear()
         self.was_empty.clear()
         for part in parts:
@@ -77,7 +83,7 @@ class Applier:
     def describe(self, relation: Relation) -> None:
         """Has the table of a relation be as it is told."""
         kept = self.rows.as_told(relation)
-        if kept is None:
+        if kept is None and not self.rows.is_left(relation):
             # (it may take another table's name)
             self.flush()
             kept = self.rows.describe(relation, self.at)
@@ -106,6 +112,9 @@ class Applier:
             if not waiting.add(change):
                 del self.waiting[oid]
                 self.make_alone(change)
+        self.bytes += self.each
+        if self.bytes > ROOM:
+            self.flush()
 
     def make_alone(self, change: Change) -> None:
         if change.op == "t":
@@ -132,6 +141,7 @@ class Applier:
         for oid in list(self.waiting):
             self.make_waiting(oid)
         self.waiting.clear()
+        self.bytes = 0
 
     def make_waiting(self, oid: int) -> None:
         waiting = self.waiting[oid]

@@ -106,11 +106,8 @@ class Rows:
         keys = self.db.execute("SELECT 1 FROM pragma_table_info(?) WHERE pk", (name,)).fetchone()
         kept = Kept(name, relation, form, primary, is_loose=not keys)
         indexes = [key_index(relation.oid), rows_index(relation.oid)]
-        kept.has_index = bool(
-            self.db.execute(
-                "SELECT 1 FROM sqlite_schema WHERE type = 'index' AND name IN (?, ?)", indexes
-            ).fetchone()
-        )
+        query = "SELECT 1 FROM sqlite_schema WHERE type = 'index' AND name IN (?, ?)"
+        kept.has_index = bool(self.db.execute(query, indexes).fetchone())
         self.kept[relation.oid] = kept
         self.keys.loaded(relation, primary)
         if not name.startswith(OLDER):
@@ -214,6 +211,13 @@ class Rows:
         if kept is None or kept.relation != relation or kept.name.startswith(OLDER):
             return None
         return None if self.keys.has_news(relation) else kept
+
+    def is_left(self, relation: Relation) -> bool:
+        """Whether it is noted already that a relation wasn't chosen, or is set aside."""
+        oid, aside = relation.oid, self.asides.known.get(relation.oid)
+        if not self.is_chosen(relation):
+            return oid in self.left_out
+        return aside is not None and aside[:2] == full_name(relation)
 
     def describe(self, relation: Relation, at: int) -> Kept | None:
         """The table of a relation, in the shape that was told last, by the commit that ends there.
