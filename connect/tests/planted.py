@@ -1127,6 +1127,13 @@ BUGS = (
         ("test_waiting",),
     ),
     Bug(
+        "what is started meanwhile counts as asked",
+        "pgsub_connect/follow/process_beside.py",
+        "with self.lock:\n            if lsn not in self.asked and self.put(",
+        "if True:\n            if lsn not in self.asked and self.tell(",
+        ("test_waiting",),
+    ),
+    Bug(
         "those who wait are answered before the tables have it",
         "pgsub_connect/follow/waits.py",
         "if beside.at >= end:",
