@@ -109,7 +109,7 @@ BUGS = (
         "a silent server isn't given up",
         "pgsub_connect/follow/schedule.py",
         "if silent > limit:",
-        "if silent > 60 * limit:",
+        "if silent > 600 * limit:",
         ("test_following",),
     ),
     Bug(
@@ -1126,6 +1126,13 @@ BUGS = (
         "self.has_told, self.pause = True, LEAST\n\n    def wait",
         "self.pause = LEAST\n\n    def wait",
         ("test_waiting",),
+    ),
+    Bug(
+        "time that a machine has slept through ends the wait for a topic",
+        "pgsub_feed/sinks/kafka_client.py",
+        "elif is_late:",
+        "elif time.monotonic() > end:",
+        ("test_sink_kafka",),
     ),
     Bug(
         "what is started meanwhile counts as asked",
