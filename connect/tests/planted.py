@@ -22,7 +22,8 @@ from pathlib import Path
 from typing import NamedTuple
 
 CONNECT = Path(__file__).resolve().parent.parent
-LIMIT = 60.0
+# (a test waits a minute for what the bug keeps from coming)
+LIMIT = 300.0
 # pytest's statuses
 PASSED, FAILED = 0, 1
 # (tests of feeds make them by a module of the scripts)
@@ -108,7 +109,7 @@ BUGS = (
         "a silent server isn't given up",
         "pgsub_connect/follow/schedule.py",
         "if silent > limit:",
-        "if silent > 60 * limit:",
+        "if silent > 600 * limit:",
         ("test_following",),
     ),
     Bug(
@@ -1124,6 +1125,20 @@ BUGS = (
         "pgsub_feed/reader/polling.py",
         "self.has_told, self.pause = True, LEAST\n\n    def wait",
         "self.pause = LEAST\n\n    def wait",
+        ("test_waiting",),
+    ),
+    Bug(
+        "time that a machine has slept through ends the wait for a topic",
+        "pgsub_feed/sinks/kafka_client.py",
+        "elif is_late:",
+        "elif time.monotonic() > end:",
+        ("test_sink_kafka",),
+    ),
+    Bug(
+        "what is started meanwhile counts as asked",
+        "pgsub_connect/follow/process_beside.py",
+        "with self.lock:\n            if lsn not in self.asked and self.put(",
+        "if True:\n            if lsn not in self.asked and self.tell(",
         ("test_waiting",),
     ),
     Bug(

@@ -513,7 +513,7 @@ class Meets(Case):
     ) -> Iterator[bool]:
         while self.confirmed() != 0x108:
             yield False
-        asked = {"ask": "hold", "into": self.folder + "/into", "seconds": 10.0}
+        asked = {"ask": "hold", "into": self.folder + "/into", "seconds": 600.0}
         asker = closing.enter_context(asking(self.store, **asked))
         while asker.heard() != [{"held": "0/108"}]:
             yield False

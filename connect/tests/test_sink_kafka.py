@@ -249,6 +249,32 @@ class GoesOn(KafkaCase):
             self.assertEqual((engine.safe(), engine.finish(1)), (0x100, True))
         self.assertEqual(len(self.server.said("pgsub.position")), 4)
 
+    def test_a_machine_that_stands_still(self) -> None:
+        """What is there by then is seen."""
+        self.take(insert("1", "a"))
+        self.run_it()
+        cluster, now, listed = self.engine().cluster, [0.0], self.server.listed
+        cluster.look_for_topics()
+
+        def passes() -> float:
+            now[0] += 100.0
+            return now[0]
+
+        def makes(*names: str) -> SimpleNamespace:
+            found = listed(*names)
+            self.server.makes_topics = True
+            now[0] += 100.0
+            return found
+
+        with mock.patch("pgsub_feed.sinks.kafka_client.time", mock.Mock(monotonic=passes)):
+            self.assertIsNotNone(cluster.last("pgsub.position"))
+        self.server.makes_topics = False
+        clock = mock.Mock(monotonic=lambda: now[0])
+        with mock.patch("pgsub_feed.sinks.kafka_client.time", clock), mock.patch.object(
+            self.server, "listed", makes
+        ):
+            self.assertEqual(cluster.partitions("late"), 3)
+
     def test_the_end_comes_first(self) -> None:
         self.take(insert("1", "a"))
         engine = self.engine()

@@ -5,7 +5,6 @@ from __future__ import annotations
 
 import json
 import os
-import threading
 from pathlib import Path
 from typing import Any
 from unittest import mock
@@ -130,7 +129,8 @@ class Hashes(KeysCase):
         self.assertEqual(len(waited), 1)
         self.look("id", oid=9)
         of, more = table(2, "other", letter="f"), table(3, "more", letter="f")
-        with mock.patch("pgsub_feed.known_tables.time.sleep", lambda _: waited.append(1)):
+        clock = mock.Mock(monotonic=lambda: 0.02 * len(waited), sleep=lambda _: waited.append(1))
+        with mock.patch("pgsub_feed.known_tables.time", clock):
             self.rows(insert("1", "x", of=of), insert("1", "x", of=more), told="public.other")
             count = len(waited)
             known = KnownTables(self.store)
@@ -329,17 +329,16 @@ class BulkLines(KeysCase):
         begin, first = self.at - 0x200, self.at - 0x100
         self.known_up_to(first)
 
-        def looked() -> None:
+        def looked(_: float) -> None:
+            """(The keys of the second commit are waited for.)"""
             self.look()
             self.known_up_to(self.at)
 
-        later = threading.Timer(0.1, looked)
-        later.start()
-        self.addCleanup(later.join)
         told = (
             f"it has the key none, and had id, .* may be wrong, and the table is left out.* {ANEW}"
         )
-        found = self.printed("--from", f"0/{begin:X}", told=told)
+        with mock.patch("pgsub_feed.known_tables.time.sleep", looked):
+            found = self.printed("--from", f"0/{begin:X}", told=told)
         self.assertEqual([it["delete"]["version"] for it in found], [first])
 
     def test_a_key_that_stays_unknown(self) -> None:

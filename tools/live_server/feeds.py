@@ -13,6 +13,7 @@ import json
 import math
 import re
 import sqlite3
+import struct
 import threading
 import time
 from collections.abc import Callable, Iterable, Iterator, Mapping
@@ -20,6 +21,7 @@ from pathlib import Path
 from typing import Any, Dict, List, NamedTuple, Optional, Tuple, Union
 
 from feed_replay import Replay, commits, lsn_of
+from stores import contents, sound
 
 from .cluster import Cluster
 from .errors import Failed
@@ -179,31 +181,46 @@ def segments(feed: Path) -> list[Path]:
     return sorted(it for it in feed.iterdir() if len(it.name) == 16)
 
 
-def definition_of(kind: str) -> tuple[int, int]:
-    """A type and its modifier, as a definition has them."""
-    if limits := LIMITS.fullmatch(kind):
-        return NUMERIC, (int(limits[1]) << 16 | int(limits[2]) & 0x7FF) + 4
-    return NUMERIC if kind == "numeric" else OIDS.get(kind, 0), -1
+def columns_in(described: bytes) -> list[list[Any]]:
+    """Name, type and modifier of each column of a definition, as a store has that."""
+    found, at = list[List[Any]](), 2
+    while at < len(described):
+        end = described.index(b"\0", at + 1)
+        found.append(
+            [described[at + 1 : end].decode(), *struct.unpack_from(">Ii", described, end + 1)]
+        )
+        at = end + 9
+    return found
+
+
+def definitions_of(store: Path) -> dict[tuple[str, str], dict[str, Any]]:
+    """What a store's tables are, by schema and name, as a feed would tell it."""
+    with sound.copied(store) as base:
+        relations = contents.read(base).relations
+    found = {}
+    for oid, it in sorted(relations.items()):
+        schema, columns = it.namespace or "pg_catalog", columns_in(it.columns)
+        found[schema, it.name] = {
+            "oid": oid,
+            "schema": schema,
+            "table": it.name,
+            "columns": columns,
+        }
+    return found
 
 
 def base_of(
     cluster: Cluster, program: Path, snapshot: Path, *publications: str, database: str = "shop"
 ) -> Replay:
-    """The rows of a copy of the store, from which a feed is replayed."""
+    """The rows of a copy of the store, from which a feed is replayed. (The server may have altered
+    a table since, so what that was is told by the copy.)"""
     rows, position = rows_of_store(program, snapshot)
-    state = Replay(lsn_of(position))
+    state, definitions = Replay(lsn_of(position)), definitions_of(snapshot)
     with cluster.connect(database) as session:
-        for schema, table, _ in list(published(session, publications)):
-            name = f"{quoted(schema)}.{quoted(table)}"
-            oid = int(
-                session.value(f"SELECT '{name.replace(chr(39), chr(39) * 2)}'::regclass::oid")
-            )
-            columns = [
-                [it, *definition_of(kind)]
-                for it, kind in columns_of(session, name.replace("'", "''"))
-            ]
-            definition = {"oid": oid, "schema": schema, "table": table, "columns": columns}
-            state.begin(definition, collections.Counter(rows.get((schema, table), {})))
+        tables = [(schema, table) for schema, table, _ in published(session, publications)]
+    for it in tables:
+        if it in definitions:
+            state.begin(definitions[it], collections.Counter(rows.get(it, {})))
     return state
 
 

@@ -15,6 +15,9 @@ from .options import Options
 from .patience import Patience
 from .walking import walk
 
+# What takes longer, in seconds, doesn't come: a busy machine gets on in this time.
+LATE = 300
+
 
 def run(options: Options, checks: Checks) -> None:
     # (before version 14 of the server there is no version 2)
@@ -37,7 +40,7 @@ def copies(run: Run, load: Mixed) -> None:
     questions.fill(run.cluster, 1000, run.options.seed)
     load.fill(20_000)
     run.begin()
-    run.wait_copied(60)
+    run.wait_copied(LATE)
 
 
 def follows(run: Run, checks: Checks) -> None:
@@ -49,10 +52,10 @@ def follows(run: Run, checks: Checks) -> None:
 def goes_on(run: Run, victim: str) -> None:
     """Kills a part, and waits until what is written afterwards is confirmed."""
     # (a filter is started anew after the copy, and after each of the other kills)
-    wait_until(lambda: run.kill(victim), f"finding a {victim} that runs", 30)
+    wait_until(lambda: run.kill(victim), f"finding a {victim} that runs", LATE)
     time.sleep(0.5)
     end = run.cluster.log_end()
-    run.wait_for(end, 60, f"confirming {end}")
+    run.wait_for(end, LATE, f"confirming {end}")
 
 
 def equal(run: Run) -> str:

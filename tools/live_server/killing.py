@@ -196,7 +196,7 @@ class Run:
     def check_left(self) -> None:
         """Fails where a copy has left a slot or a file, or changes found no row."""
         slots = "SELECT string_agg(slot_name, ' ') FROM pg_replication_slots"
-        wait_until(lambda: self.cluster.value(slots) == SLOT, "dropping the temporary slots", 20)
+        wait_until(lambda: self.cluster.value(slots) == SLOT, "dropping the temporary slots", 60)
         if left := [it.name for it in self.store.parent.glob(f"{self.store.name}.copying*")]:
             raise Failed(f"left: {left}")
         if missed := checkpoint_of(self.store)[1].get("count"):

@@ -5,14 +5,22 @@ from __future__ import annotations
 
 import contextlib
 import json
+import random
 import sqlite3
 import tempfile
 import unittest
+from collections import Counter
 from pathlib import Path
+from unittest import mock
 
 from feed_replay import Replay
+from stores.contents import Contents
+from stores.text import Writer
+
+from . import stored
 
 try:
+    from live_server import feeds
     from live_server.errors import Failed
     from live_server.feeds import (
         HAS,
@@ -21,8 +29,8 @@ try:
         Reader,
         Tables,
         Unlike,
+        base_of,
         compare_file,
-        definition_of,
         digests_of_replay,
         explained,
         has,
@@ -94,6 +102,29 @@ class Compared(unittest.TestCase):
             )
 
 
+class Based(unittest.TestCase):
+    def test_a_table_that_was_altered_behind_the_copy(self) -> None:
+        """The rows of a copy have the columns that the table had there."""
+        store = Path(self.enterContext(tempfile.TemporaryDirectory())) / "copy.db"
+        writer = Writer(store, random.Random(1))
+        writer.make(1024)
+        key, row = stored.keyed_row(1, b"x")
+        writer.write(Contents(), Contents({stored.STOCK: stored.KEYED}, {key: row}, 0x130))
+        rows = {("public", "stock"): Counter({("1", "x"): 1})}
+        with mock.patch.multiple(
+            feeds,
+            rows_of_store=lambda *_: (rows, "0/130"),
+            published=lambda *_: [("public", "stock", ""), ("public", "other", "")],
+            columns_of=lambda *_: [("id", "integer"), ("name", "text"), ("more", "integer")],
+        ):
+            state = base_of(mock.MagicMock(), Path("program"), store, "pgsub")
+        (definition,) = state.definitions.values()
+        self.assertEqual(definition["columns"], [["id", 23, -1], ["name", 25, -1]])
+        altered = [*definition["columns"], ["more", 23, -1]]
+        state.describe({**definition, "columns": altered})
+        self.assertEqual(state.rows, {stored.STOCK: Counter({("1", "x", None): 1})})
+
+
 class OfTables(unittest.TestCase):
     """A file of one table with a row, compared with others."""
 
@@ -143,16 +174,16 @@ class OfTables(unittest.TestCase):
         }
         found = {kind: HAS[kind][1](text) for kind, text in texts.items()}
         self.assertEqual(list(found.values()), [7, -7, (1 << 63) - 1, 1, b"\0\xff", 0.1, "NaN"])
-        for kind, row in (
-            ("numeric", (1.5, "1.50")),
-            ("numeric(15,2)", (1.5,)),
-            ("numeric(3,-300)", (1.5, "1.50")),
-            ("numeric(16,2)", (1.5, "1.50")),
-            ("numeric[]", ("1.50",)),
+        for kind, modifier, row in (
+            ("numeric", -1, (1.5, "1.50")),
+            ("numeric(15,2)", (15 << 16 | 2) + 4, (1.5,)),
+            ("numeric(3,-300)", (3 << 16 | -300 & 0x7FF) + 4, (1.5, "1.50")),
+            ("numeric(16,2)", (16 << 16 | 2) + 4, (1.5, "1.50")),
+            ("numeric[]", None, ("1.50",)),
         ):
             self.assertEqual(valued([has(kind)], ("1.50",)), row)
-            if kind != "numeric[]":
-                self.assertEqual(kind_of(*definition_of(kind)), kind)
+            if modifier is not None:
+                self.assertEqual(kind_of(1700, modifier), kind)
 
     def replayed(self, b: str) -> Replay:
         state = Replay(0x100)

@@ -194,12 +194,14 @@ class Cluster:
         """How many partitions a topic has, which is made where brokers make topics."""
         end = time.monotonic() + CONNECT
         while topic not in self.counts:
+            # (where the machine has stood still it is looked once more)
+            is_late = time.monotonic() > end
             found = self.patiently(lambda time: self.producer.list_topics(topic, time)).topics[
                 topic
             ]
             if found.partitions and not found.error:
                 self.counts[topic] = len(found.partitions)
-            elif time.monotonic() > end:
+            elif is_late:
                 raise EngineError(
                     f"{self.where}: there is no topic {topic}, and the brokers don't make it: make it"
                 )
@@ -240,8 +242,9 @@ class Cluster:
             consumer.close()
 
     def received(self, consumer: Any) -> bytes:
-        end = time.monotonic() + LONGEST
-        while time.monotonic() < end:
+        end, is_late = time.monotonic() + LONGEST, False
+        while not is_late:
+            is_late = time.monotonic() > end
             self.look()
             message = consumer.poll(TICK)
             if message is not None and not message.error():
