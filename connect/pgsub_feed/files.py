@@ -7,6 +7,7 @@ import time
 from collections.abc import Callable, Iterator
 
 from .errors import Passing
+from .interruption import Check, never
 from .ownership import real, succeed
 
 LOG = "-wal"
@@ -116,9 +117,10 @@ def remove_files(path: str) -> None:
 
 
 @contextlib.contextmanager
-def placed(into: str, mode: int) -> Iterator[str]:
-    """Gives the name of a new empty file, which gets the name `into` and the mode at the end. A
-    link stays, and leads to it. An error leaves nothing of it."""
+def placed(into: str, mode: int, check: Check = never) -> Iterator[str]:
+    """Gives the name of a new empty file, which gets the name `into` and the mode at the end, once
+    the disk has it and unless `check` raises. A link stays, and leads to it. An error leaves
+    nothing of it."""
     into = meant(into)
     new = own_name(into)
     try:
@@ -131,6 +133,8 @@ def placed(into: str, mode: int) -> Iterator[str]:
             os.fsync(file)
         finally:
             os.close(file)
+        # (the disk may have taken long)
+        check()
         for suffix in OF_FILE[1:]:
             remove(into + suffix)
         os.replace(new, into)

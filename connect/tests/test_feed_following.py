@@ -22,14 +22,17 @@ from feed_text import About, Column, Line, entry_text
 from pgsub_connect.commands import tables as tables_module
 from pgsub_connect.commands import wait
 from pgsub_connect.commands.tables import Options
-from pgsub_feed.errors import Passing, Unfit
+from pgsub_feed.errors import Passing, Stopped, Unfit
 from pgsub_feed.faults import Damaged
 from pgsub_feed.interruption import never
 from pgsub_feed.program import Worker, stop_by_signals
 from pgsub_feed.reader import following
 from pgsub_feed.reader.commits import Commit
 from pgsub_feed.reader.polling import Poll
+from pgsub_feed.reader.reading import Reading
 from pgsub_feed.tables.file import Rows
+from pgsub_feed.tables.first_rows import make
+from pgsub_feed.tables.values import BOTH
 
 from .feeds import ID, NAME, FeedCase, delete, insert, table, truncate, update
 from .vectors import logged
@@ -346,6 +349,38 @@ class Transactions(FollowingCase):
             Exception, "another process has written it meanwhile"
         ):
             rows.begin()
+
+    def test_another_file_gets_the_name(self) -> None:
+        """What is written to this one nobody would read."""
+        self.feed.commit(0x100, [insert("1", "a", of=KEYED)])
+        self.options = dataclasses.replace(self.options, once=True)
+        with logged():
+            tables_module.follow_feed(self.options, never)
+        rows = Rows(self.into)
+        shutil.copy(self.into, self.into + ".copy")
+        os.replace(self.into + ".copy", self.into)
+        with contextlib.closing(rows.db), self.assertRaisesRegex(
+            Passing, "another file has its name by now"
+        ):
+            rows.begin()
+
+    def test_the_end_is_asked_for_before_a_file_has_its_name(self) -> None:
+        """As where what has started this is gone, and another one makes the file."""
+        synced = list[int]()
+        real = os.fsync
+
+        def sync(file: int) -> None:
+            synced.append(file)
+            real(file)
+
+        def check() -> None:
+            if synced:
+                raise Stopped
+
+        self.feed.commit(0x100, [insert("1", "a", of=KEYED)])
+        with mock.patch("pgsub_feed.files.os.fsync", sync), self.assertRaises(Stopped):
+            make(self.into, Reading(str(self.path), follows=False), BOTH, check)
+        self.assertEqual([it for it in os.listdir(self.folder) if it.startswith("rows")], [])
 
 
 class Back(FollowingCase):

@@ -120,6 +120,7 @@ class Truncated(PrintingCase):
         self.assertEqual((len(self.lines(self.out)), len(self.lines(self.said))), (4, 1))
         self.assertEqual(self.run_bulk("--on-truncate", "/none/at/all"), PASSING)
         self.assertEqual(self.run_bulk("--on-truncate", "'"), 2)
+        self.assertEqual(self.run_bulk("--on-truncate", " "), 2)
         self.assertEqual(self.run_bulk(), UNFIT)
         self.write(0)
         self.assertEqual(self.run_bulk("--on-truncate", str(self.script), "--from", "0/200"), 0)

@@ -12,7 +12,9 @@ import socket
 import subprocess
 import sys
 import time
+from collections.abc import Iterator
 from pathlib import Path
+from types import SimpleNamespace
 from typing import Any
 from unittest import mock
 
@@ -21,9 +23,11 @@ from feed_text import Writer
 import pgsub_feed
 from pgsub_feed import Commit, Damaged, FileError, Insert, Passing, Truncate, Unfit
 from pgsub_feed.errors import Stopped, UsageError
+from pgsub_feed.interruption import never
 from pgsub_feed.pipe import following
-from pgsub_feed.pipe.following import Address
+from pgsub_feed.pipe.following import Address, Remote
 from pgsub_feed.pipe.pipes import Cut, Pipes
+from pgsub_feed.reader.segments import Reader
 
 from .bases import make_base
 from .feeds import STOCK, FeedCase, insert, table
@@ -67,6 +71,31 @@ class PipeCase(FeedCase):
 
     def noted(self) -> str:
         return (self.path / "readers/mine").read_text().strip()
+
+
+class Pieces(FeedCase):
+    def test_a_long_line_is_put_together_once(self) -> None:
+        """It comes in thousands of pieces."""
+        added = list[int]()
+
+        class Piece(bytes):
+            def __radd__(self, other: bytes) -> bytes:
+                added.append(len(other))
+                return other + bytes(self)
+
+        def pieces(size: int) -> Iterator[bytes]:
+            content = self.feed.path.read_bytes()[-size:]
+            return (Piece(content[at : at + 100]) for at in range(0, size, 100))
+
+        self.feed.commit(0x100, [insert("1", "x" * 10000), insert("2", "b")])
+        with contextlib.closing(Reader(str(self.path), 0)) as reader:
+            commit = reader.next()
+            assert commit
+            expected = list(reader.parts(commit))
+        remote = Remote("ssh://h/feed", 0, False, None, never, lambda commit, parts: list(parts))
+        pipes: Any = SimpleNamespace(pieces=pieces)
+        self.assertEqual(list(remote.parts(pipes, commit)), expected)
+        self.assertLess(sum(added), 1000)
 
 
 class Reads(PipeCase):

@@ -116,6 +116,15 @@ class Messages(KafkaCase):
         self.assertEqual([len(it) for it in truncated], [1, 1, 1])
         self.assertEqual({it[0].numbers() for it in truncated}, {(0x100, 1, 0)})
 
+    def test_a_topic_that_gets_more_partitions(self) -> None:
+        """A later TRUNCATE is for rows of these, too."""
+        self.take(insert("1", "a"))
+        self.run_it()
+        engine = self.engine()
+        for count in (3, 4):
+            self.assertEqual(engine.cluster.partitions(STOCK), count)
+            self.server.topics[STOCK].append([])
+
     def test_schemas_and_properties(self) -> None:
         self.take(insert("1", "a"))
         self.url = "kafka://h?schemas=true&topic.prefix=shop&tombstones.on.delete=false"

@@ -23,6 +23,9 @@ class Command:
             self.words, self.check = shlex.split(text), check
         except ValueError as error:
             raise UsageError(f"--on-truncate {text}: {error}") from None
+        if not self.words:
+            # (else the table's name would be run)
+            raise UsageError(f"--on-truncate {text!r}: it names no command")
 
     def run(self, commit: Commit, relation: Relation, index: str) -> None:
         """Runs it, once all lines before were written. A Passing says that it failed."""

@@ -27,6 +27,7 @@ from ..reader.lines import (
     read_object,
     shown,
     text,
+    whole_lines,
 )
 from ..reader.polling import PATIENCE
 from ..reader.whole import parts_of
@@ -203,14 +204,11 @@ class Remote(Generic[Read]):
             raise Damaged(COUNTS, self.url, 0, f"{n} rows, where {commit.changes} are told")
 
     def parts(self, pipes: Pipes, commit: Commit) -> Iterator[Part]:
-        begun, decoder = b"", self.decoder
+        decoder, told = self.decoder, "the commit's last line has no end where its bytes end"
         decoder.begin(commit, lambda number, at, what: Damaged(number, self.url, at, what))
-        for piece in pipes.pieces(commit.bytes):
-            *lines, begun = (begun + piece).split(b"\n")
-            yield from decoder.read(lines) if lines else ()
-        if begun:
-            told = "the commit's last line has no end where its bytes end"
-            raise Damaged(COUNTS, self.url, commit.bytes, told)
+        pieces, at = pipes.pieces(commit.bytes), commit.bytes
+        for lines in whole_lines(pieces, lambda: Damaged(COUNTS, self.url, at, told)):
+            yield from decoder.read(lines)
         decoder.finish()
 
     def end(self, line: bytes) -> None:

@@ -4,7 +4,7 @@ import binascii
 import functools
 import json
 import re
-from collections.abc import Callable, Iterator, Sequence
+from collections.abc import Callable, Iterable, Iterator, Sequence
 from typing import Any, NoReturn, cast
 
 from ..faults import COUNTS, LINE, UNDESCRIBED, WIDTH, Damaged
@@ -160,6 +160,20 @@ def read_whole(row: list[object]) -> Cells:
             raise ValueError
         cells.append(cell)
     return cells
+
+
+def whole_lines(pieces: Iterable[bytes], fault: Callable[[], Damaged]) -> Iterator[list[bytes]]:
+    """The lines of what comes in pieces, without their ends, some at a time: a line may be as long as
+    a commit. `fault` makes the error of one that has no end."""
+    begun = list[bytes]()
+    for piece in pieces:
+        first, *more = piece.split(b"\n")
+        begun.append(first)
+        if more:
+            yield [b"".join(begun), *more[:-1]]
+            begun = more[-1:]
+    if any(begun):
+        raise fault()
 
 
 class Decoder:

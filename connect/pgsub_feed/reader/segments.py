@@ -20,7 +20,7 @@ from ..errors import FileError, NoFeed, Unfit
 from ..faults import COMMIT_LINE, COUNTS, NOT_A_FEED, ORDER, OTHER_FEED, Damaged
 from ..texts import lsn_text, parse_lsn
 from .commits import XID, Closing, Commit, Cursor, Head, Part
-from .lines import COMMIT_SIZE, HEAD_SIZE, Decoder, read_commit, read_head, shown
+from .lines import COMMIT_SIZE, HEAD_SIZE, Decoder, read_commit, read_head, shown, whole_lines
 
 NAME = re.compile(r"[0-9A-Fa-f]{16}")
 CONFIRMED = "confirmed"
@@ -126,21 +126,17 @@ class Segment:
 
     def lines(self, offset: int, size: int) -> Iterator[list[bytes]]:
         """The lines of these bytes without their ends, some at a time."""
-        end, begun = offset + size, list[bytes]()
+        end, text = offset + size, "the commit's last line has no end where its bytes end"
+        return whole_lines(self.pieces(offset, end), lambda: Damaged(COUNTS, self.path, end, text))
+
+    def pieces(self, offset: int, end: int) -> Iterator[bytes]:
+        """The bytes between two offsets, some at a time."""
         while offset < end:
             piece = self.read(offset, min(CHUNK, end - offset))
             if not piece:
                 raise Damaged(COUNTS, self.path, offset, "the segment was cut while it was read")
             offset += len(piece)
-            first, *more = piece.split(b"\n")
-            begun.append(first)
-            if more:
-                yield [b"".join(begun), *more[:-1]]
-                begun = more[-1:]
-        if any(begun):
-            raise Damaged(
-                COUNTS, self.path, end, "the commit's last line has no end where its bytes end"
-            )
+            yield piece
 
     def is_there(self) -> bool:
         """Whether the name is still that of the open file."""

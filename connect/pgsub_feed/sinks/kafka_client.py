@@ -115,8 +115,6 @@ class Cluster:
         self.failed: Any = None
         self.told = ""
         self.config = {**config, SERVERS: servers, "client.id": f"pgsub {os.getpid()}"}
-        # by topic how many partitions it has
-        self.counts = dict[str, int]()
         mine: dict[str, Any] = {
             **OWN,
             **self.config,
@@ -191,23 +189,20 @@ class Cluster:
         self.topics = self.listed().topics
 
     def partitions(self, topic: str) -> int:
-        """How many partitions a topic has, which is made where brokers make topics."""
+        """How many partitions a topic has just now, which is made where brokers make topics."""
         end = time.monotonic() + CONNECT
-        while topic not in self.counts:
+        while True:
             # (where the machine has stood still it is looked once more)
             is_late = time.monotonic() > end
-            found = self.patiently(lambda time: self.producer.list_topics(topic, time)).topics[
-                topic
-            ]
+            listed = self.patiently(lambda time: self.producer.list_topics(topic, time))
+            found = listed.topics[topic]
             if found.partitions and not found.error:
-                self.counts[topic] = len(found.partitions)
-            elif is_late:
+                return len(found.partitions)
+            if is_late:
                 raise EngineError(
                     f"{self.where}: there is no topic {topic}, and the brokers don't make it: make it"
                 )
-            else:
-                time.sleep(TICK)
-        return self.counts[topic]
+            time.sleep(TICK)
 
     def make_compacted(self, topic: str) -> None:
         """Makes a topic of one partition that keeps its last message for ever, where it isn't there

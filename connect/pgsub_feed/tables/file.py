@@ -30,6 +30,7 @@ from .schema import (
     read_folder,
 )
 from .set_aside import CANT_KEEP, Asides, Unkept, is_of_table, nested, reason
+from .sqlite_files import inode_of
 from .table import IS_MINUS_ZERO, Kept, is_minus_zero, rows_index
 from .target import key_index
 from .user_sql import Init
@@ -56,7 +57,7 @@ class Rows:
         self.path, self.init, self.keys, self.form = path, init, Keys(known), form
         self.indexes = indexes
         self.db = sqlite3.connect(path, timeout=BUSY, isolation_level=None, cached_statements=2000)
-        self.asides = Asides(self.db, path)
+        self.number, self.asides = inode_of(path), Asides(self.db, path)
         try:
             self.set_up()
             self.reload()
@@ -70,12 +71,8 @@ class Rows:
         if self.db.execute("PRAGMA journal_mode = WAL").fetchone()[0] != "wal":
             raise FileError(f"{self.path}: SQLite can't keep a log beside the file there")
         # (what a power cut takes, the feed still has)
-        for pragma in (
-            "synchronous = NORMAL",
-            "legacy_alter_table = ON",
-            "foreign_keys = OFF",
-            "cache_size = -32000",
-        ):
+        settings = "synchronous = NORMAL", "legacy_alter_table = ON", "foreign_keys = OFF"
+        for pragma in (*settings, "cache_size = -32000"):
             self.db.execute(f"PRAGMA {pragma}")
         self.db.create_function(IS_MINUS_ZERO, 1, is_minus_zero, deterministic=True)
 
@@ -124,9 +121,11 @@ class Rows:
         """Begins a transaction, unless one is open."""
         if not self.db.in_transaction:
             self.db.execute("BEGIN IMMEDIATE")
+            # (one that is about to end, since what has started it was killed)
             if self.position() != self.at:
-                # (one that is about to end, since what has started it was killed)
                 raise Passing(f"{self.path}: another process has written it meanwhile")
+            if inode_of(self.path) not in (None, self.number):
+                raise Passing(f"{self.path}: another file has its name by now")
 
     def settle(self, at: int) -> None:
         """Ends the transaction: the rows are those after the commit that ends there."""

@@ -94,7 +94,7 @@ def make(
             remove(base)
     else:
         files = first_rows_of(reading, check)
-        with placed(into, reading.mode) as new:
+        with placed(into, reading.mode, check) as new:
             make_empty(new, reading)
             if files:
                 fill(new, files, form, check, keys)
@@ -127,7 +127,7 @@ def make_from(base: str, into: str, reading: Reading, form: str, check: Check) -
     if not (os.path.isfile(base) and (is_export(base) or is_tables(base))):
         raise FileError(f"--base {base}: it is no export, nor a file of tables that follow a feed")
     check_base(base, form)
-    with placed(into, reading.mode) as new:
+    with placed(into, reading.mode, check) as new:
         if is_tables(base):
             clone(base, new)
             return

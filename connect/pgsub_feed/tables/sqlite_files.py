@@ -51,6 +51,14 @@ def opened(path: str) -> sqlite3.Connection:
     return sqlite3.connect(name, uri=True, timeout=10.0, isolation_level=None)
 
 
+def inode_of(path: str) -> tuple[int, int] | None:
+    """Which file has a name, None where none has."""
+    with contextlib.suppress(FileNotFoundError):
+        about = os.stat(path)
+        return about.st_dev, about.st_ino
+    return None
+
+
 def end_log(path: str) -> None:
     """Has a file that is about to get another name need no log beside it. An error says that it
     can't be, as where the disk is full."""
