@@ -1151,8 +1151,8 @@ BUGS = (
     Bug(
         "time that a machine has slept through ends the wait for a topic",
         "pgsub_feed/sinks/kafka_client.py",
-        "elif is_late:",
-        "elif time.monotonic() > end:",
+        "if is_late:",
+        "if time.monotonic() > end:",
         ("test_sink_kafka",),
     ),
     Bug(
