@@ -121,6 +121,10 @@ class FollowingCase(FeedCase):
         self.into = str(self.folder / "rows.db")
         self.options = Options(feed=str(self.path), into=self.into)
         self.child = 0
+        # (whoever writes the feed here may be held up for seconds)
+        patched = mock.patch("pgsub_feed.reader.polling.PATIENCE", 60.0)
+        patched.start()
+        self.addCleanup(patched.stop)
 
     def fork(self, call: Callable[[], int]) -> int:
         """Starts a process that ends with the status which the call returns."""

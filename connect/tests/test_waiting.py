@@ -175,7 +175,8 @@ class Told(FeedCase):
         started(self, kept)
         self.assertTrue(wait_for(lambda: any("from 0/" in it for it in self.said)), self.said)
         kept.ask(0x100)
-        self.assertTrue(wait_for(lambda: kept.at == 0x100))
+        # (it has told that it was started, and that)
+        self.assertTrue(wait_for(lambda: self.woken >= 2 and kept.at == 0x100))
         time.sleep(0.1)
         return kept
 
@@ -209,10 +210,10 @@ class Told(FeedCase):
             kept.ask(lsn)
         self.feed.commit(0x280, [insert("3", "x")])
         kept.tell()
-        self.assertTrue(wait_for(lambda: kept.at == 0x280))
+        self.assertTrue(wait_for(lambda: kept.at == 0x280 and self.woken > before))
         self.feed.commit(0x300, [insert("4", "x")])
         kept.tell()
-        self.assertTrue(wait_for(lambda: kept.at == 0x300))
+        self.assertTrue(wait_for(lambda: kept.at == 0x300 and self.woken > before + 1))
         self.assertEqual(self.woken, before + 2)
 
     def test_others_that_are_started_are_asked_again(self) -> None:
