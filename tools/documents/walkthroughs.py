@@ -33,6 +33,7 @@ FENCE = re.compile(r"^```")
 LSN = re.compile(r"\b[0-9A-F]{1,8}/[0-9A-F]{1,8}\b")
 TIME = re.compile(r"\b\d{4}-\d\d-\d\d[T ]\d\d:\d\d:\d\d(?:\.\d+)?Z?")
 ANY = ".."
+BESIDE = re.compile(r"\b(?:info|warning|error): (?:tables|sink \S+): ")
 # how long a command may take, and what a reader takes from one block to the next while something
 # goes on
 SECONDS = 120.0
@@ -136,6 +137,15 @@ def is_printed(expected: Sequence[str], printed: Sequence[str], is_whole: bool) 
     )
 
 
+def are_printed(expected: Sequence[str], printed: Sequence[str], is_whole: bool) -> bool:
+    """The same, where a follower passes on what a process beside it says: which of the two is first
+    isn't told by anything."""
+    mine, theirs = ([it for it in expected if bool(BESIDE.search(it)) == is_of] for is_of in (0, 1))
+    own, others = ([it for it in printed if bool(BESIDE.search(it)) == is_of] for is_of in (0, 1))
+    apart = [it for line in theirs for it in (ANY, line)]
+    return is_printed(mine, own, is_whole) and is_printed(apart, others, False)
+
+
 def hear_interrupts() -> None:
     """Has a command hear Ctrl-C, which it wouldn't where this was started in the background of a
     script."""
@@ -184,7 +194,7 @@ class Running:
     def difference(self, varies: bool, is_whole: bool) -> str | None:
         expected = [likened(it, varies) for it in self.command.expected]
         printed = [likened(it, varies) for it in self.printed()]
-        if is_printed(expected, printed, is_whole):
+        if are_printed(expected, printed, is_whole):
             return None
         told = "\n".join(f"    {it}" for it in self.printed())
         return f"line {self.command.line}: `{self.command.text}` printed\n{told}"

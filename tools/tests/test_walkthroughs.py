@@ -5,7 +5,15 @@ import tempfile
 import unittest
 from pathlib import Path
 
-from documents.walkthroughs import Command, Malformed, blocks_of, is_printed, likened, run_kind
+from documents.walkthroughs import (
+    Command,
+    Malformed,
+    are_printed,
+    blocks_of,
+    is_printed,
+    likened,
+    run_kind,
+)
 
 TEXT = """# Title
 
@@ -82,6 +90,19 @@ class Comparing(unittest.TestCase):
         for expected, printed, is_whole, answer in rows:
             with self.subTest(expected=expected, printed=printed):
                 self.assertEqual(is_printed(expected, printed, is_whole), answer)
+
+    def test_lines_of_a_process_beside_may_come_at_any_time(self) -> None:
+        follows, tables = "info: following slot pgsub", "info: tables: rows.db follows"
+        for printed, answer in (
+            ([follows, tables], True),
+            ([tables, follows], True),
+            (["info: tables: it begins", follows, tables], True),
+            ([follows], False),
+            ([tables], False),
+            ([tables, "info: copying", follows], False),
+        ):
+            with self.subTest(printed=printed):
+                self.assertEqual(are_printed((follows, tables), printed, True), answer)
 
     def test_lsns_and_times_vary_with_a_server(self) -> None:
         self.assertEqual(likened("2026-11-25T09:00:00Z at 0/25504038", True), "TIME at LSN")
