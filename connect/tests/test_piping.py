@@ -12,6 +12,7 @@ import socket
 import subprocess
 import sys
 import time
+import unittest
 from collections.abc import Iterator
 from pathlib import Path
 from types import SimpleNamespace
@@ -32,6 +33,7 @@ from pgsub_feed.reader.segments import Reader
 from .bases import make_base
 from .feeds import STOCK, FeedCase, insert, table
 from .test_consumer import EXAMPLE, random_lines, replayed
+from .vectors import logged
 
 CONNECT = Path(__file__).resolve().parent.parent
 OTHER = table(2, "other", schema="sales")
@@ -96,6 +98,37 @@ class Pieces(FeedCase):
         pipes: Any = SimpleNamespace(pieces=pieces)
         self.assertEqual(list(remote.parts(pipes, commit)), expected)
         self.assertLess(sum(added), 1000)
+
+
+class Delays(unittest.TestCase):
+    def delays(self, lasts: float) -> list[float]:
+        """How long it waits after each of some cuts of ways that last so many seconds."""
+        remote = Remote("ssh://h/feed", 0, True, None, never, lambda commit, parts: None)
+        remote.was_there, now, found = True, [0.0], list[float]()
+
+        def received(_: object) -> Iterator[None]:
+            now[0] += lasts
+            yield from ()
+            raise Cut("it has ended")
+
+        def rest() -> None:
+            found.append(remote.delay)
+            remote.delay *= 2
+            if len(found) == 4:
+                raise Stopped
+
+        clock = mock.patch("time.monotonic", lambda: now[0])
+        with mock.patch.object(following, "Link"), clock, mock.patch.multiple(
+            remote, received=received, rest=rest
+        ):
+            with logged(), self.assertRaises(Stopped):
+                list(remote.commits())
+        return found
+
+    def test_a_way_that_was_good_for_long_is_made_again_soon(self) -> None:
+        """Also where no commit came by it."""
+        self.assertEqual(self.delays(1.0), [0.2, 0.4, 0.8, 1.6])
+        self.assertEqual(self.delays(100.0), [0.2] * 4)
 
 
 class Reads(PipeCase):

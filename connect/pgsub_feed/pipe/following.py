@@ -124,7 +124,7 @@ class Remote(Generic[Read]):
     def commits(self) -> Iterator[Read]:
         """What is made of each commit. Whoever asks for the next one has done with the one before."""
         while True:
-            link = Link(self.words, self.check)
+            link, began = Link(self.words, self.check), time.monotonic()
             try:
                 with contextlib.closing(link):
                     yield from self.received(link.pipes)
@@ -134,6 +134,9 @@ class Remote(Generic[Read]):
             except Damaged as damaged:
                 # (the filter may be about to cut it off)
                 self.bear_damaged(damaged)
+            if time.monotonic() - began > LONGEST_DELAY:
+                # (the way there was good for long, though nothing came)
+                self.delay = FIRST_DELAY
             self.rest()
 
     def received(self, pipes: Pipes) -> Iterator[Read]:
@@ -231,7 +234,7 @@ class Remote(Generic[Read]):
             raise Passing(f"{self.url} can't be read: {why}") from None
         if not self.is_cut:
             log.warning(
-                f"{self.url}: {why}. It is tried again, each {LONGEST_DELAY:.0f} s at least"
+                f"{self.url}: {why}. It is tried again, at least every {LONGEST_DELAY:.0f} seconds"
             )
         self.is_cut = True
 
