@@ -61,7 +61,7 @@ class Alone(FeedCase):
             env=environment,
             capture_output=True,
             text=True,
-            timeout=60,
+            timeout=300,
         )
         self.assertEqual((done.returncode, done.stderr), (0, ""))
         return done.stdout

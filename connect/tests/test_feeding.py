@@ -788,6 +788,6 @@ class Tables(FeedCase):
             env=environment,
             capture_output=True,
             check=False,
-            timeout=60,
+            timeout=300,
         )
         self.assertIn("the following arguments are required: --feed, --into", done.stderr.decode())

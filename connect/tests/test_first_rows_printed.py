@@ -99,7 +99,7 @@ class Truncated(PrintingCase):
     def run_bulk(self, *words: str) -> int:
         command = [str(CONNECT / "pgsub-feed"), "--feed", str(self.path), "--format", "bulk"]
         with open(self.out, "wb") as out:
-            done = subprocess.run([*command, *words], stdout=out, timeout=60, check=False)
+            done = subprocess.run([*command, *words], stdout=out, timeout=300, check=False)
         return done.returncode
 
     def lines(self, path: Path) -> list[str]:

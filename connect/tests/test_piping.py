@@ -291,7 +291,7 @@ class Serves(PipeCase):
 
     def serve(self, said: bytes, *words: str) -> tuple[int, bytes]:
         command = [str(CONNECT / "pgsub-feed"), "--pipe", "--feed", str(self.path), *words]
-        done = subprocess.run(command, input=said, capture_output=True, timeout=60, check=False)
+        done = subprocess.run(command, input=said, capture_output=True, timeout=300, check=False)
         return done.returncode, done.stdout
 
     def test_words(self) -> None:

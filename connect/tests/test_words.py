@@ -348,7 +348,7 @@ class Ends(Quiet):
 
     def test_version(self) -> None:
         done = subprocess.run(
-            [CONNECT + "/pgsub-connect", "--version"], capture_output=True, check=True, timeout=60
+            [CONNECT + "/pgsub-connect", "--version"], capture_output=True, check=True, timeout=300
         )
         self.assertRegex(
             done.stdout.decode(), r"^pgsub-connect \d+\.\d+\.\d+( \([0-9a-f]{7,}.*\))?\n"
