@@ -10,8 +10,10 @@ use Rattle.clap.specs.declared.parser.matches.ArgMatches.{ArgMatches}
 use Rattle.clap.proofs.OnLiterals.{clap_on_literals}
 use Rattle.pgcommand.specs.declared.fault.CommandFault.{CommandFault}
 use Rattle.pgcommand.specs.declared.fault.CommandFault.TheVariants.{Usage, Memory}
+use Rattle.clap.specs.declared.error.kind.ErrorKind.TheVariants.{InvalidValue}
 use Rattle.clap.specs.declared.error.kind.ErrorKind.TheVariants.{MissingRequiredArgument}
-use Rattle.pgcommand.specs.Asked.{IsCommandName, IsRefusalOf, IsUsage, LacksWord, pgsub_app}
+use Rattle.pgcommand.specs.Asked.{IsCommandName, IsRefusalOf, IsUsage, LacksWord, MisnamesWatch}
+use Rattle.pgcommand.specs.Asked.{pgsub_app}
 use Rattle.pgcommand.proofs.Meeting.{names_one}
 
 simple_pgsub : is_simple pgsub_app ≡ true
@@ -54,7 +56,13 @@ refused_as words app error (Usage told) same is kinds =
 pub refused_without : (words : List Text) (error : Error) (told : CommandFault) → LacksWord words → kind_of error ≡ MissingRequiredArgument
     → IsUsage error told → IsRefusalOf words told
 refused_without words error Memory lacks kind is = tt
-refused_without words error (Usage told) lacks kind is = inr (lacks, ap kind_of is.0 ∙ kind)
+refused_without words error (Usage told) lacks kind is = inr (inl (lacks, ap kind_of is.0 ∙ kind))
+
+-- where a word isn't known
+pub refused_misnamed : (words : List Text) (error : Error) (told : CommandFault) → MisnamesWatch words → kind_of error ≡ InvalidValue
+    → IsUsage error told → IsRefusalOf words told
+refused_misnamed words error Memory misnames kind is = tt
+refused_misnamed words error (Usage told) misnames kind is = inr (inr (misnames, ap kind_of is.0 ∙ kind))
 
 some-inj : {X : Type 0} {x y : X} → Some x ≡ Some y → x ≡ y
 some-inj {X} {x} {y} e = ap (λ (o : Option X). unwrap_or o x) e

@@ -1,15 +1,17 @@
 -- Commands that are built up, and what their matches give.
 use Rattle.std.proofs.Common.{◌≡◌, ◌∙◌, ◌||◌, ◌↔◌, ◌≤◌, ◌<◌, ◌^◌, ℕ, true, false, refl, nat_eq, sym}
 use Rattle.std.proofs.Common.{ap, ap₂, subst, arith, true≢false, List, Option, Some, None, Result}
-use Rattle.std.proofs.Common.{Ok, Err, unwrap_or, Bor}
-use Rattle.std.specs.Option.{option_map, is_some}
+use Rattle.std.proofs.Common.{Ok, Err, unwrap_or, Bor, Bool, ◌&&◌, not, codes}
+use Rattle.std.specs.Option.{option_and_then, option_map, is_some}
 use Rattle.std.proofs.lemmas.Bool.{eqb-true}
 use Rattle.std.specs.Str.Parse.{IsNumeral, ParsesUnsigned, digits_value, without_leading_plus}
-use Rattle.clap.specs.Words.{AddsArg, AddsSubcommand, App, ReadsOne, Rule, rule_of, with_rule}
-use Rattle.clap.specs.Words.{with_subcommand}
+use Rattle.clap.specs.Words.{AddsArg, AddsSubcommand, App, ReadsOne, Row, Rule, first_of, rule_of}
+use Rattle.clap.specs.Words.{with_rule, with_subcommand}
 use Rattle.clap.specs.declared.builder.arg.Arg.{Arg}
 use Rattle.clap.specs.declared.builder.command.Command.{Command}
-use Rattle.pgcommand.specs.Asked.{IsCommand, ReadsAsOne, ReadsOr, ReadsUpTo}
+use Rattle.pgcommand.specs.declared.watching.Watching.{Watching}
+use Rattle.pgcommand.specs.Asked.{IsCommand, ReadsAsOne, ReadsOr, ReadsUpTo, misnames_watch}
+use Rattle.pgcommand.specs.Asked.{watching_of}
 
 pub none≢some : {X : Type 0} {x : X} → None ≡ Some x → ⊥
 none≢some e = true≢false (sym (ap is_some e))
@@ -91,3 +93,19 @@ reads_or E G k most default (Some u) r below only none value =
 pub is_some_text : (o : Option (Bor (List ℕ))) → is_some o ≡ is_some (option_map (λ s. s.now) o)
 is_some_text None = refl
 is_some_text (Some s) = refl
+
+-- ---- the word of `--watch`
+
+abbrev misnames : Option (List ℕ) → Bool
+misnames o = is_some o && not (is_some (option_and_then watching_of o))
+
+pub not_given : (rows : List Row) → None ≡ first_of (codes "watch") rows → false ≡ misnames_watch rows
+not_given rows none = ap misnames none
+
+pub well_named : (rows : List Row) (word : List ℕ) (how : Watching) → Some word ≡ first_of (codes "watch") rows → watching_of word ≡ Some how
+    → false ≡ misnames_watch rows
+well_named rows word how given says = ap (λ (o : Option Watching). not (is_some o)) (sym says) ∙ ap misnames given
+
+pub misnamed : (rows : List Row) (word : List ℕ) → Some word ≡ first_of (codes "watch") rows → watching_of word ≡ None
+    → true ≡ misnames_watch rows
+misnamed rows word given says = ap (λ (o : Option Watching). not (is_some o)) (sym says) ∙ ap misnames given

@@ -1,7 +1,7 @@
 -- What the words of a command line ask for.
 use Rattle.std.specs.Prelude.{◌≡◌, ◌≢◌, ◌≤◌, ◌↔◌, ◌⊎◌, ◌||◌, not, if◌then◌else◌, ℕ, List, [], ◌∷◌}
 use Rattle.std.specs.Prelude.{Some, None, is_some, true, codes, string_bytes, Bool, false, Option}
-use Rattle.std.specs.Prelude.{unwrap_or, option_map, pos, String}
+use Rattle.std.specs.Prelude.{unwrap_or, option_map, option_and_then, pos, String, ◌&&◌, bytes_eq}
 use Rattle.std.specs.declared.alloc.Global.{Global}
 use Rattle.std.specs.Str.Parse.{IsNumeral, digits_value, without_leading_plus}
 use Rattle.clap.specs.declared.builder.command.Command.{Command}
@@ -11,7 +11,7 @@ use Rattle.clap.specs.Words.{new_app, new_rule, subcommand_of, with_rule, with_s
 use Rattle.clap.specs.Simple.{on_top}
 use Rattle.clap.specs.declared.error.Error.{Error}
 use Rattle.clap.specs.declared.error.kind.ErrorKind.TheVariants.{MissingRequiredArgument}
-use Rattle.clap.specs.declared.error.kind.ErrorKind.TheVariants.{OutOfMemory}
+use Rattle.clap.specs.declared.error.kind.ErrorKind.TheVariants.{InvalidValue, OutOfMemory}
 use Rattle.clap.specs.declared.builder.action.ArgAction.TheVariants.{SetTrue}
 use Rattle.clap.specs.declared.builder.value_parser.ValueParser.TheVariants.{Signed, Unsigned}
 use Rattle.pgcommand.specs.declared.feed.FeedOptions.{FeedOptions}
@@ -19,6 +19,8 @@ use Rattle.pgcommand.specs.declared.limits.Limits.{Limits}
 use Rattle.pgcommand.specs.declared.task.Task.{Task}
 use Rattle.pgcommand.specs.declared.task.Task.TheVariants.{Show, Apply, Dump, Follow, Same, Resume}
 use Rattle.pgcommand.specs.declared.task.Task.TheVariants.{Lsn, Watch}
+use Rattle.pgcommand.specs.declared.watching.Watching.{Watching}
+use Rattle.pgcommand.specs.declared.watching.Watching.TheVariants.{Tell, Stop}
 use Rattle.pgcommand.specs.declared.fault.CommandFault.{CommandFault}
 use Rattle.pgcommand.specs.declared.fault.CommandFault.TheVariants.{Usage, Memory}
 use Rattle.pgorder.specs.declared.Version.{Version}
@@ -71,6 +73,14 @@ cache_rule = record (new_rule (codes "cache")) {
   defaults = codes "20000" ∷ [];
 }
 
+-- how the server is watched
+abbrev pub watch_rule : Rule
+watch_rule = record (new_rule (codes "watch")) { long = Some (codes "watch"); value_names = 1 }
+
+-- tables come first
+abbrev pub load_rule : Rule
+load_rule = record (new_rule (codes "load")) { long = Some (codes "load"); action = Some SetTrue }
+
 -- the folder of a feed
 abbrev pub feed_rule : Rule
 feed_rule = record (new_rule (codes "feed")) { long = Some (codes "feed"); value_names = 1 }
@@ -112,9 +122,9 @@ abbrev pub dump_app : App
 dump_app = with_rule (with_rule (new_app (codes "dump")) (store_rule true)) cache_rule
 
 abbrev pub follow_app : App
-follow_app = with_feed (with_rule
+follow_app = with_feed (with_rule (with_rule (with_rule
     (with_rule (with_rule (with_rule (with_rule (new_app (codes "follow")) proto_rule) max_buffered_rule) max_frame_rule) (store_rule true))
-    cache_rule)
+    cache_rule) watch_rule) load_rule)
 
 abbrev pub same_app : App
 same_app = with_rule (with_rule (with_rule (new_app (codes "same")) proto_rule) (word_rule (codes "LEFT"))) (word_rule (codes "RIGHT"))
@@ -196,6 +206,14 @@ abbrev pub AsksFeed : List Row → Option FeedOptions → Type 0
 AsksFeed rows None = first_of (codes "feed") rows ≡ None
 AsksFeed rows (Some feed) = IsFeed rows feed
 
+-- what a word says of how the server is watched
+abbrev pub watching_of : Text → Option Watching
+watching_of word = if bytes_eq word (codes "tell") then Some Tell else (if bytes_eq word (codes "stop") then Some Stop else None)
+
+-- how `--watch` asks for the server to be watched, and not at all where it isn't given
+abbrev pub watching_in : List Row → Option Watching
+watching_in rows = option_and_then watching_of (first_of (codes "watch") rows)
+
 abbrev pub IsAsked : Text → List Row → Task → Type 0
 IsAsked name rows (Show version file) = (name ≡ codes "show") × IsVersion rows version × (string_bytes file ≡ text_in (codes "FILE") rows)
 IsAsked name rows (Apply version limits raw progress store cache feed file) =
@@ -203,9 +221,9 @@ IsAsked name rows (Apply version limits raw progress store cache feed file) =
     × IsFlag (codes "progress") rows progress × NamesStore rows store × IsCache rows cache × AsksFeed rows feed
     × (string_bytes file ≡ text_in (codes "FILE") rows)
 IsAsked name rows (Dump store cache) = (name ≡ codes "dump") × IsCache rows cache × (string_bytes store ≡ text_in (codes "store") rows)
-IsAsked name rows (Follow version limits store cache feed) =
+IsAsked name rows (Follow version limits store cache feed watch load) =
     (name ≡ codes "follow") × IsVersion rows version × IsLimits rows limits × IsCache rows cache × AsksFeed rows feed
-    × (string_bytes store ≡ text_in (codes "store") rows)
+    × (watch ≡ watching_in rows) × IsFlag (codes "load") rows load × (string_bytes store ≡ text_in (codes "store") rows)
 IsAsked name rows (Same version left right) =
     (name ≡ codes "same") × IsVersion rows version × (string_bytes left ≡ text_in (codes "LEFT") rows)
     × (string_bytes right ≡ text_in (codes "RIGHT") rows)
@@ -236,21 +254,33 @@ tells_of_feed rows =
 abbrev pub lacks_word : List Row → Bool
 lacks_word rows = if is_given (codes "feed") rows then not (is_given (codes "store") rows) else tells_of_feed rows
 
+-- `--watch` is given with a word that says nothing of it
+abbrev pub misnames_watch : List Row → Bool
+misnames_watch rows = is_given (codes "watch") rows && not (is_some (watching_in rows))
+
 -- The words have no fault, and their subcommand, which lacks none, asks for the task.
 abbrev pub IsTaskOf : List Text → Task → Type 0
 IsTaskOf words task = (fault_of pgsub_app words ≡ []) × (name : Text) × (rows : List Row)
-    × (subcommand_of pgsub_app words ≡ Some (name, rows)) × (lacks_word rows ≡ false) × IsAsked name rows task
+    × (subcommand_of pgsub_app words ≡ Some (name, rows)) × (lacks_word rows ≡ false) × (misnames_watch rows ≡ false)
+    × IsAsked name rows task
 
 -- the words have no fault, but their subcommand lacks one
 abbrev pub LacksWord : List Text → Type 0
 LacksWord words = (fault_of pgsub_app words ≡ []) × (name : Text) × (rows : List Row) × (subcommand_of pgsub_app words ≡ Some (name, rows))
     × (lacks_word rows ≡ true)
 
+-- the words have no fault, but the one of `--watch` isn't known
+abbrev pub MisnamesWatch : List Text → Type 0
+MisnamesWatch words = (fault_of pgsub_app words ≡ []) × (name : Text) × (rows : List Row) × (subcommand_of pgsub_app words ≡ Some
+    (name, rows))
+    × (misnames_watch rows ≡ true)
+
 -- Why no task is given: an error of one of the kinds that the command line has at these words, a
--- word that is missing, or memory ran out.
+-- word that is missing or isn't known, or memory ran out.
 abbrev pub IsRefusalOf : List Text → CommandFault → Type 0
 IsRefusalOf words (Usage error) =
-    IsAmong (kind_of error) (fault_of pgsub_app words) ⊎ (LacksWord words × (kind_of error ≡ MissingRequiredArgument))
+    IsAmong (kind_of error) (fault_of pgsub_app words)
+    ⊎ ((LacksWord words × (kind_of error ≡ MissingRequiredArgument)) ⊎ (MisnamesWatch words × (kind_of error ≡ InvalidValue)))
 IsRefusalOf words Memory = Unit {0}
 
 -- out of memory is told apart from the other kinds

@@ -8,8 +8,9 @@ ghost use Rattle.pgcommand.specs.Asked.{store_rule, cache_rule, max_buffered_rul
 ghost use Rattle.pgcommand.specs.Asked.{feed_rule, feed_text_rule, feed_bytes_rule};
 ghost use Rattle.pgcommand.specs.Asked.{feed_seconds_rule, with_feed, show_app, apply_app};
 ghost use Rattle.pgcommand.specs.Asked.{dump_app, follow_app, same_app, resume_app, lsn_app};
-ghost use Rattle.pgcommand.specs.Asked.{watch_app, bare_app, pgsub_app};
+ghost use Rattle.pgcommand.specs.Asked.{watch_app, watch_rule, load_rule, bare_app, pgsub_app};
 
+use crate::watching::WATCHINGS;
 use clap::error::ErrorKind;
 use clap::{Arg, ArgAction, Command, Error, value_parser};
 use std::alloc::{AllocError, Global};
@@ -26,7 +27,8 @@ const FOLLOW_STATUSES: &str = "Exit statuses:
   13  the store or the feed failed, while it was open or as it was closed
   14  memory has run out
   15  standard input or output failed
-  16  the stream ended, and some of its changes found no row";
+  16  the stream ended, and some of its changes found no row
+  17  the server broke a rule, and --watch stop was given";
 
 /// What `watch --help` says of what it holds, and of how it ends.
 const WATCH_STATUSES: &str =
@@ -149,6 +151,28 @@ fn max_frame<'a>(alloc: Global) -> Arg<'a>
     option(alloc, "max-frame", "BYTES", help)
         .value_parser(value_parser!(u32).range(0..=2147483643))
         .default_value("16777216")
+}
+
+/// `--watch HOW`.
+fn watch<'a>(alloc: Global) -> Arg<'a>
+    ensures rule { rule_of result ≡ watch_rule }
+    ensures local { result.global ≡ false }
+{
+    let help =
+        "Watch the server for the rules of a well-formed one, and where it breaks one `tell` \
+        standard error of it, or `stop` too, before that frame is taken";
+    option(alloc, "watch", "HOW", help)
+}
+
+/// `--load`.
+fn load<'a>(alloc: Global) -> Arg<'a>
+    ensures rule { rule_of result ≡ load_rule }
+    ensures local { result.global ≡ false }
+{
+    Arg::new(alloc, "load")
+        .long("load")
+        .action(ArgAction::SetTrue)
+        .help("Before the first session, standard input has tables as COPY's text")
 }
 
 /// `--feed FOLDER`.
@@ -302,7 +326,10 @@ fn follow_command<'a>(alloc: Global) -> Result<Command<'a>, AllocError>
     ensures { IfOk result (IsCommand follow_app) }
 {
     let command = with_limits(alloc, bare_follow(alloc).arg(proto(alloc))?)?;
-    with_feed(alloc, with_store(alloc, command, true, STORE)?)
+    let command = with_store(alloc, command, true, STORE)?
+        .arg(watch(alloc))?
+        .arg(load(alloc))?;
+    with_feed(alloc, command)
 }
 
 /// The usage of `apply` with a feed.
@@ -310,6 +337,20 @@ const FED_APPLY: &str = "pgsub apply [OPTIONS] --store <FILE> --feed <FOLDER> <F
 
 /// The usage of `follow` with a feed.
 const FED_FOLLOW: &str = "pgsub follow [OPTIONS] --store <FILE> --feed <FOLDER>";
+
+/// The usage of `follow`.
+const FOLLOW: &str = "pgsub follow [OPTIONS] --store <FILE>";
+
+/// The error of a word for `--watch` that isn't known.
+pub(crate) fn unknown(alloc: Global, word: &str) -> Result<Error, AllocError>
+    ensures { IfOk result (λ error. kind_of error ≡ ErrorKind.InvalidValue) }
+{
+    let message = format!(in alloc;
+        "invalid value '{word}' for '--watch <HOW>'\n  [possible values: {WATCHINGS}]"
+    )?;
+    let mut command = Command::new(alloc, "pgsub").override_usage(FOLLOW);
+    command.error(ErrorKind::InvalidValue, message.as_str())
+}
 
 /// The error of words that lack this one, with the usage of their subcommand, `apply` or `follow`.
 pub(crate) fn missing(alloc: Global, name: &str, word: &str) -> Result<Error, AllocError>

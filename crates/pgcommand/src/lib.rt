@@ -27,16 +27,18 @@ mod fault;
 mod feed;
 mod limits;
 mod task;
+mod watching;
 
 pub use commands::VERSION;
-use commands::{missing, program};
+use commands::{missing, program, unknown};
 pub use fault::CommandFault;
 use fault::usage_fault;
 pub use feed::FeedOptions;
 pub use limits::Limits;
 use std::alloc::Global;
-use task::{missing_word, task_of};
+use task::{missing_word, task_of, unknown_watch};
 pub use task::{DEFAULT_CACHE, Task};
+pub use watching::Watching;
 
 /// Returns the task that the words ask for.
 ///
@@ -56,8 +58,11 @@ pub fn command_of(alloc: Global, words: &[String]) -> Result<Task, CommandFault>
     let Some((name, found)) = matches.subcommand() else {
         unreachable!()
     };
-    match missing_word(found) {
-        Some(word) => Err(usage_fault(missing(alloc, name, word)?)),
+    if let Some(word) = missing_word(found) {
+        return Err(usage_fault(missing(alloc, name, word)?));
+    }
+    match unknown_watch(found) {
+        Some(word) => Err(usage_fault(unknown(alloc, word)?)),
         None => Ok(task_of(alloc, name, found)?),
     }
 }

@@ -5,10 +5,12 @@ ghost use Rattle.std.specs.Prelude.{string_bytes};
 ghost use Rattle.clap.specs.Words.{first_of, found_of, one_of, rows_of};
 ghost use Rattle.pgcommand.specs.Asked.{AsksFeed, IsAsked, IsCache, IsCommandName, IsFeed, IsFlag};
 ghost use Rattle.pgcommand.specs.Asked.{IsLimits, NamesStore, ReadsAsOne, ReadsOr, ReadsUpTo};
-ghost use Rattle.pgcommand.specs.Asked.{IsVersion, is_given, lacks_word, tells_of_feed, text_in};
+ghost use Rattle.pgcommand.specs.Asked.{IsVersion, is_given, lacks_word, misnames_watch};
+ghost use Rattle.pgcommand.specs.Asked.{tells_of_feed, text_in, watching_in};
 
 use crate::feed::FeedOptions;
 use crate::limits::Limits;
+use crate::watching::Watching;
 use clap::ArgMatches;
 use pgorder::Version;
 use std::alloc::{AllocError, Global};
@@ -46,13 +48,17 @@ pub enum Task {
         cache: u32,
     },
     /// Follow a server: its bytes come from standard input, and statuses go to standard output.
-    /// Rows and position are kept in the file `store`.
+    /// Rows and position are kept in the file `store`. With `watch` the server is watched for the
+    /// rules that a well-formed one keeps. With `load`, tables as COPY's text come before the first
+    /// session.
     Follow {
         version: Version,
         limits: Limits,
         store: String,
         cache: u32,
         feed: Option<FeedOptions>,
+        watch: Option<Watching>,
+        load: bool,
     },
     /// Compare the rows and positions that two recordings lead to.
     Same {
@@ -199,6 +205,24 @@ pub(crate) fn missing_word(found: &ArgMatches<'_>) -> Option<&'static str>
     }
 }
 
+/// How `--watch` asks for the server to be watched, if it is given with a word that is known.
+fn watch_of(found: &ArgMatches<'_>) -> Option<Watching>
+    ensures { result ≡ watching_in (rows_of (found_of found.now)) }
+{
+    Watching::of(found.get_str("watch")?)
+}
+
+/// The word that `--watch` is given with, if it isn't known.
+pub(crate) fn unknown_watch<'a>(found: &ArgMatches<'a>) -> Option<&'a str>
+    ensures { is_some result ≡ misnames_watch (rows_of (found_of found.now)) }
+{
+    let word = found.get_str("watch")?;
+    match Watching::of(word) {
+        Some(_) => None,
+        None => Some(word),
+    }
+}
+
 /// The value of `--feed-segment-bytes`.
 fn segment_bytes_of(found: &ArgMatches<'_>) -> u64
     ensures { ReadsOr 67108864 18446744073709551615
@@ -277,6 +301,8 @@ fn follow_of(alloc: Global, found: &ArgMatches<'_>) -> Result<Task, AllocError>
         store,
         cache: cache_of(found),
         feed,
+        watch: watch_of(found),
+        load: flag_of(found, "load"),
     })
 }
 
