@@ -13,7 +13,9 @@ use std::io::{Read, Write};
 /// theirs failed.
 #[derive(Drop)]
 pub struct Link<R: Drop, W: Drop> {
-    pub(crate) reader: R,
+    /// What the server's bytes are read from. Who reads of it before the server is followed takes
+    /// these bytes away.
+    pub reader: R,
     pub(crate) writer: W,
     pub(crate) read_failed: bool,
     pub(crate) write_failed: bool,

@@ -38,7 +38,7 @@ nothing_is (x ∷ xs) none = absurd (omega (arith, none))
 pub none_left : (rest : List ℕ) (b : Bool) → b ≡ (length rest == 0) → b ≡ true → rest ≡ []
 none_left rest b same is = nothing_is rest (grind (arith, nat_tests))
 
-whole_of : (n : ℕ) (xs : List ℕ) → n ≡ length xs → take n xs ≡ xs
+pub whole_of : (n : ℕ) (xs : List ℕ) → n ≡ length xs → take n xs ≡ xs
 whole_of n xs e = take_all n xs (omega (arith, e))
 
 -- the bytes that were taken and those that are left are the same, once more are taken
@@ -48,11 +48,12 @@ same_bytes taken rest all n e =
     ap (λ (xs : List ℕ). (taken ++ take n rest) ++ xs) (take_rest rest n) ∙ append_assoc taken (take n rest) (drop n rest)
     ∙ ap (λ (xs : List ℕ). taken ++ xs) (take-append-drop n rest) ∙ e
 
-allowed_within : (max : ℕ) (f : wire.Frame) → max ≤ 2147483643 → wire.IsAllowed max f → wire.IsAllowed 2147483643 f
+pub allowed_within : (max : ℕ) (f : wire.Frame) → max ≤ 2147483643 → wire.IsAllowed max f → wire.IsAllowed 2147483643 f
 allowed_within max (wire.CopyData bytes) most h = (omega (arith, most, h.0), h.1)
 allowed_within max wire.CopyDone most h = tt
 
-breaks_of : (old new : Deframed) (piece : List ℕ) (x : WireFault) → old.fault ≡ None → x ≢ wire_fault.Memory → IsFed old piece (Err x) new
+pub breaks_of : (old new : Deframed) (piece : List ℕ) (x : WireFault) → old.fault ≡ None → x ≢ wire_fault.Memory → IsFed old piece (Err
+    x) new
     → wire.IsFramingFault old.max old.done (old.held ++ piece) x
 breaks_of old new piece wire_fault.Memory none other fed = absurd (other refl)
 breaks_of old new piece wire_fault.AfterDone none other fed =

@@ -3,4 +3,8 @@ pub mod Frames
 pub mod Pieces
 pub mod Steps
 pub mod Goes
+pub mod Lives
+pub mod Paths
+pub mod Guards
+pub mod Keeping
 pub mod Sessions

@@ -1,5 +1,6 @@
 -- The rules of a well-formed server, and how each stands after a watch.
 use Rattle.std.specs.Prelude.{ℕ, Bool, true, false, ◌||◌, not, Option, Some, None, if◌then◌else◌}
+use Rattle.std.specs.Prelude.{List, [], ◌∷◌, find}
 use Rattle.pgtuple.specs.declared.fault.TupleFault.TheVariants as tuple_fault
 use Rattle.pglogical.specs.declared.fault.Reason.{Reason}
 use Rattle.pglogical.specs.declared.fault.Reason.TheVariants as reason
@@ -79,6 +80,13 @@ breaks (end.Ended b) r = breach_breaks b r
 breaks (end.Unframed at fault) r = framing_breaks fault r
 breaks (end.Unsaid at fault) r = payload_breaks r
 breaks (end.Undecoded at fault) r = body_breaks fault.reason r
+
+abbrev pub all_rules : List Rule
+all_rules = rule.Order ∷ rule.Nested ∷ rule.Described ∷ rule.Keepalives ∷ rule.Frames ∷ rule.Texts ∷ rule.Messages ∷ []
+
+-- the rule that is broken, if one is
+abbrev pub broken_rule : End → Option Rule
+broken_rule e = find (breaks e) all_rules
 
 -- what came by which the rule could be broken
 abbrev pub is_seen : Seen → Rule → Bool

@@ -18,9 +18,9 @@ use pgwire::{Frame, ServerMsg, decode_server};
 
 /// Hears the data of XLogData.
 fn hear_body(watch: &mut Watch, seen: &mut Seen, at: u64, body: &[u8]) -> Result<(), End>
-    requires { watch.old.ended ≡ None }
-    ensures heard { OnOk result (HearsBody watch.old seen.old at body.now watch.new seen.new) }
-    ensures ended { IfErr result (EndsAtBody watch.old at body.now) }
+    ensures heard { watch.old.ended ≡ None →
+        OnOk result (HearsBody watch.old seen.old at body.now watch.new seen.new) }
+    ensures ended { watch.old.ended ≡ None → IfErr result (EndsAtBody watch.old at body.now) }
     ensures seen { IfErr result (λ _. seen.new ≡ seen.old) }
 {
     let message = match decode_ref(body, watch.in_block()) {
@@ -36,8 +36,8 @@ fn hear_body(watch: &mut Watch, seen: &mut Seen, at: u64, body: &[u8]) -> Result
 
 /// Hears the end that a keepalive names.
 fn hear_keepalive(watch: &mut Watch, seen: &mut Seen, at: u64, end: Lsn)
-    requires { watch.old.ended ≡ None }
-    ensures { HearsKeepalive watch.old seen.old at end watch.new seen.new }
+    ensures { watch.old.ended ≡ None →
+        HearsKeepalive watch.old seen.old at end watch.new seen.new }
 {
     let _ = watch.keepalive(at, end);
     seen.keepalive();
@@ -45,10 +45,10 @@ fn hear_keepalive(watch: &mut Watch, seen: &mut Seen, at: u64, end: Lsn)
 
 /// Hears a payload of CopyData.
 fn hear_payload(watch: &mut Watch, seen: &mut Seen, at: u64, payload: &[u8]) -> Result<(), End>
-    requires { watch.old.ended ≡ None }
-    ensures heard { OnOk result (HearsFrame watch.old seen.old at (CopyData payload.now) watch.new
-        seen.new) }
-    ensures ended { IfErr result (EndsAtFrame watch.old at (CopyData payload.now)) }
+    ensures heard { watch.old.ended ≡ None →
+        OnOk result (HearsFrame watch.old seen.old at (CopyData payload.now) watch.new seen.new) }
+    ensures ended { watch.old.ended ≡ None →
+        IfErr result (EndsAtFrame watch.old at (CopyData payload.now)) }
     ensures seen { IfErr result (λ _. seen.new ≡ seen.old) }
 {
     let message = match decode_server(payload) {
@@ -71,10 +71,10 @@ pub(crate) fn hear_frame(
     at: u64,
     frame: &Frame<'_>,
 ) -> Result<(), End>
-    requires { watch.old.ended ≡ None }
-    ensures heard { OnOk result (HearsFrame watch.old seen.old at (frame_value frame.now) watch.new
-        seen.new) }
-    ensures ended { IfErr result (EndsAtFrame watch.old at (frame_value frame.now)) }
+    ensures heard { watch.old.ended ≡ None →
+        OnOk result (HearsFrame watch.old seen.old at (frame_value frame.now) watch.new seen.new) }
+    ensures ended { watch.old.ended ≡ None →
+        IfErr result (EndsAtFrame watch.old at (frame_value frame.now)) }
     ensures seen { IfErr result (λ _. seen.new ≡ seen.old) }
 {
     match frame {

@@ -16,14 +16,18 @@
 #![tactic(auto)]
 
 mod findings;
+mod guarded;
 mod hearing;
 mod laws;
+mod live;
 mod rules;
 mod seen;
 mod session;
 
 pub use findings::{End, Findings};
-pub use laws::{breach_is_no_session, heard_is_a_session};
+pub use guarded::{FindingListener, Guarded};
+pub use laws::{breach_is_no_session, heard_is_a_session, watched_is_of_histories};
+pub use live::LiveWatch;
 pub use rules::{Rule, Standing};
 pub use seen::Seen;
 pub use session::{joined, watch_session};

@@ -3,7 +3,7 @@
 ghost use Rattle.std.specs.Prelude.{◌≡◌};
 ghost use Rattle.pgrules.specs.Rules.{breach_place, breaks, is_seen, is_unread, is_unwatched};
 ghost use Rattle.pgrules.specs.Rules.{kept_or_not};
-ghost use Rattle.pgrules.specs.Rules.{is_well, place_of, standing_of};
+ghost use Rattle.pgrules.specs.Rules.{broken_rule, is_well, place_of, standing_of};
 
 use crate::findings::{End, Findings};
 use crate::seen::Seen;
@@ -186,6 +186,36 @@ impl Findings {
                 ..
             } => true,
             _ => false,
+        }
+    }
+
+    /// Where the watch ended before the bytes did.
+    pub fn place(&self) -> Option<u64>
+        ensures { result ≡ place_of self.now.end }
+    {
+        place_of(self.end)
+    }
+
+    /// The rule that is broken, if one is.
+    pub fn broken(&self) -> Option<Rule>
+        ensures { result ≡ broken_rule self.now.end }
+    {
+        if breaks(self.end, Rule::Order) {
+            Some(Rule::Order)
+        } else if breaks(self.end, Rule::Nested) {
+            Some(Rule::Nested)
+        } else if breaks(self.end, Rule::Described) {
+            Some(Rule::Described)
+        } else if breaks(self.end, Rule::Keepalives) {
+            Some(Rule::Keepalives)
+        } else if breaks(self.end, Rule::Frames) {
+            Some(Rule::Frames)
+        } else if breaks(self.end, Rule::Texts) {
+            Some(Rule::Texts)
+        } else if breaks(self.end, Rule::Messages) {
+            Some(Rule::Messages)
+        } else {
+            None
         }
     }
 }

@@ -27,14 +27,16 @@ returns-in-Err-hear_frame c = record {
   found =
       found_ended c.args.version c.args.max_frame c.args.limit c.args.bytes.now c.loop-rest.rest.now c.loop-rest.deframer
       c.loop-rest.watch c.loop-rest.seen c.loop-rest.invariant c.in-Ok.count c.feed.new.self c.in-Ok.ensures.fed _ c.in-Some.ensures _
-      c.in-Err-hear_frame.end c.hear_frame.new.seen refl c.in-Err-hear_frame.ensures.ended c.in-Err-hear_frame.ensures.seen;
+      c.in-Err-hear_frame.end c.hear_frame.new.seen refl (c.in-Err-hear_frame.ensures.ended c.loop-rest.invariant.watched)
+      c.in-Err-hear_frame.ensures.seen;
 }
 
 pub loop-rest-preserved : goal.loop-rest-preserved
 loop-rest-preserved c =
     goes_on c.args.version c.args.max_frame c.args.limit c.args.bytes.now c.loop-rest.rest.now c.loop-rest.deframer c.loop-rest.watch
     c.loop-rest.seen c.loop-rest.invariant c.in-Ok.count c.feed.new.self c.in-Ok.ensures.fed _ c.in-Some.ensures _ c.release.new.self
-    c.hear_frame.new.watch c.hear_frame.new.seen c.requires refl c.release.ensures c.in_default-hear_frame.ensures.heard
+    c.hear_frame.new.watch c.hear_frame.new.seen c.requires refl c.release.ensures (c.in_default-hear_frame.ensures.heard
+    c.loop-rest.invariant.watched)
 
 pub returns : goal.returns
 returns c = record {
