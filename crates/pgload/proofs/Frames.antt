@@ -186,7 +186,7 @@ got_smaller old filled new piece n fed none some =
 module _ {C : Type 0} (holds : C → Tables → Type 0) (place : C → ℕ) (reopens : C → C → Type 0) (serves is_honest : C → Type 0) where
   module _ (max_line : ℕ) (bytes : List ℕ) (d : Deframed) (store : C) (opened : Option Opened) (closed : Option LoadFault)
       (is : HasRead holds place reopens serves is_honest max_line bytes d store opened closed) where
-    under : IsUnderWay holds place reopens serves is_honest store
+    pub under : IsUnderWay holds place reopens serves is_honest store
     under = stands_under_way holds place reopens serves is_honest max_line is.come.ended is.come.going store opened is.has.stands
 
     pub filled : (new : Deframed) (piece : List ℕ) (n : ℕ) → IsFed d piece (Ok n) new
@@ -271,7 +271,8 @@ module _ {C : Type 0} (holds : C → Tables → Type 0) (place : C → ℕ) (reo
         first = done;
       }
 
-      handled_at : (input : Option Input) (taken : Step) (new : C) (after : Option Opened) (end : Option LoadFault) (released : Deframed)
+      pub handled_at : (input : Option Input) (taken : Step) (new : C) (after : Option Opened) (end : Option LoadFault) (released :
+          Deframed)
           → input_of f ≡ input
           → TakesInput holds place reopens serves is_honest max_line is.come input new after end (Ok taken)
           → released.max ≡ d.max → released.held ≡ [] → released.fault ≡ None → released.done ≡ false

@@ -3,3 +3,4 @@ pub mod Laws
 pub mod Faults
 pub mod Loading
 pub mod Inputs
+pub mod Readers

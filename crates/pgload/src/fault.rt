@@ -51,6 +51,20 @@ pub enum LoadFault {
     Memory,
 }
 
+/// Why a load from a reader isn't taken.
+#[derive(Clone, Copy, Debug, PartialEq, Eq, Error)]
+pub enum InputFault {
+    /// The load itself has a fault.
+    #[error(transparent)]
+    Load(LoadFault),
+    /// The reader ends before the load does.
+    #[error("load 9 CutInput")]
+    CutInput,
+    /// A read failed.
+    #[error("read")]
+    Read,
+}
+
 /// Out of memory in the store is the load's own.
 impl From<StoreFault> for LoadFault {
     ghost from_gives = { λ fault of. of ≡ fault_of_store fault };

@@ -100,6 +100,7 @@ pub(crate) fn take_payload<C: ReplicaStore + Drop>(
         OnOk result (IsBounded load.old.limits.batch load.new.table) }
     ensures limits { load.new.limits ≡ load.old.limits }
     ensures closed { IfErr result (λ fault. load.new.closed ≡ Some fault) }
+    ensures honest { C.is_honest load.new.store → C.is_honest load.old.store }
 {
     match read_input(payload) {
         Some(Input::Begin(def)) => {

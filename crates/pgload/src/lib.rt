@@ -2,18 +2,15 @@
 //! into a store.
 //!
 //! ```text
-//! let mut loading = Loading::new(alloc, store, Limits::new(batch, max_line), max_frame);
-//! loop {
-//!     // frames of CopyData: a Relation message, pieces of its text, its end, .., the point
-//!     if let Some(ended) = loading.feed(read(input)?)? {
-//!         break;                                  // `ended.taken` bytes were the load's
-//!     }
-//! }
-//! let store = loading.into_store();               // at `ended.point`, for a subscriber
+//! // frames of CopyData: a Relation message, pieces of its text, its end, .., the point
+//! let limits = Limits::new(batch, max_line);
+//! let (ended, store) = load_from(alloc, store, limits, max_frame, &mut reader);
+//! let point = ended?;                             // the store is there, for a subscriber
 //! ```
 //!
-//! Until then the store's position is at most [`MOST_PARTS`], also after a crash. [`Load`] is the
-//! same without frames.
+//! Until then the store's position is at most [`MOST_PARTS`], also after a crash. Of the reader
+//! nothing is taken that follows the load. [`Loading`] is the same in any pieces, and [`Load`]
+//! without frames.
 //!
 //! PostgreSQL documentation, COPY, File Formats, Text Format; Logical Decoding Concepts, Exported
 //! Snapshots.
@@ -26,10 +23,11 @@ mod laws;
 mod limits;
 mod load;
 mod loading;
+mod reading;
 mod table;
 
 pub use batch::MOST_PARTS;
-pub use fault::LoadFault;
+pub use fault::{InputFault, LoadFault};
 pub use input::{END_TEXT_TAG, POINT_TAG, TEXT_TAG};
 pub use laws::{
     changes_come_in_parts, cuts_change_no_load, load_is_a_transaction, loaded_rows_are_the_servers,
@@ -38,3 +36,4 @@ pub use laws::{
 pub use limits::Limits;
 pub use load::Load;
 pub use loading::{Ended, Loading};
+pub use reading::load_from;

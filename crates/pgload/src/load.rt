@@ -81,6 +81,7 @@ impl<C: ReplicaStore + Drop> Load<C> {
         ensures still { IfSome self.old.closed (λ fault. result ≡ Err fault) }
         ensures bounded { IsBounded self.old.limits.batch self.old.table →
             OnOk result (IsBounded self.old.limits.batch self.new.table) }
+        ensures honest { C.is_honest self.new.store → C.is_honest self.old.store }
     {
         if let Some(fault) = self.closed {
             return Err(fault);
@@ -107,6 +108,7 @@ impl<C: ReplicaStore + Drop> Load<C> {
         ensures still { IfSome self.old.closed (λ fault. result ≡ Err fault) }
         ensures bounded { IsBounded self.old.limits.batch self.old.table →
             OnOk result (IsBounded self.old.limits.batch self.new.table) }
+        ensures honest { C.is_honest self.new.store → C.is_honest self.old.store }
     {
         if let Some(fault) = self.closed {
             return Err(fault);
@@ -131,6 +133,7 @@ impl<C: ReplicaStore + Drop> Load<C> {
         ensures still { IfSome self.old.closed (λ fault. result ≡ Err fault) }
         ensures bounded { IsBounded self.old.limits.batch self.old.table →
             OnOk result (IsBounded self.old.limits.batch self.new.table) }
+        ensures honest { C.is_honest self.new.store → C.is_honest self.old.store }
     {
         if let Some(fault) = self.closed {
             return Err(fault);
@@ -163,6 +166,7 @@ impl<C: ReplicaStore + Drop> Load<C> {
         ensures bounded { IsBounded self.old.limits.batch self.old.table →
             OnOk result (IsBounded self.old.limits.batch self.new.table) }
         ensures still { IfSome self.old.closed (λ fault. result ≡ Err fault) }
+        ensures honest { C.is_honest self.new.store → C.is_honest self.old.store }
     {
         if let Some(fault) = self.closed {
             return Err(fault);

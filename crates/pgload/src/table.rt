@@ -71,6 +71,7 @@ impl OpenTable {
         ensures stored { OnOk result (self.new.rows ≡ []) }
         ensures same { self.new.reader ≡ self.old.reader }
         ensures definition { self.new.definition ≡ self.old.definition }
+        ensures honest { C.is_honest store.new → C.is_honest store.old }
     {
         store_rows(alloc, store, &self.definition, self.rows.as_slice())?;
         self.rows.clear();
@@ -98,6 +99,7 @@ impl OpenTable {
             (λ n. (0 < n) × (n ≤ length piece.now))) }
         ensures batch { length self.old.rows ≤ batch → OnOk result
             (length self.new.rows ≤ batch) }
+        ensures honest { C.is_honest store.new → C.is_honest store.old }
     {
         match self.reader.feed(piece, &mut self.rows) {
             Ok(Fed::Waits) => Ok(None),
@@ -129,6 +131,7 @@ impl OpenTable {
             (with_text table piece.now) store.new fault) }
         ensures batch { length self.old.rows ≤ batch → OnOk result
             (length self.new.rows ≤ batch) }
+        ensures honest { C.is_honest store.new → C.is_honest store.old }
     {
         let mut read = 0;
         while let Some(taken) = self.read_row(alloc, store, batch, &piece[read..])? {
@@ -146,6 +149,7 @@ impl OpenTable {
             C.is_honest (before ++ inserts table.definition (rows_of max_line table)) store.new)
             (λ fault. TextStops C.holds C.place C.reopens C.serves C.is_honest max_line before table
             store.new fault) }
+        ensures honest { C.is_honest store.new → C.is_honest store.old }
     {
         if !self.reader.is_whole() {
             return Err(LoadFault::CutLine(self.definition.oid));

@@ -7,7 +7,7 @@ ghost use Rattle.std.specs.Prelude.{◌<◌};
 
 use crate::loads::{POINT, ROWS, check_rows};
 use pgapply::ReplicaStore;
-use pgload::{Ended, Limits, LoadFault, Loading};
+use pgload::{Ended, InputFault, Limits, LoadFault, Loading, load_from};
 use pgstore::Store;
 use std::process::Abort;
 
@@ -77,6 +77,31 @@ fn pieces_make_no_difference(rt: HostRuntime) {
         assert!(rt; ended.point.0 == POINT);
         assert!(rt; ended.taken == whole.saturating_sub(1) % len + 1);
         check_rows(&rt, &mut loading.into_store(), ROWS);
+    }
+}
+
+#[test]
+fn a_reader_is_read_to_the_end_of_its_load(rt: HostRuntime) {
+    let mut bytes = frames(&rt, PAYLOADS);
+    bytes.extend_from_slice(b"more").expect(&rt, "room");
+    let store = Store::in_memory(rt.alloc()).expect(&rt, "a store");
+    let mut reader = bytes.as_slice();
+    let limits = Limits::new(16, 8);
+    let (ended, mut store) = load_from(rt.alloc(), store, limits, MAX_FRAME, &mut reader);
+    assert!(rt; matches!(ended, Ok(point) if point.0 == POINT));
+    assert!(rt; reader == b"more".as_slice());
+    check_rows(&rt, &mut store, ROWS);
+}
+
+#[test]
+fn a_reader_ends_before_its_load(rt: HostRuntime) {
+    let bytes = frames(&rt, PAYLOADS);
+    for len in 0..bytes.len() {
+        let store = Store::in_memory(rt.alloc()).expect(&rt, "a store");
+        let mut reader = &bytes.as_slice()[..len];
+        let limits = Limits::new(16, 8);
+        let (ended, _store) = load_from(rt.alloc(), store, limits, MAX_FRAME, &mut reader);
+        assert!(rt; matches!(ended, Err(InputFault::CutInput)));
     }
 }
 

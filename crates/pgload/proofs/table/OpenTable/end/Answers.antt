@@ -18,6 +18,7 @@ returns-in_err-store g c = record {
       rw (p.1, p.2)
       (subst (λ it. TextStops s.holds s.place s.reopens s.serves s.is_honest max_line before it c.store.new.store c.in_err-store.field-0.0)
       (with_nothing table) (c.in_err-store.ensures.goes max_line before table is []));
+  honest = λ now. c.store.ensures.honest now;
 }
 
 pub returns : goal.returns
@@ -43,4 +44,8 @@ returns g c = record {
               (all_taken s.holds s.place s.reopens s.serves s.is_honest max_line before table c.args.store.now c.args.self is none)
         ],
       );
+  honest = λ now. elim c.if-not-is_empty.branch [
+    | then-not-is_empty+in_ok-store w ↦ w.store.ensures.honest (subst g.C.ReplicaStore.is_honest w.store-is now)
+    | else-not-is_empty w ↦ subst g.C.ReplicaStore.is_honest w.store-is now
+  ];
 }

@@ -25,4 +25,5 @@ loop-taken-preserved g c = record {
       (rw c.in-Some.is at (c.in_ok-taken.ensures.goes max_line before (with_text table (take c.loop-taken.read c.args.piece.now))
       (c.loop-taken.invariant.loading max_line before table is)));
   batch = λ most. c.in_ok-taken.ensures.batch (c.loop-taken.invariant.batch most);
+  honest = λ now. c.loop-taken.invariant.honest (c.read_row.ensures.honest now);
 }

@@ -13,6 +13,7 @@ invariant-loop-taken g l = record {
       → IsLoading g.C.ReplicaStore.holds g.C.ReplicaStore.place g.C.ReplicaStore.reopens g.C.ReplicaStore.serves g.C.ReplicaStore.is_honest
       max_line before (with_text table (take l.read l.piece)) l.store l.self;
   batch : length l.fn.self.rows ≤ l.batch → length l.self.rows ≤ l.batch;
+  honest : g.C.ReplicaStore.is_honest l.store → g.C.ReplicaStore.is_honest l.fn.store;
 }
 
 abbrev pub decreases-loop-taken : goal.decreases-loop-taken
