@@ -6,3 +6,4 @@ mod LiveSessions
 mod LiveFed
 mod LiveRows
 mod Unfed
+mod After

@@ -19,6 +19,7 @@ ghost use Rattle.pgsub_cli.specs.Runs.{Tells, status_of};
 ghost use Rattle.pgruns.specs.Fed.{AppliesBeside, FollowsBeside, IsOpenedAt, IsRun, IsUnfed};
 ghost use Rattle.pgruns.specs.Fed.{TellsUnfed, status_of_unapplied, status_of_unfed};
 
+use crate::load_plan::LoadPlan;
 use crate::opening::FeedOpening;
 use crate::telling::{tell_unapplied, tell_unfed};
 use pgfeed::{Feed, FeedFault, Folder, Origin, SegmentLimits};
@@ -53,6 +54,8 @@ pub struct FeedPlan<'a, D: Folder + Drop> {
 /// How a server is followed.
 #[derive(Drop)]
 pub struct FollowPlan<B: Drop, L: Listener + Drop> {
+    /// What is loaded into the store before its server is followed, if anything.
+    pub load: Option<LoadPlan>,
     /// The feed that is kept of what is stored, if any.
     pub feed: Option<B>,
     /// What is told of each settling.
@@ -143,6 +146,7 @@ pub(crate) fn follow_over<
         listener,
         limits,
         version,
+        ..
     } = plan;
     let feed = match feed {
         Some(feed) => feed,

@@ -14,7 +14,7 @@ ghost use Rattle.pgfeed.specs.declared.fault.FeedFault.{FeedFault};
 ghost use Rattle.pgfollow.specs.declared.fault.FollowFault.{FollowFault};
 ghost use Rattle.pgfollow.specs.declared.fault.FollowFault.TheVariants as fault;
 ghost use Rattle.pgfollow.specs.Live.{IsOfFollowing};
-ghost use Rattle.pgstore.specs.Reopened.{StaysAsFound};
+ghost use Rattle.pgstore.specs.Reopened.{Reopens, StaysAsFound};
 ghost use Rattle.pgstore.specs.StoreValue.{HasTables, IsHonest, Serves};
 ghost use Rattle.pgsub_core.specs.declared.fault.Fault.TheVariants.{Store as OfStore};
 ghost use Rattle.pgsub_cli.specs.declared.fault.Ending.{Ending};
@@ -22,21 +22,25 @@ ghost use Rattle.pgsub_cli.specs.declared.fault.RunFault.{RunFault};
 ghost use Rattle.pgsub_cli.specs.declared.fault.RunFault.TheVariants.{Stream};
 ghost use Rattle.pgsub_cli.specs.Caused.{TellsCaused};
 ghost use Rattle.pgsub_cli.specs.Dumped.{Dumps};
-ghost use Rattle.pgruns.specs.Filed.{LeavesNothingNew, RunsInFiles, TellsBoth};
+ghost use Rattle.pgruns.specs.Filed.{LeavesNothingNew, RunsInFiles, TellsBoth, position_of};
 ghost use Rattle.pgruns.specs.Filed.{fault_of_closing, status_closed, status_of_unclosed};
 ghost use Rattle.pgruns.specs.Fed.{AppliesBeside, FollowsBeside, IsRun, IsUnfed, TellsUnfed};
 ghost use Rattle.pgruns.specs.Fed.{status_of_unapplied, status_of_unfed};
+ghost use Rattle.pgruns.specs.Loaded.{AfterLoad, KeepsLink, TellsUnloaded, Unloads};
+ghost use Rattle.pgruns.specs.Loaded.{status_of_unloaded};
 ghost use Rattle.pgsub_cli.specs.FollowedLive.{ending_of};
 ghost use Rattle.pgsub_cli.specs.FollowStatus.{status_of_follow, status_of_unfollowed};
 ghost use Rattle.pgsub_cli.specs.Runs.{Tells, status_of};
 ghost use Rattle.pgsub_cli.specs.Storing.{status_of_unopened};
 
 use crate::closing::{Closing, close_told, followed_status, run_status};
-use crate::fed::{ApplyPlan, FollowPlan, LiveIo, apply_over, follow_over};
+use crate::fed::{ApplyPlan, FollowPlan, LiveIo, apply_over};
+use crate::loaded::follow_loaded;
 use crate::opening::{FeedOpening, Opening};
 use pgfeed::{Feed, Folder};
 use pgfollow::Clock;
 use pgledger::Supposing;
+use pgload::InputFault;
 use pgstore::Store;
 use pgsub_cli::files::{Input, Output};
 use pgsub_cli::following::tell_unfollowed;
@@ -72,20 +76,24 @@ fn dump_store<S: Alter + Drop, W: Output + Drop, E: Output>(
 }
 
 /// Follows a server over the store in files, as `run_follow` does, and keeps a feed of its commits
-/// where the plan asks for one. At the end the log goes into the file of the database. Returns the
-/// exit status, what is left of the files, and the feed, if one was opened.
+/// where the plan asks for one. A load that it asks for comes first: from the same reader, to its
+/// end and not a byte further, into the store, which is to be new; the feed is opened at its point,
+/// and the first status confirms it. At the end the log goes into the file of the database. Returns
+/// the exit status, what is left of the files, the feed, if one was opened, and why the load wasn't
+/// taken.
 ///
 /// `F` stands for what the files hold when they are opened. The
-/// store that is followed over holds that, what it holds at the end is as `run_follow` says, and
+/// store that is followed over holds that, or what a load into it has led to (`AfterLoad`), what it
+/// holds at the end is as `run_follow` says, and
 /// whatever content the files have once it is closed, or after a crash, is one that it could leave.
 /// So from run to run nothing is lost that was confirmed (`pgrecovery`, law
 /// `crashes_lose_nothing_confirmed`). Files that hold no store are left as they were found.
 ///
 /// The status is that of `run_follow`, and where that is 0, of a log that can't be copied: 13, or
 /// 14 where memory ran out. Where no store is opened it is that of `tell_unfollowed`, for the fault
-/// that opening gave, and where no feed is opened that of `tell_unfed`. Standard error gets a line
-/// for each, and before it the cause of the store's error, where that is known; of closing none is
-/// told.
+/// that opening gave, where no feed is opened that of `tell_unfed`, and where a load isn't taken
+/// that of `tell_unloaded`. Standard error gets a line for each, and before it the cause of the
+/// store's error, where that is known; of closing none is told.
 pub fn follow<
     F: Start,
     O: Opening<F>,
@@ -101,7 +109,7 @@ pub fn follow<
     opening: O,
     plan: FollowPlan<B, L>,
     io: &mut LiveIo<R, W, K, E>,
-) -> (u8, Filed<FileFrom<F>>, Option<Feed<D>>)
+) -> (u8, Filed<FileFrom<F>>, Option<Feed<D>>, Option<InputFault>)
     requires readable { io.old.link.read_failed ≡ false }
     requires writable { io.old.link.write_failed ≡ false }
     ensures unopened { IfErr result.1 (λ left. (f : StoreFault) × O.fails opening f
@@ -109,13 +117,25 @@ pub fn follow<
         × TellsCaused E.takes E.failed (Err (Stream (OfStore f))) io.old.err io.new.err
         × IfSome left (λ conn. HasCleanDisk (connection.state over_files conn) →
         StaysAsFound over_files (image_at F.Start) conn)) }
-    ensures unfed { IsUnfed plan.feed result.2 → IfOk result.1 (λ closing. (f : FeedFault)
-        × IfSome plan.feed (λ feed. B.fails feed f)
-        × (result.0 ≡ status_of_unfed f) × (io.new.link ≡ io.old.link)
+    ensures unloaded { IfSome result.3 (λ why. IfOk result.1 (λ closing.
+        (result.0 ≡ status_of_unloaded why) × (result.2 ≡ None)
+        × KeepsLink plan.load io.old.link io.new.link
+        × TellsBoth E.takes E.failed (TellsUnloaded E.takes E.failed why)
+        (fault_of_closing closing) io.old.err io.new.err
+        × RunsInFiles (image_at F.Start) (λ opened ended. Unloads (HasTables over_files)
+        position_of (Reopens over_files over_files) (Serves over_files) (IsHonest over_files)
+        plan.load (R.remaining io.old.link.reader) (R.remaining io.new.link.reader) opened ended
+        why) closing)) }
+    ensures unfed { result.3 ≡ None → IsUnfed plan.feed result.2 → IfOk result.1 (λ closing.
+        (f : FeedFault) × IfSome plan.feed (λ feed. B.fails feed f)
+        × (result.0 ≡ status_of_unfed f) × KeepsLink plan.load io.old.link io.new.link
         × TellsBoth E.takes E.failed (TellsUnfed E.takes E.failed f) (fault_of_closing closing)
         io.old.err io.new.err
-        × RunsInFiles (image_at F.Start) (λ opened ended. ended ≡ opened) closing) }
-    ensures ran { IsRun plan.feed result.2 → IfOk result.1 (λ closing.
+        × RunsInFiles (image_at F.Start) (λ opened ended. AfterLoad (HasTables over_files)
+        position_of (Reopens over_files over_files) (Serves over_files) (IsHonest over_files)
+        plan.load (R.remaining io.old.link.reader) opened (λ rest loaded.
+        (rest ≡ R.remaining io.new.link.reader) × (loaded ≡ ended))) closing) }
+    ensures ran { result.3 ≡ None → IsRun plan.feed result.2 → IfOk result.1 (λ closing.
         (why : Option FollowFault)
         × TellsBoth E.takes E.failed (TellsCaused E.takes E.failed (ending_of why))
         (fault_of_closing closing) io.old.err io.new.err
@@ -124,22 +144,25 @@ pub fn follow<
         × IfSome why IsOfFollowing
         × RunsInFiles (image_at F.Start) (λ opened ended.
         (result.0 ≡ status_closed status_of_unclosed (status_of_follow ended.group.missed.count why)
-        (fault_of_closing closing)) × FollowsBeside D.File.seen D.File.may_leave D.File.is_clean
-        D.is_true D.places D.has D.supposed B.opens over_files L (R.remaining io.old.link.reader)
+        (fault_of_closing closing)) × AfterLoad (HasTables over_files) position_of
+        (Reopens over_files over_files) (Serves over_files) (IsHonest over_files) plan.load
+        (R.remaining io.old.link.reader) opened (λ rest loaded.
+        FollowsBeside D.File.seen D.File.may_leave D.File.is_clean
+        D.is_true D.places D.has D.supposed B.opens over_files L rest
         (R.remaining io.new.link.reader) io.new.link.reads (W.contents io.old.link.writer)
-        (W.contents io.new.link.writer) plan.limits plan.version why opened ended
-        plan.feed result.2) closing) }
+        (W.contents io.new.link.writer) plan.limits plan.version why loaded ended
+        plan.feed result.2)) closing) }
 {
     match opening.open(alloc) {
         Ok(store) => {
-            let (status, store, feed) = follow_over(alloc, store, plan, io);
+            let (status, store, feed, unloaded) = follow_loaded(alloc, store, plan, io);
             let (fault, closing) = close_told(alloc, store, &mut io.err);
-            (followed_status(status, fault), Ok(closing), feed)
+            (followed_status(status, fault), Ok(closing), feed, unloaded)
         }
         Err((refusal, conn)) => {
             let (fault, cause) = (refusal.fault(), refusal.cause());
             let status = tell_unfollowed(alloc, fault, cause, &mut io.err);
-            (status, Err(conn), None)
+            (status, Err(conn), None, None)
         }
     }
 }

@@ -9,27 +9,29 @@ ghost use Rattle.clap.specs.declared.error.kind.ErrorKind.TheVariants as kind;
 mod build;
 
 use build::{COMMIT, KIT};
-use pgcommand::{CommandFault, DEFAULT_CACHE, FeedOptions, Limits, Task, command_of};
+use pgcommand::{CommandFault, DEFAULT_CACHE, FeedOptions, Limits, Task, Watching, command_of};
 use pgfeed::{Folder, Origin, SegmentLimits};
 use pgfollow::{Clock, Link};
 use pgledger::Supposing;
 use pgorder::Version;
+use pgrules::Guarded;
 use pgruns::{
-    ApplyPlan, FeedPlan, FileFolder, Filed, FollowPlan, LiveIo, StoreFile, apply, dump, follow,
+    ApplyPlan, FeedPlan, FileFolder, Filed, FollowPlan, LiveIo, LoadPlan, StoreFile, apply, dump,
+    follow,
 };
 use pgsub_cli::fault::RunFault;
 use pgsub_cli::reporting::Reporter;
 use pgsub_cli::storing::{Incoming, read_input, tell_stopped};
-use pgsub_cli::{MissedLines, store_path};
+use pgsub_cli::{MissedLines, WatchLines, live_watch, store_path};
 use pgsub_core::Side;
 use pgtasks::{run, run_in_memory};
 use sqlite::{FileFrom, Start, Unknown};
 use std::alloc::AllocError;
 use std::cell::RefCell;
 use std::fs::File;
-use std::io::ErrorKind;
+use std::io::{ErrorKind, Read};
 use std::process::ExitCode;
-use std::rt::Stderr;
+use std::rt::{Stderr, Stdout};
 use std::time::{SystemTime, UNIX_EPOCH};
 use std::{env, fs, io};
 
@@ -44,6 +46,15 @@ const MEMORY: u8 = 1;
 
 /// That of `follow` there.
 const FOLLOW_MEMORY: u8 = 14;
+
+/// That of `follow` where a read or a write failed.
+const FOLLOW_IO: u8 = 15;
+
+/// That of `follow` where the server broke a rule and it was to stop then.
+const FOLLOW_BROKEN: u8 = 17;
+
+/// How many bytes of a load's rows are stored in one.
+const LOAD_BATCH: usize = 4_194_304;
 
 /// The words of the command line, the program's name first. None where they aren't UTF-8.
 fn words(rt: &HostRuntime) -> Result<Option<Vec<String>>, AllocError> {
@@ -260,6 +271,18 @@ fn dump_over(rt: &HostRuntime, task: &Task, path: &str) -> u8 {
     status_of(dump(rt.alloc(), opening, rt.stdout(), &mut err))
 }
 
+/// The load that comes before the first session that a task follows, if one does.
+fn load_of(task: &Task) -> Option<LoadPlan> {
+    match task {
+        Task::Follow {
+            limits,
+            load: true,
+            ..
+        } => Some(LoadPlan::new(LOAD_BATCH, limits.max_frame)),
+        _ => None,
+    }
+}
+
 /// The system's clock.
 #[derive(Drop)]
 struct SystemClock<'r> {
@@ -283,29 +306,79 @@ impl Clock for SystemClock<'_> {
     }
 }
 
-/// Follows a server over the store in the file at a path: its bytes come from standard input, and
-/// statuses go to standard output. Standard error is told of changes that found no row as soon as
-/// their commits are stored. A feed's folder is of any kind, as in `run_over`.
-fn run_live<D: Folder + Supposing + Drop>(
+/// Follows a server over the store in the file at a path: what it sends comes from `input`, after a
+/// load where one is asked for, and statuses go to standard output. Standard error is told of
+/// changes that found no row as soon as their commits are stored. A feed's folder is of any kind,
+/// as in `run_over`. Returns the exit status, and the input.
+fn run_live<R: Read + Drop, D: Folder + Supposing + Drop>(
     rt: &HostRuntime,
     task: &Task,
-    version: Version,
+    server: (Version, R),
     path: &str,
     feed: Option<FeedPlan<'_, D>>,
-) -> u8 {
+) -> (u8, Link<R, Stdout>) {
+    let (version, input) = server;
     let plan = FollowPlan {
+        load: load_of(task),
         feed,
         listener: MissedLines::new(rt.alloc(), rt.stderr()),
         limits: limits_of(task),
         version,
     };
     let mut io = LiveIo {
-        link: Link::new(rt.stdin(), rt.stdout()),
+        link: Link::new(input, rt.stdout()),
         clock: SystemClock { rt },
         err: rt.stderr(),
     };
     let opening = store_file(rt, path, cache_of(task), true);
-    status_of(follow(rt.alloc(), opening, plan, &mut io))
+    let (status, left, feed, _unloaded) = follow(rt.alloc(), opening, plan, &mut io);
+    (status_of((status, left, feed)), io.link)
+}
+
+/// The same, where the server is watched for the rules of a well-formed one.
+fn run_watched<D: Folder + Supposing + Drop>(
+    rt: &HostRuntime,
+    task: &Task,
+    server: (Version, Watching),
+    path: &str,
+    feed: Option<FeedPlan<'_, D>>,
+) -> Result<u8, AllocError> {
+    let (version, watching) = server;
+    let watch = live_watch(rt.alloc(), version, limits_of(task));
+    let lines = WatchLines::new(rt.alloc(), rt.stderr());
+    let stops = watching == Watching::Stop;
+    let input = Guarded::new(rt.alloc(), rt.stdin(), lines, watch, stops)?;
+    let (status, link) = run_live(rt, task, (version, input), path, feed);
+    if status == FOLLOW_IO && link.reader.has_stopped() {
+        return Ok(FOLLOW_BROKEN);
+    }
+    Ok(status)
+}
+
+/// Follows a server from standard input, and watches it where that is asked for.
+fn run_follow<D: Folder + Supposing + Drop>(
+    rt: &HostRuntime,
+    task: &Task,
+    server: (Version, Option<Watching>),
+    path: &str,
+    feed: Option<FeedPlan<'_, D>>,
+) -> u8 {
+    let (version, watch) = server;
+    let Some(watching) = watch else {
+        return run_live(rt, task, (version, rt.stdin()), path, feed).0;
+    };
+    // (a watch takes what comes first for a session)
+    if load_of(task).is_some() {
+        let _ = eprintln!(rt; "error: the argument '--load' cannot be used with '--watch'");
+        return USAGE;
+    }
+    match run_watched(rt, task, (version, watching), path, feed) {
+        Ok(status) => status,
+        Err(AllocError) => {
+            let _ = eprintln!(rt; "pgsub: memory");
+            FOLLOW_MEMORY
+        }
+    }
 }
 
 /// Applies a recording or a file to a store in memory, which ends with the program, and tells
@@ -344,8 +417,14 @@ fn run_words(rt: &HostRuntime, words: &[String]) -> u8 {
         Err(CommandFault::Memory) => return tell_memory(rt, words),
     };
     let feed = feed_of(rt, &task);
-    if let Task::Follow { version, store, .. } = &task {
-        return run_live(rt, &task, *version, store.as_str(), feed);
+    if let Task::Follow {
+        version,
+        store,
+        watch,
+        ..
+    } = &task
+    {
+        return run_follow(rt, &task, (*version, *watch), store.as_str(), feed);
     }
     if let Task::Dump { store, .. } = &task {
         return dump_over(rt, &task, store.as_str());

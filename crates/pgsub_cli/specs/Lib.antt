@@ -16,3 +16,4 @@ pub mod FollowStatus
 pub mod MissedLines
 pub mod Caused
 pub mod Over
+pub mod WatchLines

@@ -50,7 +50,7 @@ fn store_status(fault: StoreFault) -> u8
 }
 
 /// The exit status of a fault of what is followed.
-fn fault_status(fault: Fault) -> u8
+pub fn fault_status(fault: Fault) -> u8
     ensures { result ≡ status_of_fault fault }
 {
     match fault {
@@ -88,14 +88,22 @@ pub fn tell_unfollowed<E: Output>(
     ensures tells { TellsBecause E.takes E.failed (option_map (λ text. text.now) cause.entry)
         (Err (Stream (Store fault))) err.old err.new }
 {
-    let stopped = Err(RunFault::Stream(Fault::Store(fault)));
-    tell_cause(alloc, stopped, cause, err);
-    tell(alloc, stopped, "", "", err);
+    tell_because(alloc, Fault::Store(fault), cause, err);
     match fault {
         StoreFault::NotAStore => 3,
         StoreFault::Memory => 14,
         _ => 12,
     }
+}
+
+/// Tells of a fault, and before it the cause of a store's, where it is known.
+pub fn tell_because<E: Output>(alloc: Global, fault: Fault, cause: Option<&str>, err: &mut E)
+    ensures { TellsBecause E.takes E.failed (option_map (λ text. text.now) cause.entry)
+        (Err (Stream fault)) err.old err.new }
+{
+    let stopped = Err(RunFault::Stream(fault));
+    tell_cause(alloc, stopped, cause, err);
+    tell(alloc, stopped, "", "", err);
 }
 
 /// Writes the line of why a store failed, where that is known. Where the text isn't one line, or

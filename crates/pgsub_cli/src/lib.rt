@@ -23,6 +23,7 @@ pub mod reporting;
 pub mod showing;
 pub mod storing;
 pub mod telling;
+mod watched;
 pub mod watching;
 
 pub use dumping::run_dump;
@@ -33,3 +34,4 @@ pub use reported::Reported;
 pub use reporting::run_opened;
 pub use storing::{run_store, run_within};
 pub use telling::store_path;
+pub use watched::{WatchLines, live_watch};

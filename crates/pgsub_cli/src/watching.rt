@@ -19,7 +19,7 @@ use std::alloc::{AllocError, Global};
 use std::fmt;
 
 /// How many relations, open transactions and items of these a watch holds.
-const WATCH_LIMIT: u64 = 1_000_000;
+pub(crate) const WATCH_LIMIT: u64 = 1_000_000;
 
 fn write_standing<W: fmt::Write>(f: &mut fmt::Formatter<W>, standing: Standing) -> fmt::Result
     ensures { DisplaysOnOk W.write_str_gives f.old result (Some (standing_text standing)) f.new }
@@ -93,7 +93,7 @@ fn write_breach<W: fmt::Write>(f: &mut fmt::Formatter<W>, breach: Breach) -> fmt
 
 /// What ends a watch, as it is printed.
 #[derive(Drop)]
-struct EndText(End);
+pub(crate) struct EndText(pub(crate) End);
 
 impl fmt::Display for EndText {
     ghost output = { λ text. Some (end_text text.0) };

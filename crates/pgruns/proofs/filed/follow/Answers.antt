@@ -4,14 +4,15 @@ use Rattle.pgapply.specs.declared.fault.StoreFault.{StoreFault}
 use Rattle.pgstore.specs.StoreValue.{Group}
 use Rattle.pgsub_cli.specs.Runs.{Tells}
 use Rattle.pgruns.specs.Filed.{ending_of_closing, status_closed, status_of_unclosed}
+use Rattle.pgruns.proofs.After.{if_some_as, unloaded_stays}
 use Rattle.pgruns.proofs.Unfed.{unfed_stays}
 use Rattle.pgruns.proofs.filed.follow.Goals as goal
 
 pub returns-in-Ok-clause-ran : goal.returns-in-Ok-clause-ran
-returns-in-Ok-clause-ran g c run =
-    let followed = c.follow_over-status in
+returns-in-Ok-clause-ran g c loaded run =
+    let followed = c.follow_loaded-status in
     let closed = c.close_told-fault in
-    let e = followed.ensures.ran run in
+    let e = followed.ensures.ran loaded run in
     let told = subst (λ (f : Option StoreFault).
     Tells g.E.Output.takes g.E.Output.failed [] [] (ending_of_closing f) followed.new.io.err closed.new.err) closed.ensures.fault
     closed.ensures.tells in (
@@ -35,10 +36,10 @@ returns-in-Ok-clause-ran g c run =
     )
 
 pub returns-in-Ok-clause-unfed : goal.returns-in-Ok-clause-unfed
-returns-in-Ok-clause-unfed g c unfed =
-    let followed = c.follow_over-status in
+returns-in-Ok-clause-unfed g c loaded unfed =
+    let followed = c.follow_loaded-status in
     let closed = c.close_told-fault in
-    let e = followed.ensures.unfed unfed in
+    let e = followed.ensures.unfed loaded unfed in
     let told = subst (λ (f : Option StoreFault).
     Tells g.E.Output.takes g.E.Output.failed [] [] (ending_of_closing f) followed.new.io.err closed.new.err) closed.ensures.fault
     closed.ensures.tells in (
@@ -46,18 +47,42 @@ returns-in-Ok-clause-unfed g c unfed =
       e.1,
       c.followed_status.ensures ∙ ap (λ (n : ℕ). status_closed status_of_unclosed n closed.result.0) e.2
           ∙ unfed_stays e.0 closed.result.0,
-      e.4,
-      (followed.new.io.err, e.5, told),
+      e.3,
+      (followed.new.io.err, e.4, told),
       record {
         opened = c.in-Ok.store;
         ended = followed.result.1;
         found = λ honest. c.in-Ok.ensures.stood (followed.ensures.honest honest);
         serves = λ honest. c.in-Ok.ensures.serves (followed.ensures.honest honest);
         unmissed = ap (λ (a : Group). a.missed) c.in-Ok.ensures.begun;
-        run = e.3;
+        run = e.5;
         closes = closed.ensures.closes;
       },
     )
+
+pub returns-in-Ok-clause-unloaded : goal.returns-in-Ok-clause-unloaded
+returns-in-Ok-clause-unloaded g c =
+    let followed = c.follow_loaded-status in
+    let closed = c.close_told-fault in
+    let told = subst (λ (f : Option StoreFault).
+    Tells g.E.Output.takes g.E.Output.failed [] [] (ending_of_closing f) followed.new.io.err closed.new.err) closed.ensures.fault
+    closed.ensures.tells in
+    if_some_as followed.result.3 _ _ followed.ensures.unloaded (λ why e. (
+      c.followed_status.ensures ∙ ap (λ (n : ℕ). status_closed status_of_unclosed n closed.result.0) e.0
+          ∙ unloaded_stays why closed.result.0,
+      e.1,
+      e.2,
+      (followed.new.io.err, e.3, told),
+      record {
+        opened = c.in-Ok.store;
+        ended = followed.result.1;
+        found = λ honest. c.in-Ok.ensures.stood (followed.ensures.honest honest);
+        serves = λ honest. c.in-Ok.ensures.serves (followed.ensures.honest honest);
+        unmissed = ap (λ (a : Group). a.missed) c.in-Ok.ensures.begun;
+        run = e.4;
+        closes = closed.ensures.closes;
+      },
+    ))
 
 pub returns-in-Err-clause-unopened : goal.returns-in-Err-clause-unopened
 returns-in-Err-clause-unopened g c = (
