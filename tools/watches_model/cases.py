@@ -11,6 +11,7 @@ from typing import Any
 from . import by_bytes, by_items, by_keepalives, by_order
 from .edits import edited
 from .judging import RULES, WHOLE, Verdict, judged
+from .live import Pipe, of_history
 from .printed import session_difference, sessions_of, status_of
 from .streams import content_of, stream_differences
 
@@ -87,16 +88,29 @@ def cuts(content: bytes, places: Iterable[int], most: int = CUT_BYTES) -> Iterat
         yield content[:at]
 
 
+def delivered(rng: random.Random) -> tuple[int, list[list[bytes]]]:
+    """A random history's version of the protocol, and the frames of its sessions."""
+    maker = history.Maker(rng)
+    transactions = maker.history()
+    version = rng.choice((1, 2, 2, 2))
+    delivery = stream.Delivery(rng, maker.values, transactions, maker.oids, version)
+    return version, [[frame for frame, _ in sent] for sent in delivery.frames]
+
+
+def pipes(name: str) -> list[Pipe]:
+    """The sessions of a random history on one pipe, and with one of them edited in each way."""
+    rng = random.Random(name)
+    version, sent = delivered(rng)
+    return list(of_history(rng, version, sent))
+
+
 def made(name: str) -> Case:
     """The case of this name: sessions of a random history. A name that begins with `c` cuts them
     off at each byte, and edits nothing."""
     rng = random.Random(name)
-    maker = history.Maker(rng)
-    transactions = maker.history()
-    case = Case(rng.choice((1, 2, 2, 2)))
-    delivery = stream.Delivery(rng, maker.values, transactions, maker.oids, case.version)
-    for sent in delivery.frames:
-        frames = [frame for frame, _ in sent]
+    version, sent = delivered(rng)
+    case = Case(version)
+    for frames in sent:
         content = b"".join(frames)
         case.sessions.append(("whole", content, judged(content, case.version)))
         if name.startswith("c"):
