@@ -11,8 +11,9 @@ from built import LARGE_STEPS
 from stores import sound
 
 MEMORY = 1 << 30
-# of processor time: for any input, and for each megabyte of it
-SECONDS = 2.0
+# of processor time, to which a machine that stands still may add: for any input, and for each
+# megabyte of it
+SECONDS = 20.0
 SECONDS_MEGABYTE = 1.0
 PATIENCE = 300.0
 LOG = "-wal"
