@@ -3,7 +3,7 @@
 //! PostgreSQL documentation, Streaming Replication Protocol, START_REPLICATION.
 
 ghost use Rattle.std.specs.Prelude.{◌≡◌, ◌≤◌, ◌<◌, ◌-◌, ◌+◌, ◌++◌, ℕ, List, [], length, take, drop};
-ghost use Rattle.std.specs.Prelude.{IfOk, IfSome, OnErr, None, Ok, true, false};
+ghost use Rattle.std.specs.Prelude.{◌↔◌, IfOk, IfSome, OnErr, None, Ok, true, false};
 ghost use Rattle.std.specs.Io.KnownBytes.{Consumes, IsAtEnd, Keeps, ReadConsumes, prepend_known};
 ghost use Rattle.std.specs.Io.{ReadsAtMost};
 ghost use Rattle.pgorder.specs.declared.Version.{Version};
@@ -81,8 +81,12 @@ impl<R: Read + Drop, L: FindingListener + Drop> Guarded<R, L> {
         })
     }
 
-    /// Whether it has stopped.
-    pub fn has_stopped(&self) -> bool {
+    /// Whether it has stopped: where not, nothing that was read is kept back.
+    pub fn has_stopped(&self) -> bool
+        ensures stopped { (result ≡ true) ↔ (self.now.safe < self.now.len) }
+        ensures open { result ≡ false →
+            behind_of self.now.room.items self.now.from self.now.safe self.now.len ≡ [] }
+    {
         self.safe < self.len
     }
 
