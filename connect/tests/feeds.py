@@ -59,3 +59,11 @@ class FeedCase(unittest.TestCase):
         patched = mock.patch("os.fsync")
         patched.start()
         self.addCleanup(patched.stop)
+
+    def kept(self) -> tuple[int, dict[Any, Any]]:
+        """The LSN and the rows that an example of the documents has in its file."""
+        path = self.folder / "dict"
+        found: tuple[int, dict[Any, Any]] = (0, {})
+        if path.exists():
+            found = pickle.loads(path.read_bytes())
+        return found

@@ -630,13 +630,6 @@ class Killed(BaseCase):
         words += [str(self.path), str(self.folder / "dict")]
         return subprocess.Popen(words, env={**os.environ, "PYTHONPATH": str(CONNECT)})
 
-    def kept(self) -> tuple[int, dict[Any, Any]]:
-        path = self.folder / "dict"
-        found: tuple[int, dict[Any, Any]] = (0, {})
-        if path.exists():
-            found = pickle.loads(path.read_bytes())
-        return found
-
     def version(self) -> int:
         path = self.folder / "dict"
         return path.stat().st_mtime_ns if path.exists() else 0

@@ -304,13 +304,6 @@ class Example(FeedCase):
         words = [sys.executable, str(EXAMPLE), str(self.path), str(self.folder / "dict")]
         return subprocess.Popen(words, env={**os.environ, "PYTHONPATH": str(CONNECT)})
 
-    def kept(self) -> tuple[int, dict[Any, Any]]:
-        path = self.folder / "dict"
-        found: tuple[int, dict[Any, Any]] = (0, {})
-        if path.exists():
-            found = pickle.loads(path.read_bytes())
-        return found
-
     def test_killed_at_random(self) -> None:
         rng = random.Random(7)
         rows: dict[int, dict[str, str]] = {}

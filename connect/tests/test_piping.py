@@ -359,13 +359,6 @@ class Killed(PipeCase):
         words = [sys.executable, str(EXAMPLE), self.url, str(self.folder / "dict")]
         return subprocess.Popen(words, env=self.environment)
 
-    def kept(self) -> tuple[int, dict[Any, Any]]:
-        path = self.folder / "dict"
-        found: tuple[int, dict[Any, Any]] = (0, {})
-        if path.exists():
-            found = pickle.loads(path.read_bytes())
-        return found
-
     def test_killed_at_random(self) -> None:
         """(One whose first way is cut ends, and its supervisor starts it again.)"""
         rng, rows = random.Random(7), dict[int, dict[str, str]]()
