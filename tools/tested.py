@@ -1,7 +1,7 @@
 """Runs unit tests by pytest, and counts them.
 
-A test that fails beside others is run again, alone: where it passes five times in a row, the machine
-was too busy for it. That is told in a line `UNSTEADY ..`, since such a test is to be mended.
+A test that failed beside others has failed. Few of them are run again, alone, so that it is told
+whether they fail then, too: a line `UNSTEADY ..` names one that passes five times in a row.
 """
 
 from __future__ import annotations
@@ -70,17 +70,11 @@ def passes_alone(folder: Path, wrong: Wrong, environment: dict[str, str]) -> boo
     )
 
 
-def looked_at_again(
-    folder: Path, wrong: list[Wrong], environment: dict[str, str]
-) -> tuple[int, list[Wrong]]:
-    """How many of a few failures were the machine's, each of which is told, and the others."""
-    steady = [it for it in wrong if len(wrong) > FEW or not passes_alone(folder, it, environment)]
-    for it in wrong:
-        if it not in steady:
-            print(
-                f"UNSTEADY {it.where}.{it.name}: failed once, and passed {AGAIN} times alone: {it.text[-300:]!r}"
-            )
-    return len(wrong) - len(steady), steady
+def tell_unsteady(folder: Path, wrong: list[Wrong], environment: dict[str, str]) -> None:
+    """Tells which of a few failures don't come again."""
+    for it in wrong if len(wrong) <= FEW else []:
+        if passes_alone(folder, it, environment):
+            print(f"UNSTEADY {it.where}.{it.name}: failed, and passes {AGAIN} times alone")
 
 
 def results_of(
@@ -105,5 +99,5 @@ def results_of(
     # (a worker that died, or tests that can't be read, may be in no report)
     if ran.returncode and not wrong:
         return passed, [f"pytest ended with status {ran.returncode}\n{ran.stdout}{ran.stderr}"]
-    unsteady, steady = looked_at_again(folder, wrong, environment)
-    return passed + unsteady, [str(it) for it in steady]
+    tell_unsteady(folder, wrong, environment)
+    return passed, [str(it) for it in wrong]

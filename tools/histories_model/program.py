@@ -11,9 +11,9 @@ from built import LARGE_STEPS
 from stores import sound
 
 MEMORY = 1 << 30
-# of processor time, to which a machine that stands still may add: for any input, and for each
+# of processor time, in which a shared machine counts what others take: for any input, and for each
 # megabyte of it
-SECONDS = 20.0
+SECONDS = 6.0
 SECONDS_MEGABYTE = 1.0
 PATIENCE = 300.0
 LOG = "-wal"

@@ -94,9 +94,9 @@ class Counted(unittest.TestCase):
             passed, failed = self.results("again", SEEN)
         return passed, failed, told.getvalue()
 
-    def test_one_that_fails_by_chance_is_told(self) -> None:
+    def test_one_that_fails_by_chance_is_wrong_and_told(self) -> None:
         passed, wrong, told = self.again(0)
-        self.assertEqual((passed, wrong), (2, []))
+        self.assertEqual((passed, len(wrong)), (0, 2))
         self.assertEqual(told.count("UNSTEADY test_sample.TestSeen.test_again["), 2)
 
     def test_one_that_fails_now_and_then_is_wrong(self) -> None:
@@ -106,7 +106,7 @@ class Counted(unittest.TestCase):
                 self.assertEqual((passed, len(wrong), told), (0, 2, ""))
         self.assertEqual(self.again(), (2, [], ""))
 
-    def test_many_that_fail_are_wrong(self) -> None:
+    def test_many_that_fail_are_not_looked_at_again(self) -> None:
         with unittest.mock.patch("tested.FEW", 1):
             passed, wrong, told = self.again(0)
         self.assertEqual((passed, len(wrong), told), (0, 2, ""))
