@@ -2,10 +2,12 @@
 
 from __future__ import annotations
 
+import pickle
 import tempfile
 import unittest
 from collections.abc import Sequence
 from pathlib import Path
+from typing import Any
 from unittest import mock
 
 from feed_text import Cell, Column, Definition, Line, Writer
@@ -60,7 +62,7 @@ class FeedCase(unittest.TestCase):
         patched.start()
         self.addCleanup(patched.stop)
 
-    def kept(self) -> tuple[int, dict[Any, Any]]:
+    def kept_dict(self) -> tuple[int, dict[Any, Any]]:
         """The LSN and the rows that an example of the documents has in its file."""
         path = self.folder / "dict"
         found: tuple[int, dict[Any, Any]] = (0, {})

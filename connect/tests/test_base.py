@@ -8,7 +8,6 @@ import io
 import itertools
 import json
 import os
-import pickle
 import random
 import resource
 import signal
@@ -640,7 +639,7 @@ class Killed(BaseCase):
         """Waits for an LSN and a number of rows that are kept."""
         until = time.monotonic() + 120
         while time.monotonic() < until:
-            at, found = self.kept()
+            at, found = self.kept_dict()
             if is_enough(at, len(found)):
                 return
             self.assertIsNone(child.poll())
@@ -659,7 +658,7 @@ class Killed(BaseCase):
             self.wait_for(lambda at, some: not at and some > 0 and self.version() != before, child)
             child.kill()
             self.assertEqual(child.wait(), -signal.SIGKILL)
-            self.assertEqual(self.kept()[0], 0)
+            self.assertEqual(self.kept_dict()[0], 0)
             child = self.start()
         (self.folder / "may").touch()
         for number in range(2, 102):
@@ -679,4 +678,4 @@ class Killed(BaseCase):
             for oid, some in rows.items()
             for key, value in some.items()
         }
-        self.assertEqual(self.kept(), (self.feed.at, expected))
+        self.assertEqual(self.kept_dict(), (self.feed.at, expected))

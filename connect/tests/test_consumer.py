@@ -5,7 +5,6 @@ from __future__ import annotations
 import datetime
 import decimal
 import os
-import pickle
 import random
 import signal
 import subprocess
@@ -317,14 +316,14 @@ class Example(FeedCase):
                 child = self.start()
         try:
             until = time.monotonic() + 60
-            while self.kept()[0] < self.feed.at and time.monotonic() < until:
+            while self.kept_dict()[0] < self.feed.at and time.monotonic() < until:
                 self.assertIsNone(child.poll())
                 time.sleep(0.02)
         finally:
             child.kill()
             child.wait()
         self.assertEqual(kills, 12)
-        lsn, found = self.kept()
+        lsn, found = self.kept_dict()
         self.assertEqual((lsn, found), replayed(self.path))
         self.assertGreater(len(found), 10)
 

@@ -5,7 +5,6 @@ from __future__ import annotations
 import contextlib
 import json
 import os
-import pickle
 import random
 import signal
 import socket
@@ -376,14 +375,14 @@ class Killed(PipeCase):
             child = self.start() if child.poll() is not None else child
         try:
             until = time.monotonic() + 120
-            while self.kept()[0] < self.feed.at and time.monotonic() < until:
+            while self.kept_dict()[0] < self.feed.at and time.monotonic() < until:
                 child = self.start() if child.poll() is not None else child
                 time.sleep(0.02)
         finally:
             child.kill()
             child.wait()
         self.assertGreater(kills, 10)
-        lsn, found = self.kept()
+        lsn, found = self.kept_dict()
         self.assertEqual((lsn, found), replayed(self.path))
         self.assertGreater(len(found), 10)
 
