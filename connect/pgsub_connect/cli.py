@@ -7,12 +7,10 @@ from collections.abc import Callable, Sequence
 from typing import Any, Protocol, cast
 
 from pgsub_feed import log
-from pgsub_feed.arguments import TellVersion
-from pgsub_feed.help_form import Parser, meant
-from pgsub_feed.options import add_fields
+from pgsub_feed.options import Parser, TellVersion, add_fields, meant
 from pgsub_feed.program import guarded
 
-from .commands.arguments.exit_status import ENDS
+from .commands.arguments.words import ENDS
 
 ABOUT = """\
 Keeps exact copies of a PostgreSQL server's tables while they change: carries the changes to `pgsub follow`, which stores them.

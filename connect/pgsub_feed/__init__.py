@@ -1,6 +1,6 @@
 """Reads a feed of commits: `read` gives them to a program of one's own, with what is in `changes`.
 
-`reader` has a feed's folder, lines and commits, `relation` and `python_values` what is in them;
+`reader` has a feed's folder, lines and commits, `relation` and `changes` what is in them;
 `pipe` carries it to other hosts, `tables` keeps tables of SQLite that follow a feed, `sinks` Redis,
 NATS and Kafka, and `formats`, `debezium` and `undo` are texts of commits, which `command` prints.
 `errors` says why something ends.
@@ -10,11 +10,9 @@ import importlib
 from typing import TYPE_CHECKING, Any
 
 if TYPE_CHECKING:
-    from .changes import Change, Commit, Delete, Insert, Missed, Row, Truncate, Update
+    from .changes import Change, Commit, Delete, Insert, Missed, Row, Truncate, Update, python_value
     from .consumer import read
-    from .errors import FileError, Passing, Unfit
-    from .faults import Damaged
-    from .python_values import python_value
+    from .errors import Damaged, FileError, Passing, Unfit
     from .relation import Column, Relation
     from .texts import lsn_text, parse_lsn
 
@@ -40,28 +38,15 @@ __all__ = [
 ]
 # Where each is; it is imported once it is asked for, so that a short command begins at once.
 HOMES = {
-    "Change": "changes",
-    "Commit": "changes",
-    "Delete": "changes",
-    "Insert": "changes",
-    "Missed": "changes",
-    "Row": "changes",
-    "Truncate": "changes",
-    "Update": "changes",
-    "read": "consumer",
-    "FileError": "errors",
-    "Passing": "errors",
-    "Unfit": "errors",
-    "Damaged": "faults",
-    "python_value": "python_values",
-    "Column": "relation",
-    "Relation": "relation",
-    "lsn_text": "texts",
-    "parse_lsn": "texts",
+    "consumer": ("read",),
+    "errors": ("Damaged", "FileError", "Passing", "Unfit"),
+    "relation": ("Column", "Relation"),
+    "texts": ("lsn_text", "parse_lsn"),
 }
 
 
 def __getattr__(name: str) -> Any:
-    if name not in HOMES:
+    if name not in __all__:
         raise AttributeError(f"module {__name__} has no attribute {name}")
-    return getattr(importlib.import_module(f".{HOMES[name]}", __name__), name)
+    home = next((home for home, names in HOMES.items() if name in names), "changes")
+    return getattr(importlib.import_module(f".{home}", __name__), name)

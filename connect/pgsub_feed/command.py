@@ -8,18 +8,14 @@ import sys
 from collections.abc import Callable, Iterator, Sequence
 
 from . import log
-from .arguments import add_version, lsn, plain_name
-from .debezium.envelopes import Envelopes
-from .debezium.printing import Debezium
+from .debezium.envelopes import Debezium, Envelopes
 from .debezium.settings import DEBEZIUM, SCHEMAS, Settings, read_settings
 from .errors import Stopped, UsageError
-from .formats.bulk import Bulk
+from .formats.bulk import Bulk, Command
 from .formats.lines import ByName, Lines
-from .formats.on_truncate import Command
-from .help_form import Parser
 from .interruption import Check
 from .known_tables import known_beside
-from .options import add_fields, option
+from .options import Parser, add_fields, add_version, lsn, option, plain_name
 from .pipe.pipes import Pipes
 from .pipe.serving import serve
 from .program import Worker, guarded, stop_by_signals

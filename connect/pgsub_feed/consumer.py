@@ -8,8 +8,7 @@ import os
 from collections.abc import Iterable, Iterator
 
 from .changes import Change, Commit, Truncate, change_of
-from .errors import UsageError
-from .faults import Damaged
+from .errors import Damaged, UsageError
 from .interruption import Check, never
 from .pipe.following import SCHEME, Remote
 from .reader import commits

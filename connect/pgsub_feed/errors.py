@@ -1,4 +1,6 @@
-"""Why a program that reads a feed ends, or tries again."""
+"""Why a program that reads a feed ends, or tries again, and what is wrong with a feed that can't
+be read."""
+
 
 # Exit statuses.
 REJECTED, USAGE, FILE, SERVER, UNFIT, BUG, PASSING = 1, 2, 3, 4, 5, 6, 7
@@ -59,3 +61,36 @@ class TooLarge(Failure):
     """A change is larger than the engine takes."""
 
     STATUS = REJECTED
+
+
+NAMES = {
+    1: "NotAFeed",
+    2: "OtherFeed",
+    3: "CommitLine",
+    4: "Order",
+    5: "Line",
+    6: "Counts",
+    7: "Undescribed",
+    8: "Width",
+}
+NOT_A_FEED, OTHER_FEED, COMMIT_LINE, ORDER, LINE, COUNTS, UNDESCRIBED, WIDTH = NAMES
+
+
+class Damaged(FileError):
+    """A feed has lines that aren't those of a feed.
+
+    | Number | Means |
+    |---|---|
+    | 1 | the head of a segment isn't one, or one of another version |
+    | 2 | a segment is of another server, database or slot than the one before it, or has the name of another base |
+    | 3 | a commit's line isn't one |
+    | 4 | a commit doesn't go on where the one before it ends |
+    | 5 | the line of a definition or of a change isn't one |
+    | 6 | a commit has other bytes or another number of changes than its line says |
+    | 7 | a change is of a relation that its commit doesn't describe |
+    | 8 | a row has another number of cells than its relation has columns |
+    """
+
+    def __init__(self, number: int, path: str, offset: int, what: str) -> None:
+        super().__init__(f"{path}, byte {offset}: reading {number} {NAMES[number]}: {what}")
+        self.number, self.path, self.offset = number, path, offset

@@ -1,5 +1,6 @@
-"""The lines on standard error: `2026-11-25T09:00:00Z pgsub-connect: warning: text`, with one of the
-levels info, warning and error. A terminal gets colours, unless NO_COLOR is set."""
+"""The lines on standard error, `2026-11-25T09:00:00Z pgsub-connect: warning: text`, with one of
+the levels info, warning and error; and how far long work is, drawn on a terminal, else a line each
+half minute. A terminal gets colours, unless NO_COLOR is set."""
 
 import contextlib
 import os
@@ -7,6 +8,8 @@ import sys
 import threading
 import time
 from typing import TextIO
+
+from .texts import duration_text
 
 PROGRAM = "pgsub-connect"
 # The colours of words, as a terminal takes them; and what takes a line away.
@@ -92,3 +95,48 @@ def warning(text: str) -> None:
 
 def error(text: str) -> None:
     line("error", text)
+
+
+# How often it is drawn at most, and how often a line is written elsewhere, in seconds.
+EACH_LINE, WRITTEN = 0.2, 30.0
+
+
+class Meter:
+    """Of work that begins with the first call of `note`. `about`: what it is; `unit`: what is
+    counted."""
+
+    def __init__(self, about: str, unit: str = "rows") -> None:
+        self.about, self.unit = about, unit
+        # when the work began and how much was done then; how much is done, and when that was shown
+        self.began, self.first, self.done, self.shown = 0.0, 0, -1, 0.0
+
+    def note(self, done: int, total: int | None = None, about: str = "") -> None:
+        """So much is done by now, of so much in all where that is known. `about`: which part of the
+        work it is at."""
+        now, is_drawn = time.monotonic(), is_terminal()
+        # (what is lost begins anew)
+        if not 0 <= self.done <= done:
+            self.began, self.first, self.shown = now, done, now
+        self.done = done
+        if now - self.shown < (EACH_LINE if is_drawn else WRITTEN):
+            return
+        self.shown = now
+        text = f"{self.about}{' ' if about else ''}{about}: {self.text(done, total)}"
+        if is_drawn:
+            draw(text)
+        else:
+            info(text)
+
+    def text(self, done: int, total: int | None) -> str:
+        """How much is done, how fast, and how long the rest takes by that."""
+        return progress_text(
+            done, total, (done - self.first) / max(time.monotonic() - self.began, 0.1), self.unit
+        )
+
+
+def progress_text(done: int, total: int | None, rate: float, unit: str = "rows") -> str:
+    """So much is done, by so much a second. A total may be an estimate, and too low."""
+    if total is None or total < done:
+        return f"{done} {unit}, {rate:.0f} a second"
+    left = f", {duration_text((total - done) / rate)} left" if rate > 0 else ""
+    return f"{done} of {total} {unit}, {rate:.0f} a second{left}"

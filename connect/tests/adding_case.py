@@ -20,10 +20,9 @@ from pgsub_connect.follow import drift_watch, filter_life, follower, schedule, s
 from pgsub_connect.follow.follower import Follower
 from pgsub_connect.follow.request_socket import RequestSocket
 from pgsub_connect.follow.snapshots import Snapshots
-from pgsub_connect.server import ticks
+from pgsub_connect.server import libpq
 from pgsub_connect.status.progress import Progress
-from pgsub_connect.store.checkpoint import Checkpoint
-from pgsub_connect.store.checkpoint_at_rest import read_known
+from pgsub_connect.store.checkpoint import Checkpoint, read_known
 from pgsub_connect.stream import statuses
 from pgsub_connect.stream.filter import Filter
 from pgsub_feed.texts import lsn_text
@@ -169,7 +168,7 @@ class Case(Quiet):
         self.server = WorldServer(self.folder, self.brain, self.world)
         self.addCleanup(self.server.close)
         for where, name, by in (
-            (ticks, "TICK", 0.02),
+            (libpq, "TICK", 0.02),
             *((it, "STEP", 0.02) for it in (filter_life, follower, schedule, session, upkeep)),
             (filter_life, "SLEEP", 0.02),
             (follower, "SLEEP", 0.02),

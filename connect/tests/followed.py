@@ -6,12 +6,11 @@ from collections.abc import Iterable
 from typing import Any
 
 from pgsub_connect.drift.remembered import Remembered
-from pgsub_connect.drift.tolerance import Tolerance
 from pgsub_connect.follow.settings import FollowSettings
-from pgsub_connect.server.subscription import Subscription
+from pgsub_connect.server.session import Subscription
 from pgsub_connect.status.progress import Progress
 from pgsub_connect.store.checkpoint import Checkpoint
-from pgsub_connect.stream.common import Common
+from pgsub_connect.stream.common import Common, Tolerance
 from pgsub_connect.stream.memory_limit import BufferLimits
 
 

@@ -114,7 +114,7 @@ BUGS = (
     ),
     Bug(
         "the filter's kill in one transaction is taken for another one's",
-        "pgsub_connect/stream/too_large.py",
+        "pgsub_connect/stream/memory_limit.py",
         "if xid != self.xid:",
         "if xid != self.xid or xid:",
         ("test_sizes",),
@@ -149,14 +149,14 @@ BUGS = (
     ),
     Bug(
         "what messages said is added to a file of somebody else",
-        "pgsub_connect/drift/durable_file.py",
+        "pgsub_connect/drift/remembered_lines.py",
         "if (there.st_ino, there.st_size) != (inode, length):",
         "if there.st_size < 0:",
         ("test_remembered_lines",),
     ),
     Bug(
         "what messages said isn't synced",
-        "pgsub_connect/drift/durable_file.py",
+        "pgsub_connect/drift/remembered_lines.py",
         "        os.fsync(number)\n    return True",
         "    return True",
         ("test_remembered_lines",),
@@ -219,7 +219,7 @@ BUGS = (
     ),
     Bug(
         "a lag is 0 as long as the server can't be asked",
-        "pgsub_connect/status/lag.py",
+        "pgsub_connect/status/state.py",
         "and now - self.answered < FRESH:",
         "and now >= self.answered:",
         ("test_lag",),
@@ -233,7 +233,7 @@ BUGS = (
     ),
     Bug(
         "the last byte of the longest payloads is lost",
-        "pgsub_connect/stream/frames.py",
+        "pgsub_connect/stream/messages.py",
         'head = pack_header(b"d", length + 4)',
         'head = pack_header(b"d", min(length, 60000) + 4)',
         ("test_passing",),
@@ -296,7 +296,7 @@ BUGS = (
     ),
     Bug(
         "null and the empty text are equal",
-        "pgsub_feed/tables/row_texts.py",
+        "pgsub_feed/tables/printed.py",
         'b"n" if it is None else',
         'b"0:" if it is None else',
         ("test_digests", "test_verifying"),
@@ -338,7 +338,7 @@ BUGS = (
     ),
     Bug(
         "an LSN whose rows were never stored stays noted",
-        "pgsub_connect/add/left_out.py",
+        "pgsub_connect/add/replacement.py",
         "self.checkpoint.write_adding(dict.fromkeys(self.checkpoint.adding(), 0))",
         "pass",
         ("test_adding", "test_cutting"),
@@ -352,21 +352,21 @@ BUGS = (
     ),
     Bug(
         "the LSN isn't noted before commits behind the slot are passed on",
-        "pgsub_connect/add/left_out.py",
+        "pgsub_connect/add/replacement.py",
         "        self.checkpoint.write_adding({**self.checkpoint.adding(), oid: point})\n        self.leaving.set(self.points())",
         "        self.leaving.set({**self.points(), oid: point})",
         ("test_adding", "test_cutting"),
     ),
     Bug(
         "tables of the initial copy are followed until it is their turn",
-        "pgsub_connect/add/left_out.py",
+        "pgsub_connect/add/replacement.py",
         "**dict.fromkeys(sorted(self.remembered.partial), 0), ",
         "",
         ("test_adding",),
     ),
     Bug(
         "changes of a table are left out of what is streamed",
-        "pgsub_connect/follow/stream_form.py",
+        "pgsub_connect/follow/settings.py",
         "and not self.is_whole",
         "",
         ("test_adding", "test_cutting"),
@@ -653,14 +653,14 @@ BUGS = (
     ),
     Bug(
         "what sentinels take for the master is written to, whatever it says",
-        "pgsub_feed/sinks/redis_sentinel.py",
+        "pgsub_feed/sinks/redis_calls.py",
         'if not isinstance(said, Said) and said[0] != b"master":',
         "if not said:",
         ("test_sink_sentinel",),
     ),
     Bug(
         "two sinks write to Kafka at once",
-        "pgsub_feed/sinks/alone.py",
+        "pgsub_feed/sinks/engine.py",
         "fcntl.flock(file, fcntl.LOCK_EX | fcntl.LOCK_NB)",
         "fcntl.flock(file, fcntl.LOCK_SH | fcntl.LOCK_NB)",
         ("test_sink_alone",),
@@ -849,7 +849,7 @@ BUGS = (
     ),
     Bug(
         "an LSN is noted before the disk has it",
-        "pgsub_feed/sinks/reached.py",
+        "pgsub_feed/sinks/engine.py",
         "self.marks[0][0] < moment:",
         "self.marks[0][0] - EVERY < moment + 100:",
         ("test_sink_redis",),
@@ -1164,7 +1164,7 @@ BUGS = (
     ),
     Bug(
         "those who wait are answered before the tables have it",
-        "pgsub_connect/follow/waits.py",
+        "pgsub_connect/follow/requests.py",
         "if beside.at >= end:",
         "if lsn:",
         ("test_waiting",),
@@ -1465,7 +1465,7 @@ BUGS = (
     ),
     Bug(
         "a command that fails at a TRUNCATE is no end",
-        "pgsub_feed/formats/on_truncate.py",
+        "pgsub_feed/formats/bulk.py",
         "if child.returncode else",
         "if False else",
         ("test_first_rows_printed",),
@@ -1500,14 +1500,14 @@ BUGS = (
     ),
     Bug(
         "a name that comes back stays the other table's until a look",
-        "pgsub_connect/stream/relation_log.py",
+        "pgsub_connect/stream/stream_log.py",
         " and self.remembered.has_name(oid)",
         "",
         ("test_noting",),
     ),
     Bug(
         "of two tables that had a name within a commit any has it",
-        "pgsub_connect/stream/relation_log.py",
+        "pgsub_connect/stream/stream_log.py",
         "key=lambda it: order.get(it, -1)",
         "key=lambda it: 0",
         ("test_noting",),

@@ -8,7 +8,7 @@ import dataclasses
 import unittest
 from unittest import mock
 
-from pgsub_connect.add import left_out
+from pgsub_connect.add import replacement
 from pgsub_connect.add.adder import Adder
 from pgsub_connect.add.replacement import Rows
 from pgsub_connect.drift.findings import About
@@ -29,7 +29,7 @@ class Added(Case):
         self.spoil()
         self.want(T)
         self.change()
-        with mock.patch("pgsub_feed.meter.WRITTEN", -1.0):
+        with mock.patch("pgsub_feed.log.WRITTEN", -1.0):
             run = self.goes_on()
         self.assertEqual(run.progress.findings.adding, {})
         self.assertIn("public.t: 27 rows as of", " ".join(self.said))
@@ -58,7 +58,7 @@ class Added(Case):
     def test_tables_that_the_initial_copy_has_left_for_later(self) -> None:
         """All of them are left out from the first session on, since their rows are a part at most;
         none needs a session of its own."""
-        self.patch(left_out, "MOST", 1)
+        self.patch(replacement, "MOST", 1)
         self.followed()
         self.spoil()
         Remembered(self.store).want_later([T, OTHER, THIRD])

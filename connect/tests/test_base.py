@@ -26,13 +26,11 @@ from unittest import mock
 from feed_text import About, Definition
 
 import pgsub_feed
-from pgsub_connect.commands.tables import Options as TablesOptions
-from pgsub_connect.commands.tables import follow_feed
+from pgsub_connect.commands.tables import Options as TablesOptions, follow_feed
 from pgsub_connect.follow.first_rows import BaseRows
 from pgsub_connect.follow.retention import Limits, feed_bytes, remove_feed, retire
 from pgsub_connect.store import base_files
-from pgsub_connect.store.base_files import BaseFile as Written
-from pgsub_connect.store.base_files import written
+from pgsub_connect.store.base_files import BaseFile as Written, written
 from pgsub_connect.store.copied_rows import DONE
 from pgsub_feed import Commit, Damaged, Insert, Truncate, Unfit
 from pgsub_feed.errors import FileError, Stopped
@@ -47,8 +45,7 @@ from pgsub_feed.tables.file import Rows
 from .bases import Cell, make_base
 from .feeds import STOCK, FeedCase, insert, table, truncate, update
 from .test_consumer import CONNECT, EXAMPLE, OTHER, random_lines
-from .test_copying import POINT
-from .test_copying import STOCK as COPIED
+from .test_copying import POINT, STOCK as COPIED
 from .test_first_rows import EMPTY, KINDS, NOTHING, Case, frames
 
 P = 0x100

@@ -9,15 +9,14 @@ from typing import Any
 from unittest import mock
 
 from pgsub_connect.drift.remembered import Remembered
-from pgsub_connect.drift.tolerance import Tolerance
-from pgsub_connect.follow.feed import Feeding, FeedSettings
+from pgsub_connect.follow.feed import FeedSettings, Feeding
 from pgsub_connect.follow.first_rows import BaseRows
-from pgsub_connect.server.subscription import Subscription
+from pgsub_connect.server.session import Subscription
 from pgsub_connect.status.progress import Progress
 from pgsub_connect.store import base_files
 from pgsub_connect.store.base_of_store import written
 from pgsub_connect.store.checkpoint_lines import COPIED, FOLLOWING
-from pgsub_connect.stream.common import Common
+from pgsub_connect.stream.common import Common, Tolerance
 from pgsub_feed.errors import Stopped
 from pgsub_feed.interruption import Check, never
 from pgsub_feed.reader.base import BaseFiles

@@ -12,16 +12,14 @@ from unittest import mock
 
 from pgsub_connect.commands import drop, follow, refresh
 from pgsub_connect.drift.remembered import Remembered
-from pgsub_connect.drift.tolerance import Tolerance
 from pgsub_connect.errors import ServerError
 from pgsub_connect.follow.refused import leaving_nothing, own_files
 from pgsub_connect.server.catalog import Catalog
-from pgsub_connect.server.subscription import Subscription
+from pgsub_connect.server.session import Subscription
 from pgsub_connect.status.progress import Progress
-from pgsub_connect.store.checkpoint import LONGEST_PATH, Checkpoint
-from pgsub_connect.store.checkpoint_at_rest import read_known
+from pgsub_connect.store.checkpoint import LONGEST_PATH, Checkpoint, read_known
 from pgsub_connect.store.checkpoint_lines import COPIED, COPYING, FOLLOWING, SLOT, Known
-from pgsub_connect.stream.common import Common
+from pgsub_connect.stream.common import Common, Tolerance
 from pgsub_feed.errors import Failure, FileError, Passing, Stopped, Unfit
 from pgsub_feed.relation import Relation, Shape
 from pgsub_feed.tables.schema import RELATIONS, definition

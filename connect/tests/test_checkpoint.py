@@ -12,11 +12,10 @@ from typing import Any
 from unittest import mock
 
 from pgsub_connect.commands.arguments.session import ACCEPTED
-from pgsub_connect.status.findings import Counted
+from pgsub_connect.status.state import Counted
 from pgsub_connect.store import checkpoint as known_of
 from pgsub_connect.store.at_rest import locked_checkpoint
-from pgsub_connect.store.checkpoint import MISSING, Checkpoint, check_gap
-from pgsub_connect.store.checkpoint_at_rest import locked, read_known
+from pgsub_connect.store.checkpoint import MISSING, Checkpoint, check_gap, locked, read_known
 from pgsub_connect.store.checkpoint_lines import COPYING, FOLLOWING, SIZE, Known, line_of
 from pgsub_feed.errors import FileError, Passing, Stopped, Unfit
 

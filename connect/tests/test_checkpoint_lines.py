@@ -7,11 +7,10 @@ import json
 import os
 from unittest import mock
 
-from pgsub_connect.status.findings import Counted
+from pgsub_connect.status.state import Counted
 from pgsub_connect.store import checkpoint as known_of
 from pgsub_connect.store.at_rest import locked_checkpoint
-from pgsub_connect.store.checkpoint import Checkpoint
-from pgsub_connect.store.checkpoint_at_rest import read_known
+from pgsub_connect.store.checkpoint import Checkpoint, read_known
 from pgsub_connect.store.checkpoint_lines import SIZE, Known, line_of
 from pgsub_feed.errors import FileError
 

@@ -13,8 +13,7 @@ from collections.abc import Callable, Sequence
 from typing import Any, cast
 from unittest import mock
 
-from pgsub_connect.copy import copy_slot, slots, table_reader
-from pgsub_connect.copy import tables as tables_module
+from pgsub_connect.copy import copy_slot, slots, table_reader, tables as tables_module
 from pgsub_connect.copy.copier import Copier, CopySettings
 from pgsub_connect.copy.messages import InsertHeads, begin, commit, frame, inserts, relation
 from pgsub_connect.copy.rows_beside import RowsBeside, Several
@@ -23,11 +22,10 @@ from pgsub_connect.copy.tables import altered_tables
 from pgsub_connect.copy.tries import CHANGED, Tries
 from pgsub_connect.drift.remembered import Remembered
 from pgsub_connect.errors import ServerError
-from pgsub_connect.server import publication_setup
-from pgsub_connect.server import waits as waits_module
+from pgsub_connect.server import publication_setup, waits as waits_module
 from pgsub_connect.server.catalog import Catalog, Partition, Table
 from pgsub_connect.server.publication_setup import Wanted
-from pgsub_connect.server.subscription import Subscription
+from pgsub_connect.server.session import Subscription
 from pgsub_connect.status.progress import Progress
 from pgsub_connect.store import checkpoint_lines
 from pgsub_connect.store.checkpoint import Checkpoint
@@ -36,7 +34,7 @@ from pgsub_connect.store.snapshot import part_of
 from pgsub_connect.stream.filter import Filter
 from pgsub_connect.stream.filter_end import FilterEnded
 from pgsub_connect.stream.memory_limit import BufferLimits
-from pgsub_feed import meter
+from pgsub_feed import log
 from pgsub_feed.errors import Passing, Stopped, Unfit, UsageError
 from pgsub_feed.relation import Column, Shape
 
@@ -287,7 +285,7 @@ class Sent(Copying):
         self.assertEqual(self.filter.sent.hex(" "), b"".join(wanted).hex(" "))
 
     def test_how_far_it_is(self) -> None:
-        self.patch(meter, "WRITTEN", -1.0)
+        self.patch(log, "WRITTEN", -1.0)
         self.copier().run()
         self.assertIn("copying public.stock: 2 of 3 rows, 0 a second", self.said)
 

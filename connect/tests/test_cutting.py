@@ -9,14 +9,12 @@ from collections.abc import Callable
 from unittest import mock
 
 from pgsub_connect.add.adder import Adder
-from pgsub_connect.add.left_out import LeftOut
-from pgsub_connect.add.replacement import Leaving
+from pgsub_connect.add.replacement import Leaving, LeftOut
 from pgsub_connect.add.turn import RowsSender
 from pgsub_connect.drift.remembered import Remembered
 from pgsub_connect.follow.session import Session
 from pgsub_connect.follow.session_start import SessionStart
-from pgsub_connect.store.checkpoint import Checkpoint
-from pgsub_connect.store.checkpoint_at_rest import read_known
+from pgsub_connect.store.checkpoint import Checkpoint, read_known
 
 from .adding_case import Case, Run, T
 from .small_world import WorldSource

@@ -9,6 +9,7 @@ from collections.abc import Sequence
 from typing import Any
 from unittest import mock
 
+from connect_schemas import checked
 from feed_text import UNSENT, About, Column, Definition, Line
 
 from pgsub_feed.debezium.tables import topic_part
@@ -16,7 +17,6 @@ from pgsub_feed.errors import UNFIT, USAGE
 from pgsub_feed.known_tables import KnownTable, KnownTables
 from pgsub_feed.version import VERSION
 
-from connect_schemas import checked
 from .feeds import ID, STOCK, delete, insert, table, truncate, update
 from .test_debezium_values import EACH
 from .test_feed_printing import PrintingCase

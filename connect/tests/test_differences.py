@@ -6,9 +6,8 @@ import dataclasses
 import unittest
 from collections.abc import Sequence
 
-from pgsub_connect.drift.differences import differences
+from pgsub_connect.drift.differences import differences, shape_differences
 from pgsub_connect.drift.findings import NAMES, NOTHING, PUBLICATION, VALUES, About, Difference
-from pgsub_connect.drift.shape_differences import shape_differences
 from pgsub_connect.server.catalog import Catalog, Part, Partition, Publication, Table
 from pgsub_connect.server.catalog_reader import note_since, ways_to
 

@@ -78,7 +78,7 @@ class Chosen(Case):
         self.store.table(7, "t")
         for number in "12":
             self.store.row(7, number, "x")
-        with mock.patch("pgsub_feed.meter.WRITTEN", -1.0):
+        with mock.patch("pgsub_feed.log.WRITTEN", -1.0):
             self.assertEqual(self.export(form=ALL_TEXT), ["exporting: 2 of 2 rows, 0 a second"])
             with logged() as told, exported(self.into, ()) as base:
                 self.assertEqual(

@@ -19,11 +19,9 @@ from unittest import mock
 
 from feed_text import About, Column, Line, entry_text
 
-from pgsub_connect.commands import tables as tables_module
-from pgsub_connect.commands import wait
+from pgsub_connect.commands import tables as tables_module, wait
 from pgsub_connect.commands.tables import Options
-from pgsub_feed.errors import Passing, Stopped, Unfit
-from pgsub_feed.faults import Damaged
+from pgsub_feed.errors import Damaged, Passing, Stopped, Unfit
 from pgsub_feed.interruption import never
 from pgsub_feed.program import Worker, stop_by_signals
 from pgsub_feed.reader import following

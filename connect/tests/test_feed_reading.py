@@ -10,11 +10,9 @@ from pathlib import Path
 from unittest import mock
 
 from feed_text import UNSENT, About, Column, Line, closing_line, segment_head
-from hypothesis import given, settings
-from hypothesis import strategies as st
+from hypothesis import given, settings, strategies as st
 
-from pgsub_feed.errors import FileError, Unfit
-from pgsub_feed.faults import Damaged
+from pgsub_feed.errors import Damaged, FileError, Unfit
 from pgsub_feed.interruption import never
 from pgsub_feed.reader import commits
 from pgsub_feed.reader.commits import Change, Missed, Part, TableLine

@@ -28,7 +28,7 @@ from pgsub_feed.interruption import Check, never
 from pgsub_feed.reader.positions import Noted
 from pgsub_feed.reader.segments import segments
 from pgsub_feed.tables import first_rows
-from pgsub_feed.tables.position import read_position
+from pgsub_feed.tables.schema import read_position
 
 from .feeds import ID, NAME, STOCK, FeedCase, delete, insert, table, truncate, update
 from .stores import Store

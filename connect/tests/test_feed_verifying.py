@@ -13,16 +13,15 @@ from types import SimpleNamespace
 from typing import Any
 from unittest import mock
 
-from feed_text import About
-from feed_text import Column as TextColumn
+from feed_text import About, Column as TextColumn
 
 from pgsub_connect.commands import tables
 from pgsub_connect.commands.tables import Options
 from pgsub_connect.copy.source import chosen
 from pgsub_connect.server.catalog import Table
-from pgsub_connect.server.subscription import Subscription
+from pgsub_connect.server.session import Subscription
 from pgsub_connect.verify import tables_file
-from pgsub_connect.verify.tables_comparison import TablesComparison
+from pgsub_connect.verify.tables_file import TablesComparison
 from pgsub_feed.errors import FileError, Passing, Stopped, Unfit
 from pgsub_feed.interruption import never
 from pgsub_feed.reader.trail import Gone, Trail

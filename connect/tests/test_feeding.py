@@ -18,19 +18,17 @@ from feed_text import Column, lsn_text
 
 from pgsub_connect.commands.arguments.feed import settled_feed
 from pgsub_connect.drift.remembered import Remembered
-from pgsub_connect.drift.tolerance import Tolerance
-from pgsub_connect.follow import feed as feed_module
-from pgsub_connect.follow import drift_watch, feed_keeper, process_beside, tables_process
-from pgsub_connect.follow.feed import Feeding, FeedSettings
+from pgsub_connect.follow import drift_watch, feed as feed_module, feed_keeper, process_beside
+from pgsub_connect.follow.feed import FeedSettings, Feeding
 from pgsub_connect.follow.feed_keeper import Keeper
 from pgsub_connect.follow.follower import Follower
+from pgsub_connect.follow.process_beside import Beside, TablesSettings
 from pgsub_connect.follow.retention import Limits
-from pgsub_connect.follow.tables_process import Beside, TablesSettings
-from pgsub_connect.server.subscription import Subscription
+from pgsub_connect.server.session import Subscription
+from pgsub_connect.status.files import status_fields
 from pgsub_connect.status.metrics import metrics_text
 from pgsub_connect.status.progress import Progress
-from pgsub_connect.status.status_file import status_fields
-from pgsub_connect.stream.common import Common
+from pgsub_connect.stream.common import Common, Tolerance
 from pgsub_connect.stream.filter_end import FilterEnded
 from pgsub_connect.stream.statuses import Reached
 from pgsub_feed.errors import FileError, Unfit, UsageError
@@ -43,9 +41,7 @@ from .fake_server import Quiet
 from .feeds import ID, FeedCase, insert, table, truncate
 from .settled import options_of
 from .test_following import Case
-from .vectors import begin, commit
-from .vectors import insert as inserted
-from .vectors import keepalive, relation
+from .vectors import begin, commit, insert as inserted, keepalive, relation
 
 # What a child's code has before it begins.
 QUICK = (
@@ -415,13 +411,13 @@ class Refused(Quiet):
             FileError, "rows.db is there and has no tables that follow a feed"
         ):
             self.feeding(tables=rows).check()
-        with mock.patch.object(tables_process, "is_tables", lambda _: True), self.assertRaisesRegex(
+        with mock.patch.object(process_beside, "is_tables", lambda _: True), self.assertRaisesRegex(
             Unfit, "an older copy has left: .*/rows.db"
         ):
             self.feeding(tables=rows).check()
         self.assertFalse(os.path.exists(self.store + ".feed"))
         os.makedirs(self.store + ".feed/readers")
-        with mock.patch.object(tables_process, "is_tables", lambda _: True), self.assertRaisesRegex(
+        with mock.patch.object(process_beside, "is_tables", lambda _: True), self.assertRaisesRegex(
             Unfit, "rm -r .*/copy.db.feed .*/rows.db;"
         ):
             self.feeding(tables=rows).check()

@@ -15,7 +15,7 @@ from pgsub_connect.stream import filter as filter_module
 from pgsub_connect.stream.filter import Filter
 from pgsub_connect.stream.filter_end import MISSED, FilterEnded, Missing, missing_of
 from pgsub_connect.stream.filter_input import PIECE, ROOM
-from pgsub_connect.stream.frames import (
+from pgsub_connect.stream.messages import (
     COPY_DONE,
     HEADERS,
     STATUS_HEAD,

@@ -15,8 +15,7 @@ from pathlib import Path
 from typing import Any
 from unittest import mock
 
-from pgsub_connect.copy import table_reader
-from pgsub_connect.copy import tables as tables_module
+from pgsub_connect.copy import table_reader, tables as tables_module
 from pgsub_connect.copy.copier import Copier
 from pgsub_connect.copy.messages import InsertHeads, inserts
 from pgsub_connect.copy.rows_beside import RowsBeside
@@ -24,7 +23,7 @@ from pgsub_connect.drift.remembered import Remembered
 from pgsub_connect.errors import ServerError
 from pgsub_connect.follow import first_rows
 from pgsub_connect.follow.first_rows import FirstRows
-from pgsub_connect.follow.tables_process import Beside, TablesSettings
+from pgsub_connect.follow.process_beside import Beside, TablesSettings
 from pgsub_connect.server.catalog import Table
 from pgsub_connect.status.progress import Progress
 from pgsub_connect.store import copied_rows
@@ -33,7 +32,7 @@ from pgsub_feed.errors import Stopped
 from pgsub_feed.interruption import never
 from pgsub_feed.relation import Column, Shape
 from pgsub_feed.tables.file import Rows
-from pgsub_feed.tables.position import read_position
+from pgsub_feed.tables.schema import read_position
 from pgsub_feed.tables.values import BOTH
 
 from .fake_server import Quiet

@@ -13,9 +13,7 @@ from unittest import mock
 from server_messages import described, row
 
 from pgsub_connect.errors import ServerError, WrongAnswer
-from pgsub_connect.server import notices
-from pgsub_connect.server import rows as rows_module
-from pgsub_connect.server import wire
+from pgsub_connect.server import libpq as rows_module, notices, wire
 from pgsub_connect.server.connection import Connection
 from pgsub_feed.errors import Stopped
 

@@ -16,16 +16,23 @@ from unittest import mock
 from pgsub_connect.drift.findings import About
 from pgsub_connect.drift.remembered import Remembered
 from pgsub_connect.errors import FilterFault, ServerError, Unconnected
-from pgsub_connect.follow import drift_watch, filter_life
-from pgsub_connect.follow import follower as follower_module
-from pgsub_connect.follow import schedule
-from pgsub_connect.follow import session as session_module
-from pgsub_connect.follow import upkeep
+from pgsub_connect.follow import (
+    drift_watch,
+    filter_life,
+    follower as follower_module,
+    schedule,
+    session as session_module,
+    upkeep,
+)
 from pgsub_connect.follow.follower import Follower
 from pgsub_connect.follow.snapshots import Snapshots
-from pgsub_connect.server import addresses
-from pgsub_connect.server import connection as connection_module
-from pgsub_connect.server import session, ticks, transport
+from pgsub_connect.server import (
+    addresses,
+    connection as connection_module,
+    libpq,
+    session,
+    transport,
+)
 from pgsub_connect.server.session import Server
 from pgsub_connect.server.transport import Protection
 from pgsub_connect.status.progress import Progress
@@ -35,7 +42,7 @@ from pgsub_connect.stream import statuses
 from pgsub_connect.stream.awake import Awake
 from pgsub_connect.stream.filter import Filter
 from pgsub_connect.stream.filter_end import FilterEnded
-from pgsub_connect.stream.frames import flushed
+from pgsub_connect.stream.messages import flushed
 from pgsub_feed.errors import Passing, Unfit
 from pgsub_feed.texts import lsn_text, parse_lsn
 
@@ -76,7 +83,7 @@ class Case(Quiet):
         self.server = SmallServer(self.folder, self.brain)
         self.addCleanup(self.server.close)
         for where, name, by in (
-            (ticks, "TICK", 0.02),
+            (libpq, "TICK", 0.02),
             *((where, "STEP", 0.02) for where in FOLLOW),
             (statuses, "QUIET", 0.3),
             (filter_life, "SLEEP", 0.02),

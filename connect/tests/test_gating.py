@@ -9,33 +9,29 @@ import time
 import unittest
 from unittest import mock
 
-from pgsub_connect.add import addable, turn
+from pgsub_connect.add import requests, turn
 from pgsub_connect.errors import Delayed, ServerError, Unrepaired
 from pgsub_connect.follow import schedule
-from pgsub_connect.server.subscription import Subscription
+from pgsub_connect.server.session import Subscription
 from pgsub_connect.status.progress import Progress
 from pgsub_connect.stream import gate
-from pgsub_connect.stream.frames import flushed
 from pgsub_connect.stream.gate import Gating, Making, is_shared, too_large_to_copy
 from pgsub_connect.stream.hold import Hold
+from pgsub_connect.stream.messages import flushed
 from pgsub_connect.verify import store as verify_store
 from pgsub_connect.verify.comparison import Compared
-from pgsub_connect.verify.meeting_point import Request
+from pgsub_connect.verify.store import Request
 from pgsub_feed.errors import Passing, Stopped
 from pgsub_feed.interruption import never
 from pgsub_feed.texts import lsn_text
 
-from .adding_case import OTHER
-from .adding_case import Case as AddingCase
-from .adding_case import Run, T
+from .adding_case import OTHER, Case as AddingCase, Run, T
 from .asking import Asker, asking, snapshots_of
 from .fake_server import FakeServer, Quiet, Row
 from .small_world import WorldSource, insert, table, wait_for
 from .stores import StoreCase
 from .test_repairing import Repairs as RepairsCase
-from .vectors import begin, commit
-from .vectors import insert as change
-from .vectors import keepalive, logged
+from .vectors import begin, commit, insert as change, keepalive, logged
 
 
 class Gates(unittest.TestCase):
@@ -374,7 +370,7 @@ class Synchronous(AddingCase):
         run.end()
 
     def test_a_large_table_is_rejected_before_anything_is_held(self) -> None:
-        self.patch(addable, "TABLE", 10)
+        self.patch(requests, "TABLE", 10)
         run = Run(self)
         self.assertTrue(run.until(lambda: run.progress.state == "following"))
         answer = run.ask(add=[T])
@@ -385,7 +381,7 @@ class Synchronous(AddingCase):
 
     def test_a_large_table_that_is_to_come_waits(self) -> None:
         """Until no commit waits any more."""
-        self.patch(addable, "TABLE", 10)
+        self.patch(requests, "TABLE", 10)
         self.spoil()
         self.want(T)
         told: list[bool] = []
@@ -393,7 +389,7 @@ class Synchronous(AddingCase):
         def hook(name: str) -> None:
             if any("it is added later" in it for it in self.said) and not told:
                 told.append(True)
-                self.patch(addable, "TABLE", 1 << 20)
+                self.patch(requests, "TABLE", 1 << 20)
             if name == "make_slot":
                 self.waits = False
 

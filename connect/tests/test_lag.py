@@ -7,9 +7,9 @@ import unittest
 from unittest import mock
 
 from pgsub_connect.drift.remembered import Remembered
-from pgsub_connect.status.lag import Lag
+from pgsub_connect.status.files import status_fields
 from pgsub_connect.status.progress import STATES, Progress
-from pgsub_connect.status.status_file import status_fields
+from pgsub_connect.status.state import Lag
 from pgsub_connect.stream.messages import EPOCH
 from pgsub_connect.stream.stream_log import Noting
 
@@ -64,7 +64,7 @@ class Behind(unittest.TestCase):
             self.lag.confirmed = now
             self.lag.note_answer(float(now), float(now), None, now)
         self.assertEqual((len(self.lag.asked), self.lag.seconds(101.0)), (1, 0.0))
-        with mock.patch("pgsub_connect.status.lag.MOST", 3):
+        with mock.patch("pgsub_connect.status.state.MOST", 3):
             self.lag = Lag()
         for now in range(1, 101):
             self.lag.note_answer(float(now), float(now), None, now)

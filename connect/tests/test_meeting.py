@@ -17,13 +17,12 @@ from pgsub_connect.errors import NoSlot, ServerError
 from pgsub_connect.follow.request_socket import RequestSocket
 from pgsub_connect.follow.snapshots import Snapshots
 from pgsub_connect.server.catalog import Table
-from pgsub_connect.server.subscription import Subscription
+from pgsub_connect.server.session import Subscription
 from pgsub_connect.store import at_rest
 from pgsub_connect.store.checkpoint_lines import FOLLOWING, Known
 from pgsub_connect.store.snapshot import position_in
-from pgsub_connect.verify import meeting_point
-from pgsub_connect.verify.meeting_point import Request
-from pgsub_connect.verify.store import meet
+from pgsub_connect.verify import store
+from pgsub_connect.verify.store import Request, meet
 from pgsub_feed.errors import Passing, Stopped, Unfit
 from pgsub_feed.interruption import Check, never
 from pgsub_feed.relation import Shape
@@ -146,7 +145,7 @@ class Asks(StoreCase):
         self.assertEqual(self.left(), {"copy.db", "copy.db.connector"})
 
     def test_a_follower_that_doesnt_answer(self) -> None:
-        with mock.patch.object(meeting_point, "PATIENCE", 0.02):
+        with mock.patch.object(store, "PATIENCE", 0.02):
             self.ask("hasn't answered in 0 seconds")
 
     def test_a_follower_that_ends(self) -> None:

@@ -13,8 +13,7 @@ from types import SimpleNamespace
 from typing import cast
 from unittest import mock
 
-from hypothesis import given, settings
-from hypothesis import strategies as st
+from hypothesis import given, settings, strategies as st
 
 from pgsub_connect.copy.messages import relation
 from pgsub_connect.copy.source import Source
@@ -25,7 +24,7 @@ from pgsub_connect.verify.repair_rows import Changes, Mender, NoChange, changes_
 from pgsub_connect.verify.sides import Copy, Sides
 from pgsub_feed.interruption import never
 from pgsub_feed.relation import Column, Shape
-from pgsub_feed.tables.row_texts import text_of
+from pgsub_feed.tables.printed import text_of
 
 from .drawn import ANY
 from .fake_server import connection_to

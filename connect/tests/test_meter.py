@@ -13,7 +13,7 @@ from unittest import mock
 
 from pgsub_connect.stream.filter import Filter
 from pgsub_feed import log
-from pgsub_feed.meter import Meter, progress_text
+from pgsub_feed.log import Meter, progress_text
 from pgsub_feed.texts import duration_text
 
 from .fake_server import Quiet

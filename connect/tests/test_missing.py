@@ -16,21 +16,20 @@ from pgsub_connect.commands import follow
 from pgsub_connect.commands.arguments.session import ACCEPTED
 from pgsub_connect.commands.follow import ENDS
 from pgsub_connect.drift.remembered import Remembered
-from pgsub_connect.drift.tolerance import Tolerance
 from pgsub_connect.errors import MISSED, ServerError
 from pgsub_connect.follow.follower import Follower
 from pgsub_connect.server.connection import Connection
-from pgsub_connect.server.subscription import Subscription
-from pgsub_connect.status.findings import Counted
+from pgsub_connect.server.session import Subscription
+from pgsub_connect.status.files import status_fields
 from pgsub_connect.status.progress import Progress
-from pgsub_connect.status.status_file import status_fields
+from pgsub_connect.status.state import Counted
 from pgsub_connect.store.checkpoint import Checkpoint
 from pgsub_connect.store.checkpoint_lines import Known, read_file
 from pgsub_connect.stream.awake import Awake
-from pgsub_connect.stream.common import Common
+from pgsub_connect.stream.common import Common, Tolerance
 from pgsub_connect.stream.filter_end import FilterEnded, Missing
 from pgsub_connect.stream.filter_input import FilterInput
-from pgsub_connect.stream.frames import flushed
+from pgsub_connect.stream.messages import flushed
 from pgsub_connect.stream.missed_rows import Misses, texts_of
 from pgsub_feed.errors import UNFIT, Passing, Unfit
 

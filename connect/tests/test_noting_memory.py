@@ -12,7 +12,7 @@ import unittest
 from collections.abc import Iterable, Iterator
 
 from pgsub_connect.drift.remembered import Remembered
-from pgsub_connect.status.counters import StreamCounters
+from pgsub_connect.status.state import StreamCounters
 from pgsub_connect.stream.messages import relation_of
 from pgsub_connect.stream.stream_log import Noting
 

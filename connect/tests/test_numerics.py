@@ -11,8 +11,7 @@ from decimal import Decimal
 from typing import Any
 
 from feed_text import Cell, Column, Line
-from hypothesis import given
-from hypothesis import strategies as st
+from hypothesis import given, strategies as st
 
 from pgsub_connect.server.catalog import Table
 from pgsub_connect.store.export import ExportSettings, export_store

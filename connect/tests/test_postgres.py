@@ -13,7 +13,7 @@ from unittest import mock
 from psycopg import pq
 
 from pgsub_connect.errors import ServerError, Unconnected
-from pgsub_connect.server import addresses, libpq, login, ticks, wire
+from pgsub_connect.server import addresses, libpq, login, wire
 from pgsub_connect.server.addresses import addresses_of, connect_limit, hosts_of, parameters
 from pgsub_connect.server.connection import COPY_BOTH, Connection
 from pgsub_connect.server.libpq import LIBPQ
@@ -48,7 +48,7 @@ class Case(Quiet):
         self.folder = self.make_folder()
         self.brain = FakeServer()
         self.server = self.start()
-        short = mock.patch.object(ticks, "TICK", 0.02)
+        short = mock.patch.object(libpq, "TICK", 0.02)
         short.start()
         self.addCleanup(short.stop)
         others = mock.patch.dict(os.environ, OTHERS, clear=True)

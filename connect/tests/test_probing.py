@@ -17,9 +17,8 @@ from unittest import mock
 
 from pgsub_connect import cli
 from pgsub_connect.commands import status as command
-from pgsub_connect.status.files import STATUS, Reporter, ReportSettings
+from pgsub_connect.status.files import STATUS, ReportSettings, Reporter, status_fields, time_text
 from pgsub_connect.status.progress import Progress
-from pgsub_connect.status.status_file import status_fields, time_text
 from pgsub_feed.errors import Stopped
 from pgsub_feed.version import VERSION
 
@@ -202,7 +201,7 @@ class Probes(unittest.TestCase):
 
     def test_another_version_is_installed(self) -> None:
         self.assertNotIn("installed", self.probe()[1])
-        with mock.patch("pgsub_connect.status.screen.VERSION", "0.2.0"):
+        with mock.patch("pgsub_connect.status.health.VERSION", "0.2.0"):
             code, text = self.probe()
         self.assertEqual(code, 0)
         self.assertIn(f"  it runs version {VERSION}, and 0.2.0 is installed: start it again", text)

@@ -10,12 +10,12 @@ from typing import Any
 from unittest import mock
 
 from pgsub_connect.commands import record
-from pgsub_connect.record.recorder import Recorder, RecordSettings
+from pgsub_connect.record.recorder import RecordSettings, Recorder
 from pgsub_connect.record.recording import Recording
 from pgsub_connect.server import transport
 from pgsub_connect.server.connection import Connection
-from pgsub_connect.server.subscription import Subscription
-from pgsub_connect.stream.frames import COPY_DONE, flushed
+from pgsub_connect.server.session import Subscription
+from pgsub_connect.stream.messages import COPY_DONE, flushed
 from pgsub_feed.errors import FileError, UsageError
 
 from .fake_server import FakeServer, Quiet

@@ -14,8 +14,7 @@ from collections.abc import Iterator
 from typing import Any
 from unittest import mock
 
-from pgsub_connect.commands import add
-from pgsub_connect.commands import refresh as refresh_module
+from pgsub_connect.commands import add, refresh as refresh_module
 from pgsub_connect.commands.refresh import CHANGED, EXTRA, MISSING, OTHER, Told, compared
 from pgsub_connect.drift.findings import NOTHING, About
 from pgsub_connect.drift.remembered import Remembered
@@ -23,7 +22,7 @@ from pgsub_connect.errors import ServerError
 from pgsub_connect.follow.request_socket import RequestSocket
 from pgsub_connect.follow.snapshots import Snapshots
 from pgsub_connect.server.catalog import Catalog, Part, Partition
-from pgsub_connect.store import asking, at_rest
+from pgsub_connect.store import at_rest, socket_file
 from pgsub_feed.errors import FileError, Passing, Stopped, Unfit
 from pgsub_feed.interruption import Check, never
 
@@ -140,7 +139,7 @@ class Case(Quiet):
             (add, "WAIT", 0.005),
             (refresh_module, "read_catalog", lambda *_: self.now),
             (at_rest, "LOOK", 0.005),
-            (asking, "STEP", 0.005),
+            (socket_file, "STEP", 0.005),
             (
                 add,
                 "published_tables",

@@ -8,8 +8,7 @@ from pgsub_connect.add import adder
 from pgsub_connect.drift.findings import About
 from pgsub_connect.drift.remembered import Remembered
 from pgsub_connect.errors import NoSlot, ServerError, Unconnected
-from pgsub_connect.store.checkpoint import Checkpoint
-from pgsub_connect.store.checkpoint_at_rest import read_known
+from pgsub_connect.store.checkpoint import Checkpoint, read_known
 from pgsub_feed.errors import Passing, Unfit
 
 from .adding_case import OTHER, THIRD, Case, Run, T

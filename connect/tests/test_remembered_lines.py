@@ -12,7 +12,7 @@ import unittest
 from collections.abc import Callable
 from unittest import mock
 
-from pgsub_connect.drift import durable_file as module
+from pgsub_connect.drift import remembered_lines as module
 from pgsub_connect.drift.remembered import Remembered
 from pgsub_feed.errors import FileError, Passing
 from pgsub_feed.files import replace_file

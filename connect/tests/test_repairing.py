@@ -25,12 +25,12 @@ from pgsub_connect.store import snapshot
 from pgsub_connect.stream.hold import Hold
 from pgsub_connect.stream.memory_limit import BufferLimits
 from pgsub_connect.verify.digests import Plan
-from pgsub_connect.verify.meeting_point import Request
 from pgsub_connect.verify.repair_rows import Changes, changes_of
+from pgsub_connect.verify.store import Request
 from pgsub_feed.errors import Passing
 from pgsub_feed.interruption import never
 from pgsub_feed.reader.commits import XID
-from pgsub_feed.tables.row_texts import text_of
+from pgsub_feed.tables.printed import text_of
 
 from .adding_case import OTHER, THIRD, Case, Run, T
 from .row_filter import Store

@@ -13,12 +13,12 @@ from pgsub_connect.errors import ServerError
 from pgsub_connect.follow import server_watch
 from pgsub_connect.follow.server_watch import Asker, SlotWarning
 from pgsub_connect.server import session
-from pgsub_connect.server.subscription import Subscription
+from pgsub_connect.server.session import Subscription
 from pgsub_connect.status import files
-from pgsub_connect.status.files import Replaced, Reporter, ReportSettings, program_version
-from pgsub_connect.status.findings import Counted
+from pgsub_connect.status.files import Replaced, ReportSettings, Reporter, program_version
 from pgsub_connect.status.metrics import metrics_text
 from pgsub_connect.status.progress import STATES, Progress
+from pgsub_connect.status.state import Counted
 
 from .fake_server import FakeServer, Quiet
 

@@ -19,8 +19,7 @@ from unittest import mock
 from pgsub_connect.follow import request_socket as requests_module
 from pgsub_connect.follow.request_socket import MOST, OTHERS, SHORT, UNTAKEN, RequestSocket
 from pgsub_connect.store import socket_file
-from pgsub_connect.store.asking import Asking
-from pgsub_connect.store.socket_file import LONGEST, connected, listening
+from pgsub_connect.store.socket_file import LONGEST, Asking, connected, listening
 from pgsub_feed.errors import FileError, Passing
 from pgsub_feed.interruption import never
 
@@ -33,7 +32,7 @@ OTHER = """
 import os, sys
 sys.path.insert(0, sys.argv[1])
 os.setgid(int(sys.argv[4])); os.setgroups([]); os.setuid(65534)
-from pgsub_connect.store.asking import Asking
+from pgsub_connect.store.socket_file import Asking
 from pgsub_connect.server.connection import never
 try:
     asking = Asking(sys.argv[2], never)

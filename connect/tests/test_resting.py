@@ -22,8 +22,7 @@ from pgsub_connect.cli import main
 from pgsub_connect.commands import snapshot
 from pgsub_connect.follow.request_socket import RequestSocket
 from pgsub_connect.follow.snapshots import Snapshots
-from pgsub_connect.store import at_rest as at_rest_module
-from pgsub_connect.store import export
+from pgsub_connect.store import at_rest as at_rest_module, export
 from pgsub_connect.store.at_rest import at_rest
 from pgsub_connect.store.export import ExportSettings
 from pgsub_connect.store.socket_file import listening
@@ -43,7 +42,7 @@ class Case(StoreCase):
     def setUp(self) -> None:
         super().setUp()
         self.patch("pgsub_connect.store.at_rest.LOOK", 0.01)
-        self.patch("pgsub_connect.store.asking.STEP", 0.01)
+        self.patch("pgsub_connect.store.socket_file.STEP", 0.01)
         self.store.table(1, "t")
         self.store.row(1, "1", "x")
         self.made = {"copy.db", "copy.db.connector"}

@@ -26,7 +26,7 @@ CONNECT = Path(__file__).resolve().parent.parent
 # Has the lock until it is killed.
 CODE = """
 import sys
-from pgsub_feed.sinks.alone import Alone
+from pgsub_feed.sinks.engine import Alone
 it = Alone(sys.argv[1], 0o600)
 it.take("kafka", "cluster pgsub.position", "Kafka")
 print(flush=True)
@@ -106,14 +106,14 @@ class OneOfTwo(test_sink_kafka.KafkaCase):
 
     def test_a_feed_where_it_may_not_write(self) -> None:
         wrong = PermissionError(errno.EACCES, "Permission denied")
-        with mock.patch("pgsub_feed.sinks.alone.make_folder", side_effect=wrong):
+        with mock.patch("pgsub_feed.sinks.engine.make_folder", side_effect=wrong):
             (told,) = self.run_it()
         self.assertRegex(
             told, "^warning: Kafka at h:9092: no lock keeps another sink of this feed from it: .*"
         )
         self.assertEqual(self.position()["lsn"], "0/100")
         full = OSError(errno.ENOSPC, "No space left on device")
-        with mock.patch("pgsub_feed.sinks.alone.make_folder", side_effect=full):
+        with mock.patch("pgsub_feed.sinks.engine.make_folder", side_effect=full):
             self.fails(OSError, "No space left")
 
     def test_it_is_no_reader(self) -> None:

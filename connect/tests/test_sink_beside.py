@@ -8,10 +8,10 @@ from unittest import mock
 from pgsub_connect.commands.arguments.feed import settled_feed
 from pgsub_connect.errors import Unread
 from pgsub_connect.follow import process_beside
-from pgsub_connect.follow.feed import Feeding, FeedSettings
-from pgsub_connect.follow.sink_process import Sink, SinkSettings
+from pgsub_connect.follow.feed import FeedSettings, Feeding
+from pgsub_connect.follow.process_beside import Sink, SinkSettings
+from pgsub_connect.status.files import status_fields
 from pgsub_connect.status.progress import Progress
-from pgsub_connect.status.status_file import status_fields
 from pgsub_connect.stream.common import Common
 from pgsub_feed.sinks.following import WAITS
 

@@ -10,19 +10,11 @@ from types import SimpleNamespace
 from typing import Any
 from unittest import mock
 
-from pgsub_connect.follow.sink_process import SinkSettings
+from pgsub_connect.follow.process_beside import SinkSettings
 from pgsub_connect.store.export import ExportSettings, export_store
-from pgsub_feed.errors import (
-    EngineError,
-    FileError,
-    Passing,
-    Stopped,
-    TooLarge,
-    Unfit,
-    UsageError,
-)
+from pgsub_feed.errors import EngineError, FileError, Passing, Stopped, TooLarge, Unfit, UsageError
 from pgsub_feed.interruption import Check, never
-from pgsub_feed.sinks.alone import Alone
+from pgsub_feed.sinks.engine import Alone
 from pgsub_feed.sinks.kafka_client import parts_of
 from pgsub_feed.sinks.kafka_engine import ATTEMPT, Kafka, connect
 from pgsub_feed.tables.values import ALL_TEXT

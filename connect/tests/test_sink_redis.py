@@ -32,8 +32,8 @@ from pgsub_feed.reader.commits import Commit
 from pgsub_feed.reader.following import Following
 from pgsub_feed.reader.polling import Poll
 from pgsub_feed.reader.positions import Noted
+from pgsub_feed.sinks.engine import Trail
 from pgsub_feed.sinks.first_rows import Base
-from pgsub_feed.sinks.reached import Trail
 from pgsub_feed.sinks.redis_calls import Connection, Said, packed_command, raised
 from pgsub_feed.sinks.redis_disk import Disk
 from pgsub_feed.sinks.redis_engine import Redis

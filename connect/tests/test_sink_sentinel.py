@@ -11,7 +11,7 @@ from unittest import mock
 
 from pgsub_connect.commands import sink
 from pgsub_connect.commands.sink import Options
-from pgsub_connect.follow.sink_process import SinkSettings
+from pgsub_connect.follow.process_beside import SinkSettings
 from pgsub_feed.errors import EngineError, Passing, UsageError
 from pgsub_feed.interruption import Check, never
 from pgsub_feed.sinks.redis_calls import Command, Said

@@ -10,8 +10,7 @@ from unittest import mock
 
 from pgsub_connect.commands import sink
 from pgsub_connect.commands.sink import Options
-from pgsub_feed.errors import EngineError, FileError, Passing, Stopped, Unfit
-from pgsub_feed.faults import Damaged
+from pgsub_feed.errors import Damaged, EngineError, FileError, Passing, Stopped, Unfit
 from pgsub_feed.interruption import Check, never
 from pgsub_feed.reader.polling import Poll
 from pgsub_feed.sinks.following import Outages

@@ -5,8 +5,14 @@ from __future__ import annotations
 import unittest
 
 from pgsub_connect.stream.filter_end import FRAME_TOO_LARGE, MEMORY, SPOOL_FULL, FilterEnded
-from pgsub_connect.stream.memory_limit import LONGEST_FRAME, BufferLimits
-from pgsub_connect.stream.too_large import LEAST, KilledTwice, Kills, text_of
+from pgsub_connect.stream.memory_limit import (
+    LEAST,
+    LONGEST_FRAME,
+    BufferLimits,
+    KilledTwice,
+    Kills,
+    limit_text,
+)
 from pgsub_feed.errors import REJECTED
 
 from .test_passing import Case, Source
@@ -62,7 +68,7 @@ class Texts(unittest.TestCase):
         ):
             for part in parts:
                 self.assertIn(
-                    part, text_of(FilterEnded(SPOOL_FULL, ""), self.LIMITS, transaction, 0)
+                    part, limit_text(FilterEnded(SPOOL_FULL, ""), self.LIMITS, transaction, 0)
                 )
 
     def test_frame(self) -> None:
@@ -77,21 +83,21 @@ class Texts(unittest.TestCase):
             ),
         ):
             self.assertEqual(
-                text_of(FilterEnded(FRAME_TOO_LARGE, ""), self.LIMITS, (0, 0), longest),
+                limit_text(FilterEnded(FRAME_TOO_LARGE, ""), self.LIMITS, (0, 0), longest),
                 f"{wanted}, and memory for it",
             )
         limits = BufferLimits(1 << 40, LONGEST_FRAME - 5)
-        text = text_of(FilterEnded(FRAME_TOO_LARGE, ""), limits, (0, 0), LONGEST_FRAME - 6)
+        text = limit_text(FilterEnded(FRAME_TOO_LARGE, ""), limits, (0, 0), LONGEST_FRAME - 6)
         self.assertIn(f"give --max-frame {LONGEST_FRAME}, and", text)
         limits = BufferLimits(1 << 40, LONGEST_FRAME)
         self.assertIn(
             "the most that can be",
-            text_of(FilterEnded(FRAME_TOO_LARGE, ""), limits, (0, 0), LONGEST_FRAME),
+            limit_text(FilterEnded(FRAME_TOO_LARGE, ""), limits, (0, 0), LONGEST_FRAME),
         )
 
     def test_others(self) -> None:
         for status in (1, 3, 12, 13, MEMORY, 15, -9):
-            self.assertEqual(text_of(FilterEnded(status, ""), self.LIMITS, (7, 1200), 600), "")
+            self.assertEqual(limit_text(FilterEnded(status, ""), self.LIMITS, (7, 1200), 600), "")
 
 
 class Follows(Case):

@@ -12,9 +12,9 @@ import unittest.mock
 from pathlib import Path
 
 from pgsub_connect.errors import ServerError
-from pgsub_connect.follow import stall
+from pgsub_connect.follow import upkeep
 from pgsub_connect.follow.follower import Follower
-from pgsub_connect.follow.stall import Standing, activity
+from pgsub_connect.follow.upkeep import Standing, activity
 
 from .test_following import Case
 from .vectors import begin, commit, insert
@@ -88,7 +88,7 @@ class Stopped(Case):
         self.assertRegex(self.ended()[0], rf"the filter \(process {pid}\) {text}")
 
     def test_sooner_where_the_slot_is_about_to_be_lost(self) -> None:
-        self.patch(stall, "ENDANGERED", 0.2)
+        self.patch(upkeep, "ENDANGERED", 0.2)
         follower = self.stopped(600.0)
         began, slot = list[float](), follower.progress.slot
 
@@ -100,13 +100,13 @@ class Stopped(Case):
                 slot.note("unreserved", None)
             return self.then_goes_on(follower, bool(self.ended()))
 
-        self.patch(stall, "NOTED", 0.05)
+        self.patch(upkeep, "NOTED", 0.05)
         self.run_until(follower, holds)
         self.assertIn("and the slot is about to be lost", self.ended()[0])
         self.assertLess(time.monotonic() - began[0], 60.0)
 
     def test_what_was_told_of_the_slot_before_isnt_why(self) -> None:
-        self.patch(stall, "ENDANGERED", 0.1)
+        self.patch(upkeep, "ENDANGERED", 0.1)
         follower = self.stopped(1.0)
         slot = follower.progress.slot
         slot.note("unreserved", None)
@@ -117,7 +117,7 @@ class Stopped(Case):
     def test_one_that_gets_on_is_kept(self) -> None:
         """Something of what the system says of it moves, though it takes nothing."""
         count = iter(range(1 << 20))
-        self.patch(stall, "activity", lambda _: (next(count),))
+        self.patch(upkeep, "activity", lambda _: (next(count),))
         follower = self.stopped(0.3)
         until = list[float]()
 
@@ -135,7 +135,7 @@ class Stopped(Case):
         def holds() -> bool:
             return follower.progress.slot.is_unread or bool(self.ended())
 
-        self.patch(stall, "NOTED", 0.05)
+        self.patch(upkeep, "NOTED", 0.05)
         disconnect, gone = follower.session.disconnect, list[bool]()
 
         def note() -> None:
@@ -155,7 +155,7 @@ class Held(Case):
         follower.life.start()
         follower.progress.slot.wal_status = "unreserved"
         now = [100.0]
-        self.patch(stall, "time", unittest.mock.Mock(monotonic=lambda: now[0]))
+        self.patch(upkeep, "time", unittest.mock.Mock(monotonic=lambda: now[0]))
         follower.standing.check(60.0, is_held=True)
         now[0] = follower.progress.slot.told = 101.0
         follower.standing.check(60.0, is_held=True)

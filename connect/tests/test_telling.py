@@ -5,7 +5,7 @@ from __future__ import annotations
 import dataclasses
 import unittest
 
-from pgsub_connect.drift.tell_once import warnings
+from pgsub_connect.drift.doubts import warnings
 from pgsub_connect.server.catalog import Catalog, Partition
 
 from .fake_server import FakeServer, connection_to

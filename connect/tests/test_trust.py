@@ -8,7 +8,7 @@ import unittest
 from unittest import mock
 
 from pgsub_connect.errors import ServerError, Unconnected
-from pgsub_connect.server import ticks, transport
+from pgsub_connect.server import libpq, transport
 from pgsub_connect.server.addresses import parameters
 from pgsub_connect.server.connection import Connection
 from pgsub_connect.server.transport import Protection, Trust
@@ -37,7 +37,7 @@ class Case(Quiet):
         self.patch(mock.patch.dict(os.environ, {**OTHERS, "HOME": self.folder}, clear=True))
         self.own = Trust()
         self.patch(mock.patch.object(transport, "OWN", self.own))
-        self.patch(mock.patch.object(ticks, "TICK", 0.02))
+        self.patch(mock.patch.object(libpq, "TICK", 0.02))
 
     def patch(self, patch: object) -> None:
         patch.start()  # type: ignore[attr-defined]

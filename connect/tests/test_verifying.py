@@ -13,8 +13,7 @@ from typing import Any, cast
 from unittest import mock
 
 from pgsub_connect import cli
-from pgsub_connect.commands import add as add_module
-from pgsub_connect.commands import verify
+from pgsub_connect.commands import add as add_module, verify
 from pgsub_connect.copy.source import Source
 from pgsub_connect.errors import NoSlot, Unrepaired
 from pgsub_connect.server.catalog import Table
@@ -25,7 +24,7 @@ from pgsub_connect.verify.sides import Copy, Sides
 from pgsub_feed.errors import FileError, Passing, Stopped, Unfit
 from pgsub_feed.interruption import never
 from pgsub_feed.relation import Column, Shape
-from pgsub_feed.tables.row_texts import text_of
+from pgsub_feed.tables.printed import text_of
 from pgsub_feed.tables.values import Malformed
 
 from .fake_server import FakeServer, connection_to
@@ -155,7 +154,7 @@ class Finds(Case):
         self.assertEqual((self.said, self.server.asked), ([], []))
 
     def test_how_far_it_is(self) -> None:
-        with mock.patch("pgsub_feed.meter.WRITTEN", -1.0):
+        with mock.patch("pgsub_feed.log.WRITTEN", -1.0):
             self.compare()
         rows, whole = len(ROWS) + len(EQUAL_ROWS), "comparing with the server public.whole"
         self.assertEqual(self.said[0], f"reading the copy: 0 of {rows - 1} rows, 0 a second")

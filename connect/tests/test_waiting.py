@@ -18,18 +18,18 @@ from unittest import mock
 
 from pgsub_connect.cli import main
 from pgsub_connect.commands import wait
+from pgsub_connect.follow.process_beside import Beside, TablesSettings
 from pgsub_connect.follow.request_socket import RequestSocket
-from pgsub_connect.follow.tables_process import Beside, TablesSettings
-from pgsub_connect.follow.waits import Waits
+from pgsub_connect.follow.requests import Waits
 from pgsub_connect.status.progress import Progress
-from pgsub_connect.store.asking import Asking
 from pgsub_connect.store.checkpoint import Checkpoint
+from pgsub_connect.store.socket_file import Asking
 from pgsub_connect.stream.statuses import Reached
 from pgsub_feed.errors import Stopped
 from pgsub_feed.interruption import never
 from pgsub_feed.reader import polling
 from pgsub_feed.reader.polling import Parent
-from pgsub_feed.tables.position import read_position
+from pgsub_feed.tables.schema import read_position
 
 from .asking import Asker, asking
 from .beside import started

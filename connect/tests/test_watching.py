@@ -10,16 +10,15 @@ from unittest import mock
 
 from pgsub_connect import cli
 from pgsub_connect.drift.remembered import Remembered
-from pgsub_connect.drift.tolerance import Tolerance
 from pgsub_connect.errors import ServerError
 from pgsub_connect.follow import drift_watch as watch_module
 from pgsub_connect.follow.drift_watch import Watch
 from pgsub_connect.server.catalog import Catalog
-from pgsub_connect.server.subscription import Subscription
+from pgsub_connect.server.session import Subscription
+from pgsub_connect.status.files import status_fields
 from pgsub_connect.status.progress import Progress
-from pgsub_connect.status.status_file import status_fields
 from pgsub_connect.store.checkpoint import Checkpoint
-from pgsub_connect.stream.common import Common
+from pgsub_connect.stream.common import Common, Tolerance
 from pgsub_feed.errors import FILE, Unfit
 from pgsub_feed.interruption import never
 from pgsub_feed.relation import Relation

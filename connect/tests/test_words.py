@@ -21,15 +21,15 @@ from pgsub_connect import cli
 from pgsub_connect.cli import main
 from pgsub_connect.commands import follow, names
 from pgsub_connect.commands.drop import ask_terminal
-from pgsub_connect.drift.tolerance import Tolerance
 from pgsub_connect.errors import FilterFault, ServerError
-from pgsub_connect.server import followed_publications
-from pgsub_connect.server.followed_publications import require_published
+from pgsub_connect.server import preflight
 from pgsub_connect.server.login import connection_error
+from pgsub_connect.server.preflight import require_published
 from pgsub_connect.server.publication_setup import Wanted
-from pgsub_connect.server.subscription import Subscription
+from pgsub_connect.server.session import Subscription
+from pgsub_connect.stream.common import Tolerance
 from pgsub_connect.stream.filter_end import FilterEnded
-from pgsub_connect.stream.too_large import KilledTwice
+from pgsub_connect.stream.memory_limit import KilledTwice
 from pgsub_feed.errors import (
     BUG,
     FILE,
@@ -273,7 +273,7 @@ class Words(Quiet):
 
     def test_limits(self) -> None:
         with mock.patch(
-            "pgsub_connect.commands.arguments.program.default_buffered", lambda: 1 << 28
+            "pgsub_connect.commands.arguments.session.default_buffered", lambda: 1 << 28
         ):
             self.assertEqual(
                 (self.settled().max_buffered, self.settled().max_frame), (1 << 28, 1 << 28)
@@ -422,7 +422,7 @@ class Compares(Quiet):
                 if f"SELECT {oid}::" in it
             ],
         )
-        patch = mock.patch.object(followed_publications, "Connection", self.server.connect)
+        patch = mock.patch.object(preflight, "Connection", self.server.connect)
         patch.start()
         self.addCleanup(patch.stop)
 

@@ -1,3 +1,3 @@
-"""Tables that are added, or copied anew, while the stream goes on: what is asked for (`requests`),
-whose changes are left out until then (`left_out`), the table whose turn it is (`turn`), and the
-steps (`adder`). `replacement` says what the stream becomes, `addable` what is asked of others."""
+"""Tables that are added, or copied anew, while the stream goes on: what is asked for, and
+which can't be (`requests`), the table whose turn it is (`turn`), and the steps (`adder`).
+`replacement` says what the stream becomes, and whose changes are left out of it."""

@@ -35,9 +35,8 @@ from ..stream.common import Common
 from ..stream.hold import Hold
 from ..stream.memory_limit import BufferLimits
 from ..stream.statuses import Confirming
-from .addable import Publications, Stream, TooLarge
-from .left_out import LeftOut
-from .requests import Requests
+from .replacement import LeftOut
+from .requests import Publications, Requests, Stream, TooLarge
 from .turn import SLOT, RowsSender, Turn
 
 IDLE, HELD, MAKING, GOING, SENT = "idle", "held", "making", "going", "sent"

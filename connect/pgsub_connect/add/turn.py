@@ -5,7 +5,7 @@ import time
 from collections.abc import Callable, Iterable
 
 from pgsub_feed.errors import Passing
-from pgsub_feed.meter import Meter
+from pgsub_feed.log import Meter
 from pgsub_feed.relation import Relation
 
 from ..copy.source import Source
@@ -13,12 +13,11 @@ from ..copy.table_reader import BLOCK
 from ..server.catalog import Table
 from ..server.publications import estimated_rows, sizes_of
 from ..status.progress import Progress
-from ..stream.gate import MOST as LONGEST_WAIT
-from ..stream.gate import WAITED, Making
+from ..stream.gate import MOST as LONGEST_WAIT, WAITED, Making
 from ..stream.memory_limit import BufferLimits
 from ..stream.stream_log import Noting
-from .addable import Stream, TooLarge, relation_of, table_of, too_large, too_long
 from .replacement import Rows, payload_of
+from .requests import Stream, TooLarge, relation_of, table_of, too_large, too_long
 
 # How long the stream is held at most until the slot is made, and for a lock of somebody else on the
 # table, in seconds; and the latter where commits wait.

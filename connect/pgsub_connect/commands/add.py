@@ -27,13 +27,11 @@ from ..server.catalog import Table
 from ..server.connection import Connection
 from ..server.publication_setup import names_of
 from ..server.publications import published_tables
-from ..server.session import settle
-from ..server.subscription import Subscription
+from ..server.session import Subscription, settle
 from ..store.at_rest import check_there, follower_of, is_followed
-from ..store.checkpoint_at_rest import locked, read_known
-from .arguments.exit_status import ADDED
+from ..store.checkpoint import locked, read_known
 from .arguments.server import StoreOptions, settled_store
-from .arguments.texts import each
+from .arguments.words import ADDED, each
 
 ABOUT = "copy tables anew beside what is followed: new ones, or any whose rows are wrong"
 ENDS = ADDED

@@ -12,12 +12,12 @@ from pgsub_feed.options import add_fields, option
 from pgsub_feed.program import check_signals
 
 from ..preconditions.judged import results
-from ..preconditions.result import ERROR, Purpose
+from ..preconditions.server import ERROR, Purpose
 from ..server.preflight import all_facts
 from ..server.transport import OWN
 from .arguments.publishing import CopyOptions, add_copying, check_publishing
 from .arguments.server import StoreOptions, settled_store
-from .arguments.texts import each
+from .arguments.words import each
 
 ABOUT = "tell what following needs of the server, and change nothing"
 ENDS = """\

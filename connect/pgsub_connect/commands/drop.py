@@ -21,7 +21,7 @@ from pgsub_feed.interruption import Check, never
 from pgsub_feed.json_texts import Unreadable, object_of, whole_of
 from pgsub_feed.options import option
 from pgsub_feed.program import check_signals
-from pgsub_feed.tables.position import read_position
+from pgsub_feed.tables.schema import read_position
 from pgsub_feed.tables.sqlite_files import is_tables
 from pgsub_feed.texts import literal
 
@@ -29,12 +29,12 @@ from ..drift.remembered_lines import read_lines
 from ..errors import understood
 from ..follow.retention import remove_feed
 from ..server.connection import Connection
+from ..server.libpq import TICK
 from ..server.publication_content import drop_publication, oid_of, other_slots
 from ..server.publication_setup import inserts_of
 from ..server.session import Server, database_oid, is_same_database, other_slot, settle
-from ..server.ticks import TICK
 from ..status.files import STATUS
-from ..store.checkpoint_at_rest import locked, read_known
+from ..store.checkpoint import locked, read_known
 from ..store.placing import OF_COPY, OF_STORE
 from .arguments.server import StoreOptions, settled_store
 

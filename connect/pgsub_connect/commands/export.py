@@ -8,10 +8,8 @@ from pgsub_feed.program import check_signals
 from pgsub_feed.tables.values import ALL_TEXT
 
 from ..store.export import ExportSettings, export_store
-from .arguments.exit_status import COPIED
-from .arguments.files import StoreCopyOptions, settled_store_copy
 from .arguments.following import INDEXES, numeric_option
-from .arguments.texts import check_texts, each
+from .arguments.words import COPIED, StoreCopyOptions, check_texts, each, settled_store_copy
 
 ABOUT = "make ordinary tables of SQLite from the rows of a store, or of a copy of one"
 ENDS = COPIED.replace(

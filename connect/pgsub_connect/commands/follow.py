@@ -17,7 +17,6 @@ from pgsub_feed.program import Worker, stop_by_signals
 from ..copy.copier import Copier, CopySettings
 from ..copy.slots import create_slot
 from ..drift.remembered import Remembered
-from ..drift.tolerance import Tolerance
 from ..errors import MISSED, LostSlot
 from ..follow.feed import Feeding
 from ..follow.follower import Follower
@@ -28,29 +27,35 @@ from ..follow.settings import FollowSettings
 from ..follow.snapshots import Snapshots
 from ..record.recording import Aside, Recording
 from ..server import transport
-from ..server.followed_publications import require_published
-from ..status.files import STATUS, Reporter, ReportSettings
+from ..server.preflight import require_published
+from ..status.files import STATUS, ReportSettings, Reporter
 from ..status.notify import notifier_of
 from ..status.progress import Progress
 from ..store.checkpoint import Checkpoint
 from ..store.checkpoint_lines import FOLLOWING, INTERRUPTED
 from ..store.placing import check_meant
 from ..store.snapshot import part_of
-from ..stream.common import Common
+from ..stream.common import Common, Tolerance
 from ..stream.filter import Filter
-from .arguments import exit_status
+from .arguments import words
 from .arguments.feed import FeedOptions, settled_feed
-from .arguments.files import check_files
 from .arguments.following import check_numeric
-from .arguments.program import SizeOptions, settled_sizes
 from .arguments.publishing import CopyOptions, add_copying, check_creates, check_publishing
 from .arguments.server import ServerOptions, settled_server
-from .arguments.session import AlterOptions, SessionOptions, WatchOptions, add_session, longest
-from .arguments.texts import check_needs, each
+from .arguments.session import (
+    AlterOptions,
+    SessionOptions,
+    SizeOptions,
+    WatchOptions,
+    add_session,
+    longest,
+    settled_sizes,
+)
+from .arguments.words import check_files, check_needs, each
 from .snapshot import check_copied
 
 ABOUT = "copy tables into a store, and follow their changes"
-ENDS = exit_status.ENDS
+ENDS = words.ENDS
 
 
 @dataclasses.dataclass(frozen=True)

@@ -3,23 +3,20 @@
 import argparse
 import dataclasses
 
-from pgsub_feed.arguments import lsn
-from pgsub_feed.options import add_fields, option
+from pgsub_feed.options import add_fields, lsn, option
 from pgsub_feed.program import stop_by_signals
 
 from ..copy.slots import create_slot, maker_of
-from ..record.recorder import Recorder, RecordSettings
+from ..record.recorder import RecordSettings, Recorder
 from ..record.recording import Recording
-from .arguments import exit_status
-from .arguments.files import check_files
+from .arguments import words
 from .arguments.publishing import PublishingOptions, check_creates, check_publishing
 from .arguments.server import ServerOptions, settled_server
 from .arguments.session import longest
-from .arguments.texts import check_needs, each
-from .arguments.types import any_seconds, lsn_or_now, within
+from .arguments.words import any_seconds, check_files, check_needs, each, lsn_or_now, within
 
 ABOUT = "record what a server sends, and confirm nothing"
-ENDS = exit_status.ENDS
+ENDS = words.ENDS
 
 
 @dataclasses.dataclass(frozen=True)

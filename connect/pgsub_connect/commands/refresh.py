@@ -31,13 +31,12 @@ from ..server.catalog import Catalog
 from ..server.catalog_reader import read_catalog
 from ..server.connection import Connection
 from ..server.publication_setup import names_of
-from ..server.session import settle
-from ..server.subscription import Subscription
+from ..server.session import Subscription, settle
 from ..store.at_rest import check_there
-from ..store.checkpoint_at_rest import read_known
+from ..store.checkpoint import read_known
 from . import add
-from .arguments.exit_status import ADDED
 from .arguments.server import StoreOptions, settled_store
+from .arguments.words import ADDED
 from .drop import ask_terminal
 
 ABOUT = "tell which tables lack rows, were altered, or left the publication, and mend it"

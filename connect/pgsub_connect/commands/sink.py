@@ -7,34 +7,30 @@ import os
 from collections.abc import Sequence
 
 from pgsub_feed import log
-from pgsub_feed.arguments import lsn
 from pgsub_feed.debezium.settings import DEBEZIUM, SCHEMAS
 from pgsub_feed.errors import NoFeed, Passing, UsageError
 from pgsub_feed.interruption import Check
 from pgsub_feed.known_tables import KnownTables, known_beside
-from pgsub_feed.options import add_fields, option
+from pgsub_feed.options import add_fields, lsn, option
 from pgsub_feed.ownership import readable_by, readable_text
 from pgsub_feed.program import check_signals
 from pgsub_feed.reader.polling import Parent
 from pgsub_feed.reader.segments import segments
 from pgsub_feed.sinks import (
+    connecting,
     kafka_engine,
     nats_engine,
+    redis_calls,
     redis_hashes,
-    redis_sentinel,
     redis_streams,
-    urls,
 )
-from pgsub_feed.sinks.alone import Alone
-from pgsub_feed.sinks.engine import Engine
+from pgsub_feed.sinks.connecting import ENVIRONMENT, FORMS, scheme
+from pgsub_feed.sinks.engine import Alone, Engine
 from pgsub_feed.sinks.following import keep
 from pgsub_feed.sinks.redis_engine import Redis, Writer
-from pgsub_feed.sinks.urls import ENVIRONMENT, FORMS, scheme
 
-from .arguments.files import use_mode
 from .arguments.following import FollowingOptions, add_beginning, add_end, add_reader
-from .arguments.texts import check_texts, each
-from .arguments.types import within
+from .arguments.words import check_texts, each, use_mode, within
 
 ABOUT = """\
 write a feed to Redis, NATS JetStream or Kafka
@@ -97,7 +93,7 @@ class Options(FollowingOptions):
         f"where to write: {FORMS} (default: {ENVIRONMENT} of the environment)",
         "",
         nargs="?",
-        type=urls.url,
+        type=connecting.url,
         default="",
     )
     url_file: str | None = option(
@@ -171,7 +167,7 @@ def engine_of(
         return nats_engine.connect(options.url, stream, replicas, check)
     if options.stream or options.replicas:
         raise UsageError("--stream and --replicas are for NATS")
-    calls = redis_sentinel.connected(options.url, check)
+    calls = redis_calls.connected(options.url, check)
     if options.form == "streams":
         return Redis(calls, redis_streams.Streams(calls), check, writer)
     return Redis(calls, redis_hashes.Hashes(calls), check, writer, known)

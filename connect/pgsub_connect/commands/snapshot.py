@@ -16,8 +16,7 @@ from ..store.at_rest import at_rest, failed
 from ..store.file import check_store, is_store
 from ..store.placing import check_into
 from ..store.snapshot import fold, position_in
-from .arguments.exit_status import COPIED
-from .arguments.files import StoreCopyOptions, settled_store_copy
+from .arguments.words import COPIED, StoreCopyOptions, settled_store_copy
 
 ABOUT = "copy a store into one file"
 ENDS = COPIED

@@ -16,15 +16,13 @@ from collections.abc import Callable, Iterator, Sequence
 from typing import Any
 
 from pgsub_feed import json_texts, log
-from pgsub_feed.arguments import BYTES, SECONDS, duration
 from pgsub_feed.errors import Stopped, UsageError
 from pgsub_feed.interruption import Check
-from pgsub_feed.options import add_fields, option
+from pgsub_feed.options import BYTES, SECONDS, add_fields, duration, option
 from pgsub_feed.program import check_signals
 
 from ..status.files import STATUS
-from ..status.health import KINDS, Fault, Limit, faults
-from ..status.screen import cures_of, line_of, screen_of
+from ..status.health import KINDS, Fault, Limit, cures_of, faults, line_of, screen_of
 
 ABOUT = """\
 tell how a follower is, as a probe does, or on a screen

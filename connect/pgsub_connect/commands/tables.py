@@ -7,11 +7,10 @@ import os
 import sqlite3
 
 from pgsub_feed import log
-from pgsub_feed.arguments import lsn
 from pgsub_feed.errors import UsageError
 from pgsub_feed.interruption import Check
 from pgsub_feed.known_tables import known_beside
-from pgsub_feed.options import add_fields, option
+from pgsub_feed.options import add_fields, lsn, option
 from pgsub_feed.program import check_signals
 from pgsub_feed.reader.polling import Parent
 from pgsub_feed.tables.first_rows import check_file
@@ -21,8 +20,6 @@ from pgsub_feed.tables.sqlite_files import check_sqlite, failed
 from pgsub_feed.texts import lsn_text
 
 from ..server.publication_setup import names_of
-from .arguments.exit_status import FED
-from .arguments.files import check_files, use_mode
 from .arguments.following import (
     INDEXES,
     FollowingOptions,
@@ -32,7 +29,7 @@ from .arguments.following import (
     check_numeric,
     numeric_option,
 )
-from .arguments.texts import check_texts, each
+from .arguments.words import FED, check_files, check_texts, each, use_mode
 
 ABOUT = """\
 keep ordinary tables of SQLite that follow a feed

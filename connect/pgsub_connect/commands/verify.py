@@ -17,12 +17,10 @@ from ..errors import Unrepaired
 from ..verify.comparison import DIFFERENT, EQUAL, Compared
 from ..verify.digests import NotText
 from ..verify.store import StoreComparison, compare, repair
-from ..verify.tables_comparison import TablesComparison
-from ..verify.tables_file import compare_tables, store_of
+from ..verify.tables_file import TablesComparison, compare_tables, store_of
 from . import add
 from .arguments.server import StoreOptions, settled_store
-from .arguments.texts import check_needs, each
-from .arguments.types import within, within_seconds
+from .arguments.words import check_needs, each, within, within_seconds
 
 ABOUT = "compare the copy of a follower that runs with its server, both at one LSN"
 ENDS = """\

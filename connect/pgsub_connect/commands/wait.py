@@ -11,21 +11,20 @@ import os
 import sqlite3
 import time
 
-from pgsub_feed import arguments
-from pgsub_feed.arguments import duration
+from pgsub_feed import options
 from pgsub_feed.errors import FileError, Passing, Stopped
 from pgsub_feed.interruption import Check
-from pgsub_feed.options import option
+from pgsub_feed.options import duration, option
 from pgsub_feed.program import check_signals
 from pgsub_feed.reader.segments import Reader, read_confirmed
-from pgsub_feed.tables.position import read_position
+from pgsub_feed.tables.schema import read_position
 from pgsub_feed.tables.set_aside import store_at
 from pgsub_feed.tables.sqlite_files import is_tables
 from pgsub_feed.texts import lsn_text
 
-from ..store.asking import Asking
-from ..store.checkpoint_at_rest import is_at_work, read_known
+from ..store.checkpoint import is_at_work, read_known
 from ..store.checkpoint_lines import FOLLOWING
+from ..store.socket_file import Asking
 
 ABOUT = """\
 wait until tables that follow a feed have all that was committed up to an LSN
@@ -47,7 +46,7 @@ SLEEP, STARTING = 0.1, 3.0
 class Options:
     """What is waited for, in which file, and for how long."""
 
-    lsn: int = option("LSN", "what is waited for", 0, type=arguments.lsn)
+    lsn: int = option("LSN", "what is waited for", 0, type=options.lsn)
     tables: str = option("--tables FILE", "the file with the tables", "", required=True)
     feed: str | None = option("--feed FOLDER", "the feed (default: the one that the file follows)")
     within: float = option(

@@ -25,7 +25,7 @@ import time
 
 from pgsub_feed import log
 from pgsub_feed.errors import FileError, Passing, Unfit
-from pgsub_feed.meter import Meter
+from pgsub_feed.log import Meter
 from pgsub_feed.program import Worker
 from pgsub_feed.texts import counted, lsn_text
 
@@ -37,16 +37,14 @@ from ..server.catalog import Table
 from ..server.connection import Connection
 from ..server.publication_setup import Wanted
 from ..server.publications import estimated_rows, sizes_of, stored_in
-from ..server.session import Server, identify, is_lost, settle, slot_position
-from ..server.subscription import Subscription
+from ..server.session import Server, Subscription, identify, is_lost, settle, slot_position
 from ..server.waits import Waiting, lock_text
 from ..status.progress import Progress
 from ..store.checkpoint import Checkpoint
 from ..store.checkpoint_lines import COPIED, COPYING, SLOT
-from ..stream import too_large
 from ..stream.filter import Filter
 from ..stream.filter_end import FilterEnded
-from ..stream.memory_limit import BufferLimits
+from ..stream.memory_limit import BufferLimits, limit_text
 from .copy_slot import CopySlot, is_left_open
 from .files import CopyFiles
 from .rows_beside import RowsBeside
@@ -142,7 +140,7 @@ class Copier(Worker):
             self.attempt()
             return True
         except FilterEnded as ended:
-            if text := too_large.text_of(ended, self.settings.limits, (0, 0), self.sender.longest):
+            if text := limit_text(ended, self.settings.limits, (0, 0), self.sender.longest):
                 log.error(text)
             if ended.is_rejection():
                 raise

@@ -16,10 +16,9 @@ from pgsub_feed.texts import counted, identifier, literal, lsn_text
 
 from ..errors import ServerError
 from ..server.connection import QUICK, Connection
-from ..server.lost_slot import IDLE, idle_limit
 from ..server.publication_setup import REFUSED
-from ..server.session import is_lost, settle, slot_position
-from ..server.subscription import Subscription
+from ..server.session import Subscription, is_lost, settle, slot_position
+from ..server.slot import IDLE, idle_limit
 from ..server.waits import Waiting
 from .slots import create_temporary
 from .table_reader import take_snapshot

@@ -14,8 +14,7 @@ from ..server.catalog_reader import read_catalog
 from ..server.connection import QUICK, Connection
 from ..server.publication_content import has_publication
 from ..server.publication_setup import Look, Maker, Wanted
-from ..server.session import settle, settle_for_slot, slot_position
-from ..server.subscription import Subscription
+from ..server.session import Subscription, settle, settle_for_slot, slot_position
 from ..server.waits import Waiting
 
 

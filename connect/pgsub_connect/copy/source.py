@@ -9,8 +9,8 @@ import time
 from collections.abc import Iterable, Mapping
 
 from pgsub_feed.errors import Passing, Unfit
-from pgsub_feed.help_form import meant
 from pgsub_feed.interruption import Check
+from pgsub_feed.options import meant
 from pgsub_feed.tables.names import names_of
 
 from ..drift.remembered import Remembered
@@ -18,8 +18,7 @@ from ..errors import NoSlot, ServerError
 from ..server.catalog import Table
 from ..server.connection import Connection
 from ..server.publications import published_tables
-from ..server.session import identify, is_same_database, settle
-from ..server.subscription import Subscription
+from ..server.session import Subscription, identify, is_same_database, settle
 from ..server.waits import Waiting
 from ..store.checkpoint_lines import FOLLOWING, Known
 from .slots import create_temporary

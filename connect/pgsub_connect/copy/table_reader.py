@@ -27,8 +27,7 @@ from ..errors import ServerError
 from ..server.catalog import Table
 from ..server.connection import Connection
 from ..server.publications import are_so_named, stored_in
-from ..server.session import settle
-from ..server.subscription import Subscription
+from ..server.session import Subscription, settle
 from .messages import InsertHeads, frame, inserts, relation
 from .rows_beside import RowsBeside
 

@@ -13,8 +13,7 @@ from ..server.catalog import Catalog, Table
 from ..server.catalog_reader import read_catalog
 from ..server.connection import Connection
 from ..server.publications import are_so_named, published_tables, sizes_of
-from ..server.session import settle
-from ..server.subscription import Subscription
+from ..server.session import Subscription, settle
 from .tries import CHANGED
 
 # for how many milliseconds a lock is waited for where names are compared

@@ -9,11 +9,10 @@ from pgsub_feed.texts import lsn_text, parse_lsn
 
 from ..server.catalog import Catalog, Table
 from .catalog_json import catalog_of, catalog_written, shape_of
-from .differences import differences, gone
+from .differences import differences, gone, shape_differences
 from .findings import NAMES, NOTHING, About, Findings, tables_of
 from .names import Names
 from .pending import Outstanding, Unsaved
-from .shape_differences import shape_differences
 
 FORMAT = 1
 

@@ -16,8 +16,7 @@ from pgsub_feed.errors import FileError
 
 from .baseline import FORMAT, Baseline
 from .catalog_json import json_text, noted_of, noted_written
-from .durable_file import DurableFile
-from .remembered_lines import check_said, noted_in, read_lines
+from .remembered_lines import DurableFile, check_said, noted_in, read_lines
 
 
 class Remembered(Baseline):

@@ -21,7 +21,7 @@ from ..server.catalog import Table
 from ..server.connection import Connection
 from ..server.publication_setup import names_of
 from ..server.publications import sizes_of
-from ..status.server_state import ServerState
+from ..status.progress import ServerState
 from ..stream.gate import CURE
 
 # After how many seconds a table that was copied anew is copied anew again, at first and at most;

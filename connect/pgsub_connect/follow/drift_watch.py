@@ -8,9 +8,8 @@ from pgsub_feed import log
 from pgsub_feed.errors import Passing, Unfit
 from pgsub_feed.interruption import Check
 
-from ..drift.doubts import resolved
+from ..drift.doubts import resolved, warnings
 from ..drift.findings import NAMES
-from ..drift.tell_once import warnings
 from ..errors import ServerError
 from ..server.catalog import Catalog
 from ..server.catalog_reader import read_catalog

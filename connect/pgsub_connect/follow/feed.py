@@ -25,8 +25,7 @@ import time
 from collections.abc import Callable
 
 from pgsub_feed import log
-from pgsub_feed.errors import FileError, Unfit
-from pgsub_feed.faults import Damaged
+from pgsub_feed.errors import Damaged, FileError, Unfit
 from pgsub_feed.interruption import Check
 from pgsub_feed.reader.base import remove_begun
 from pgsub_feed.reader.positions import make_folder
@@ -46,11 +45,15 @@ from ..stream.filter_end import FilterEnded
 from ..stream.statuses import Reached
 from .feed_keeper import Keeper
 from .first_rows import BaseRows, FirstRows
-from .process_beside import ProcessBeside
+from .process_beside import (
+    Beside,
+    ProcessBeside,
+    Sink,
+    SinkSettings,
+    TablesSettings,
+    check as check_tables,
+)
 from .retention import Limits
-from .sink_process import Sink, SinkSettings
-from .tables_process import Beside, TablesSettings
-from .tables_process import check as check_tables
 
 # How long a filter that is to end is waited for, before it is looked whether the end was asked for.
 STEP = 0.5

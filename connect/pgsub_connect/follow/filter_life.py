@@ -7,19 +7,17 @@ import time
 
 from pgsub_feed import log
 from pgsub_feed.errors import FileError, Passing, Stopped
-from pgsub_feed.meter import Meter
+from pgsub_feed.log import Meter
 from pgsub_feed.texts import counted
 
 from ..errors import FilterFault
-from ..stream import too_large
 from ..stream.awake import Awake, Numbers, Served
 from ..stream.filter_end import MISSED, FilterEnded
-from ..stream.memory_limit import BufferLimits
+from ..stream.memory_limit import BufferLimits, Kills, limit_text
 from ..stream.statuses import Confirming
 from .drift_watch import Watch
 from .feed import Feeding
-from .settings import Ending
-from .stream_form import StreamForm
+from .settings import Ending, StreamForm
 
 # How long the filter is waited for, and how long it is slept, before it is looked whether the end
 # was asked for.
@@ -44,7 +42,7 @@ class FilterLife:
         self.limits, self.filter, self.progress = limits, confirming.filter, confirming.progress
         self.confirming, self.noting, self.misses = confirming, confirming.noting, confirming.misses
         self.watch, self.form, self.ending, self.feeding = watch, form, ending, feeding
-        self.kills = too_large.Kills()
+        self.kills = Kills()
 
     def start(self) -> None:
         if self.filter.is_running():
@@ -145,7 +143,7 @@ class FilterLife:
         why = "open transactions were too much at a time"
         if not (ended.is_full() and self.form.stop_streaming(why)):
             largest = self.noting.largest()
-            if text := too_large.text_of(ended, self.limits, largest, self.noting.longest):
+            if text := limit_text(ended, self.limits, largest, self.noting.longest):
                 log.error(text)
             if self.feeding and (text := self.feeding.text_of(ended.said)):
                 log.error(text)

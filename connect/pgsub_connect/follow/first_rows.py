@@ -26,8 +26,7 @@ from ..copy.rows_beside import RowsBeside
 from ..store import base_files
 from ..store.checkpoint import Checkpoint
 from ..store.copied_rows import DONE, Wanted
-from .process_beside import START, environment
-from .tables_process import TablesSettings
+from .process_beside import START, TablesSettings, environment
 
 CODE = f"{START}from pgsub_connect.store.%s import run; run()"
 # How much may wait for the process, in bytes, and how long it may take once it has all rows and the

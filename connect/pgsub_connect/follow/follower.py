@@ -7,8 +7,8 @@ from pgsub_feed.errors import FileError, Passing, Stopped, Unfit
 
 from ..add.adder import Adder
 from ..errors import LOGIN, Renewed, ServerError, Unconnected
-from ..server.lost_slot import Repeats
 from ..server.publications import with_cure
+from ..server.slot import Repeats
 from ..stream.common import Common
 from ..stream.filter import Filter
 from ..stream.filter_end import FilterEnded
@@ -25,11 +25,9 @@ from .requests import Requests
 from .schedule import Delay, Schedule
 from .session import Session
 from .session_start import Recording, SessionStart
-from .settings import Ending, FollowSettings
+from .settings import Ending, FollowSettings, StreamForm
 from .snapshots import Snapshots
-from .stall import Standing
-from .stream_form import StreamForm
-from .upkeep import Upkeep
+from .upkeep import Standing, Upkeep
 
 # An error that the server doesn't expect of itself. PostgreSQL 15 has one (`could not map filenode
 # .. to relation OID`) where it streams a transaction beside a TRUNCATE, at each try. The same

@@ -1,7 +1,9 @@
-"""A process of this program beside a follower, which reads from its feed.
+"""Processes of this program beside a follower, which read from its feed: `pgsub-connect tables`
+for `--tables`, and `pgsub-connect sink` for each `--sink`.
 
-It is a reader of the feed with a name, so that the feed has what it lacks, and begins with a copy
-of the store, for which it asks the follower as any other program does. It ends with the follower: a
+Each is a reader of the feed with a name, so that the feed has what it lacks, and begins with a copy
+of the store, for which it asks the follower as any other program does; tables with the file that
+`follow.first_rows` has made with an initial copy, where there is one. It ends with the follower: a
 signal ends it, and where the follower is killed, the end of its input. A line of its input tells
 that the feed has more: until then it sleeps. One with an LSN asks for a line of its output with the
 LSN that it has reached, once that is this one.
@@ -10,19 +12,31 @@ LSN that it has reached, once that is this one.
 from __future__ import annotations
 
 import contextlib
+import dataclasses
 import os
 import signal
+import sqlite3
 import subprocess
 import sys
 import threading
 import time
+import urllib.parse
 from collections.abc import Callable, Mapping, Sequence
 from typing import IO
 
 from pgsub_feed import log
+from pgsub_feed.errors import FileError
+from pgsub_feed.reader.positions import READERS
+from pgsub_feed.sinks.connecting import ENVIRONMENT
+from pgsub_feed.sinks.following import WAITS
+from pgsub_feed.tables.set_aside import shown_asides
+from pgsub_feed.tables.sqlite_files import is_tables, opened
+from pgsub_feed.tables.values import BOTH
 from pgsub_feed.texts import lsn_text, parse_lsn
 
+from ..status.progress import Progress
 from ..stream.filter import KEPT
+from .retention import read_lsn
 
 # The statuses that another try doesn't mend; one that was killed by a signal has none above 0. And
 # that of one that can't be started now.
@@ -205,3 +219,143 @@ class ProcessBeside(threading.Thread):
             self.ask(lsn)
             return False
         return True
+
+
+READER = "tables"
+
+
+@dataclasses.dataclass(frozen=True)
+class TablesSettings:
+    """The file of tables, the feed that it follows and the store that the feed is of. `init`: the
+    SQL that is run once a table was made or altered; `digests`: whether one is kept of each
+    table; `numeric`: how numerics are kept; `indexes`: whether there are the server's."""
+
+    path: str
+    feed: str
+    store: str
+    mode: int = 0o600
+    init: str | None = None
+    digests: bool = False
+    numeric: str = BOTH
+    indexes: bool = False
+
+
+def check(settings: TablesSettings) -> None:
+    """Rejects a file that can't be one of tables that follow this store's feed, before anything is
+    made."""
+    path, folder = settings.path, os.path.dirname(os.path.abspath(settings.path))
+    if not os.path.lexists(path):
+        if not os.path.isdir(folder):
+            raise FileError(f"--tables {path}: there is no folder {folder}")
+    elif not (os.path.isfile(path) and is_tables(path)):
+        text = f"{path} is there and has no tables that follow a feed"
+        raise FileError(f"{text}: remove it, or name another file by --tables")
+
+
+def words_of(settings: TablesSettings) -> list[str]:
+    """How it is started."""
+    words = ["tables", "--feed", settings.feed, "--into", settings.path, "--store", settings.store]
+    words += ["--reader", READER, "--mode", f"{settings.mode:o}"]
+    words += ["--numeric", settings.numeric] + ["--digests"] * settings.digests
+    words += ["--indexes"] * settings.indexes
+    return words + (["--init", settings.init] if settings.init else [])
+
+
+class Beside(ProcessBeside):
+    """That process."""
+
+    def __init__(
+        self,
+        settings: TablesSettings,
+        progress: Progress,
+        wake: Callable[[], None] = lambda: None,
+        wait: Callable[[], None] = lambda: None,
+    ) -> None:
+        super().__init__(settings.path, "tables", words_of(settings), wake=wake)
+        self.wait = wait
+        self.path, self.progress = settings.path, progress
+        self.progress.feed.note_tables(settings.path)
+        self.reader = os.path.join(settings.feed, READERS, READER)
+
+    def run(self) -> None:
+        # (for what makes the file now)
+        self.wait()
+        super().run()
+
+    def is_of(self, path: object) -> bool:
+        """Whether these are the tables of a file."""
+        with contextlib.suppress(OSError, ValueError):
+            return isinstance(path, str) and os.path.samefile(path, self.path)
+        return False
+
+    def note_error(self, error: str) -> None:
+        self.progress.feed.note_tables_error(error)
+
+    def look(self) -> None:
+        """Shows which tables are set aside. It says a line of each once the file has it."""
+        with contextlib.suppress(OSError, sqlite3.Error, ValueError):
+            if os.path.exists(self.path):
+                with contextlib.closing(opened(self.path)) as db:
+                    asides = {it.name(): it.text() for it in shown_asides(db).values()}
+                self.progress.feed.note_tables_aside(asides)
+
+    def has(self, lsn: int) -> bool:
+        """Whether the disk has the tables at this LSN, or they don't follow any more."""
+        if self.progress.feed.tables_error or not self.is_alive():
+            return True
+        try:
+            # (before they are made its LSN is that of what they need)
+            return os.path.exists(self.path) and read_lsn(self.reader) >= lsn
+        except FileError:
+            return False
+
+
+@dataclasses.dataclass(frozen=True)
+class SinkSettings:
+    """Where it writes, the feed that it follows and the store that the feed is of."""
+
+    url: str
+    feed: str
+    store: str
+    mode: int = 0o600
+
+    def where(self) -> str:
+        """The URL without name and password, which may be after a `?` too, by which it is called."""
+        scheme, _, rest = self.url.partition("://")
+        place, _, query = rest.partition("?")
+        words = urllib.parse.parse_qs(query)
+        told = [f"?{it}={words[it][0]}" for it in ("db", "topic.prefix") if it in words]
+        return f"{scheme}://{place.rpartition('@')[2]}{''.join(told)}"
+
+    def reader(self) -> str:
+        """Its name as a reader of the feed."""
+        scheme, _, place = self.where().partition("://")
+        return f"sink-{scheme}-{urllib.parse.quote(place, safe='')}"
+
+    def words(self) -> list[str]:
+        """How it is started; the URL goes where no other account reads it."""
+        return [
+            *("sink", "--feed", self.feed, "--store", self.store),
+            *("--reader", self.reader(), "--mode", f"{self.mode:o}"),
+        ]
+
+
+class Sink(ProcessBeside):
+    """One of them."""
+
+    def __init__(self, settings: SinkSettings, progress: Progress) -> None:
+        where = settings.where()
+        super().__init__(where, f"sink {where}", settings.words(), {ENVIRONMENT: settings.url})
+        self.feed = progress.feed
+        self.note_started()
+
+    def note_started(self) -> None:
+        self.feed.note_sink(self.name, "begins")
+
+    def note_said(self, level: str, text: str) -> None:
+        """Shows that it waits, or why it ends, until it is well again."""
+        if level == "info" or level == "error" or WAITS in text:
+            self.feed.note_sink(self.name, "" if level == "info" else text)
+
+    def note_error(self, error: str) -> None:
+        self.feed.note_sink(self.name, f"ended: {error}")

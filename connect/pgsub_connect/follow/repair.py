@@ -44,8 +44,8 @@ from ..stream.memory_limit import BufferLimits
 from ..stream.messages import EPOCH, relation_of
 from ..stream.statuses import Confirming
 from .drift_watch import Watch
+from .settings import StreamForm
 from .snapshots import Snapshots
-from .stream_form import StreamForm
 
 # How many bytes of the file are passed on at a time.
 BLOCK = 1 << 17

@@ -1,5 +1,5 @@
 """What other programs ask of this follower by the socket `STORE.sock`, as the module
-`store.asking` says.
+`store.socket_file` says.
 
 The main loop waits for the socket, for who has connected and for `wake` as one file, beside the
 server and the filter. So a request is seen at once, and the end of who asked, too.

@@ -10,8 +10,7 @@ from pgsub_feed.texts import counted, literal, parse_lsn
 
 from ..errors import ServerError, understood
 from ..server.connection import QUICK, Connection
-from ..server.session import END, exact_end, postmaster_start
-from ..server.subscription import Subscription
+from ..server.session import END, Subscription, exact_end, postmaster_start
 from ..status.progress import Progress
 
 # After how many seconds the server is asked again: where somebody has asked for a file that shows

@@ -8,8 +8,8 @@ from pgsub_feed.texts import lsn_text
 from ..errors import ServerError
 from ..record.recording import Session as Recorded
 from ..server.connection import COPY_BOTH, Connection
-from ..server.lost_slot import lost_error
 from ..server.session import Server, identify, is_lost, log_end, sender_timeout, settle
+from ..server.slot import lost_error
 from .fitness import Fitting
 from .requests import Requests
 from .settings import FollowSettings

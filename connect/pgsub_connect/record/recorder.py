@@ -14,14 +14,14 @@ from pgsub_feed.texts import counted, identifier, lsn_text, replication_literal
 from ..server.connection import COPY_BOTH, Connection
 from ..server.session import (
     STREAMS,
+    Subscription,
     log_end,
     settle,
     settle_for_slot,
     tell_version_1,
     unsettle_for_slot,
 )
-from ..server.subscription import Subscription
-from ..stream.frames import COPY_DONE
+from ..stream.messages import COPY_DONE
 from .recording import Recording, Session
 
 EPOCH = 946684800

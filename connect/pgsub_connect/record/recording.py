@@ -10,7 +10,7 @@ from pgsub_feed import log
 from pgsub_feed.errors import FileError
 from pgsub_feed.texts import lsn_text
 
-from ..stream.frames import header
+from ..stream.messages import header
 
 LONGEST = 64 << 20
 # How each recording of this program begins.

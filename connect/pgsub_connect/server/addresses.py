@@ -17,7 +17,7 @@ from psycopg.conninfo import conninfo_to_dict
 from pgsub_feed.interruption import Check
 
 from ..errors import ServerError, Unconnected
-from .ticks import TICK
+from .libpq import TICK
 
 # After how many seconds a host is given up, at most.
 CONNECT_LIMIT = 10.0

@@ -11,7 +11,7 @@ from pgsub_feed.texts import literal, parse_lsn
 from ..errors import WrongAnswer, understood
 from .catalog import ACTIONS, Catalog, Part, Partition, Publication, Table, types_having
 from .connection import QUICK, Connection
-from .rows import Row
+from .libpq import Row
 
 # From which version on pg_get_publication_tables says exactly which columns are sent, and from
 # which it knows lists and filters.

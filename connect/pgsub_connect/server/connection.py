@@ -16,10 +16,8 @@ from pgsub_feed.texts import said_text, shortened
 from ..errors import ServerError, WrongAnswer, understood
 from . import login
 from .addresses import DEFAULTS, parameters
-from .libpq import is_by_gssapi
+from .libpq import TICK, Rows, is_by_gssapi, ready
 from .notices import Notices
-from .rows import Rows
-from .ticks import TICK, ready
 from .wire import ENDED, Slow, wire_of
 
 # After how many seconds a command is given up that takes no time at the server.

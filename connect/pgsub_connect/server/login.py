@@ -13,8 +13,7 @@ from pgsub_feed.texts import said_text
 from ..errors import LOGIN, ServerError, Unconnected
 from . import transport
 from .addresses import addresses_of, connect_limit, hosts_of, where
-from .libpq import DEFAULT, VERBOSE, is_by_gssapi, set_verbosity
-from .ticks import ready
+from .libpq import DEFAULT, VERBOSE, is_by_gssapi, ready, set_verbosity
 
 # What a verbose error adds: a code, and a last line with a place in its source.
 CODE, PLACE_IN_SOURCE = re.compile(r":  ([0-9A-Z]{5}): "), re.compile(r"\n[^\n]*\.c:\d+$", re.M)

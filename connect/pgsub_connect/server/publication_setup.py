@@ -9,12 +9,12 @@ publication, which ends without effect where one is found.
 import dataclasses
 import secrets
 import time
-from collections.abc import Callable, Mapping
+from collections.abc import Callable, Mapping, Sequence
 from contextlib import closing
 from types import MappingProxyType
 
 from pgsub_feed import log
-from pgsub_feed.errors import Unfit
+from pgsub_feed.errors import Unfit, UsageError
 from pgsub_feed.interruption import Check
 from pgsub_feed.texts import counted, identifier, literal
 
@@ -30,8 +30,8 @@ from .publication_content import (
     oid_of,
     other_slots,
 )
+from .publications import meant_table
 from .replica_identity import keyless_tables, publishable_tables, rejected_tables
-from .table_names import meant_table
 from .waits import Waiting, lock_text
 
 REFUSED, NO_TABLE, NO_RIGHT = "55000", "42P01", "42501"
@@ -343,3 +343,26 @@ def keyless_text(names: list[str], all_tables: bool) -> str:
         " their Updates and Deletes, in every application. Give each a primary key, or ALTER TABLE .. REPLICA IDENTITY"
         f" USING INDEX or FULL.{'' if all_tables else ways}"
     )
+
+
+# In bytes: NAMEDATALEN, with which servers are built, less the zero byte.
+LONGEST_NAME = 63
+
+
+def check_lengths(slot: str, publications: Sequence[str], keyless: str) -> None:
+    """Rejects names of slot and publications that the server would cut or reject, before anything
+    is asked of it."""
+    names = [("--slot", slot), *(("--publication", it) for it in publications)]
+    if keyless == "inserts":
+        made = publications or ["pgsub"]
+        names += [
+            ("the name that --keyless inserts makes of --publication", inserts_of(it))
+            for it in made
+        ]
+    for option, name in names:
+        # (what isn't UTF-8 is rejected for that)
+        if (length := len(name.encode(errors="surrogateescape"))) > LONGEST_NAME:
+            raise UsageError(
+                f"{option} {name}: it has {length} bytes, and a name has at most {LONGEST_NAME}:"
+                " give a shorter one"
+            )

@@ -1,8 +1,10 @@
-"""The tables of publications, as they are read."""
+"""The tables of publications, as they are read, and which one a name may mean."""
 
 import dataclasses
+import re
 from collections.abc import Iterable, Sequence
 
+from pgsub_feed.options import meant
 from pgsub_feed.texts import identifier
 
 from ..errors import ServerError, understood
@@ -166,3 +168,25 @@ def estimated_rows(connection: Connection, tables: list[Table]) -> int | None:
         " JOIN pg_catalog.pg_class l ON l.oid = t.relid WHERE l.relkind = 'r' AND l.reltuples >= 0"
     )
     return int(text) if text is not None else None
+
+
+# A table's name in what CREATE PUBLICATION takes for one.
+NAME = re.compile(
+    r'\s*(?:ONLY\s+)?((?:"(?:[^"]|"")+"|[\w$]+)(?:\s*\.\s*(?:"(?:[^"]|"")+"|[\w$]+))?)', re.I
+)
+
+
+def meant_table(connection: Connection, text: str) -> str:
+    """The table that may be meant, as a question; "" where none is like it."""
+    found = NAME.match(text)
+    name = found[1].replace('"', "") if found else text
+    rows = connection.rows(
+        "SELECT n.nspname, c.relname FROM pg_catalog.pg_class c JOIN pg_catalog.pg_namespace n ON n.oid = c.relnamespace"
+        " WHERE c.relkind IN ('r', 'p') AND c.oid >= 16384 ORDER BY 1, 2"
+    )
+    tables = [(schema or "", table or "") for schema, table in rows]
+    for schema, table in tables:
+        if table == name:
+            return f": did you mean {schema}.{table}?"
+    short = (table if schema == "public" else f"{schema}.{table}" for schema, table in tables)
+    return meant(name, short)

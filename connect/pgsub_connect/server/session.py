@@ -1,7 +1,8 @@
-"""What is asked of a server, and the settings of each session."""
+"""What is followed at a server, what is asked of it, and the settings of each session."""
 
 import dataclasses
 import re
+from collections.abc import Iterable
 
 from pgsub_feed import log
 from pgsub_feed.errors import Unfit
@@ -9,6 +10,24 @@ from pgsub_feed.texts import PRINTING, literal, parse_lsn
 
 from ..errors import IN_USE, ServerError, understood
 from .connection import QUICK, Connection
+
+
+@dataclasses.dataclass
+class Subscription:
+    """The connection string, the slot, and the publications.
+
+    The names of the publications are known for good once those that lack are made, or those of an
+    interrupted copy are found.
+    """
+
+    dsn: str = ""
+    slot: str = "pgsub"
+    publications: list[str] = dataclasses.field(default_factory=list)
+
+    def note_publications(self, names: Iterable[str]) -> None:
+        """Notes the publications that were made or found."""
+        self.publications = list(names)
+
 
 SETTINGS = {
     **PRINTING,

@@ -7,9 +7,8 @@ from typing import NamedTuple
 from pgsub_feed.version import VERSION
 
 from ..server.slot import Slot
-from .counters import StreamCounters
-from .findings import Counted
 from .progress import STATES, Progress
+from .state import Counted, StreamCounters
 
 GAUGE, COUNTER = "gauge", "counter"
 # The kinds of findings, and what the server says of a slot's log.

@@ -17,10 +17,9 @@ from pgsub_feed.interruption import Check
 from pgsub_feed.ownership import real
 from pgsub_feed.tables.sqlite_files import FULL
 
-from .asking import Asking
 from .checkpoint import has_name
 from .snapshot import NEW, fold, part_of
-from .socket_file import SUFFIX
+from .socket_file import SUFFIX, Asking
 
 # Where SQLite, and so the program, locks a file: the bytes of its readers.
 SHARED_FIRST, SHARED_SIZE = 0x40000002, 510

@@ -14,7 +14,7 @@ import sys
 from collections.abc import Collection, Iterator
 
 from pgsub_feed.interruption import Check
-from pgsub_feed.meter import Meter
+from pgsub_feed.log import Meter
 from pgsub_feed.program import check_signals, guarded
 from pgsub_feed.reader.polling import Parent
 from pgsub_feed.tables.values import Malformed

@@ -30,7 +30,7 @@ from pgsub_feed import json_texts
 from pgsub_feed.errors import FileError
 from pgsub_feed.json_texts import Unreadable, object_of, parsed, whole_of
 
-from ..status.findings import Counted
+from ..status.state import Counted
 
 VERSION, SIZE, OLD_SIZE = 3, 4096, 512
 READ = (2, VERSION)

@@ -22,14 +22,12 @@ from pgsub_feed.errors import FileError, Passing, Stopped, Unfit
 from pgsub_feed.files import placed
 from pgsub_feed.interruption import Check
 from pgsub_feed.known_tables import KnownTables
-from pgsub_feed.meter import Meter
+from pgsub_feed.log import Meter
 from pgsub_feed.relation import Relation
-from pgsub_feed.tables.indexes import Indexes
+from pgsub_feed.tables.indexes import Indexes, primary_key
 from pgsub_feed.tables.names import OLD, POSITION, TABLES, name_tables, names_of
-from pgsub_feed.tables.primary_keys import primary_key
 from pgsub_feed.tables.schema import RELATIONS, SCHEMA, definition
-from pgsub_feed.tables.sqlite_files import EXPORT as APPLICATION
-from pgsub_feed.tables.sqlite_files import check_sqlite, is_export
+from pgsub_feed.tables.sqlite_files import EXPORT as APPLICATION, check_sqlite, is_export
 from pgsub_feed.tables.target import Target, key_index, unlike_reason
 from pgsub_feed.tables.values import BOTH, Malformed, Row, Unlike
 from pgsub_feed.texts import counted, identifier, lsn_text

@@ -1,12 +1,33 @@
-"""What all parts of a follower have, handed over as one."""
+"""What all parts of a follower have, handed over as one, with the findings that are taken as they
+are."""
 
+from collections.abc import Iterable
 from typing import NamedTuple
 
 from ..drift.remembered import Remembered
-from ..drift.tolerance import Tolerance
-from ..server.subscription import Subscription
+from ..server.session import Subscription
 from ..status.progress import Progress
 from ..store.checkpoint import Checkpoint
+
+
+class Tolerance:
+    """What was said to be accepted. It is of a start: what is found later isn't what was meant."""
+
+    def __init__(self, kinds: Iterable[str] = (), is_strict: bool = False) -> None:
+        self.kinds, self.is_strict = frozenset(kinds), is_strict
+
+    def accepts(self, kind: str) -> bool:
+        """Whether what may be wrong in this way is taken as it is."""
+        kinds = {"gap", "slot"} if kind in ("gap", "slot") else {kind}
+        return bool(kinds & self.kinds) or "all" in self.kinds
+
+    def use_gap(self) -> None:
+        """A gap was taken as it is: another one isn't."""
+        self.kinds -= {"gap", "slot", "all"}
+
+    def end(self) -> None:
+        """Nothing is accepted from now on."""
+        self.kinds = frozenset()
 
 
 class Common(NamedTuple):

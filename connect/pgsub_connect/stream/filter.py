@@ -17,7 +17,7 @@ from .awake import Awake, Numbers, Served
 from .filter_end import FilterEnded, Missing
 from .filter_input import PIECE, ROOM, FilterInput
 from .filter_said import FilterSaid
-from .frames import COPY_DONE, HEADERS, STATUS, STATUS_HEAD, flushed, without_received
+from .messages import COPY_DONE, HEADERS, STATUS, STATUS_HEAD, flushed, without_received
 
 # For how long one that opens its store is waited for, until it is looked whether the end was asked
 # for, in seconds.

@@ -36,7 +36,7 @@ from pgsub_feed.texts import parse_lsn
 
 from ..errors import NoSlot, ServerError, understood
 from ..server.connection import QUICK, Connection
-from ..server.subscription import Subscription
+from ..server.session import Subscription
 from ..status.progress import Progress
 from .hold import Hold
 

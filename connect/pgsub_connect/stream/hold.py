@@ -27,7 +27,7 @@ follower, it goes on up to a gate, as the module `stream.gate` says, which P is 
 made up or left out, and statuses go on meanwhile.
 
 Whoever asks says and is answered the following, in this order, by the socket of the module
-`store.asking`. With the connection goes the hold.
+`store.socket_file`. With the connection goes the hold.
 
 | Said | By | Means |
 |---|---|---|

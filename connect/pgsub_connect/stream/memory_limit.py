@@ -1,8 +1,10 @@
-"""How much a filter may buffer on this machine."""
+"""How much a filter may buffer on this machine, and what is said of what was too large for it."""
 
 import contextlib
 import dataclasses
 import os
+
+from .filter_end import FRAME_TOO_LARGE, SPOOL_FULL, FilterEnded
 
 # The longest frame that PostgreSQL can send, with its length.
 LONGEST_FRAME = 2147483643
@@ -57,3 +59,70 @@ def default_buffered() -> int:
     """What `--max-buffered` is where it isn't said: half of the memory, at most 1 GiB."""
     known = memory()
     return MOST if known is None else max(LEAST, min(MOST, known // 2))
+
+
+# Below so many bytes no transaction is why a filter is killed.
+SMALL = 1 << 20
+
+
+class KilledTwice(FilterEnded):
+    """The filter was killed twice in the same transaction: another try would end in the same
+    way."""
+
+    def is_rejection(self) -> bool:
+        return True
+
+
+class Kills:
+    """In which transaction the filter was killed last."""
+
+    def __init__(self) -> None:
+        self.xid = 0
+
+    def note(self, ended: FilterEnded, xid: int, size: int) -> None:
+        """Notes the end of a filter and the largest transaction at that time. Raises where a second
+        one was killed in it."""
+        if ended.status >= 0 or size < SMALL:
+            return
+        if xid != self.xid:
+            self.xid = xid
+            return
+        told = f"twice in the transaction {xid}, of which {size} bytes were passed on"
+        wants = f"It needs more memory than there was (a unit's MemoryMax), and --max-buffered of {size} bytes at least"
+        raise KilledTwice(ended.status, f"{told}. {wants}")
+
+
+def limit_text(
+    ended: FilterEnded, limits: BufferLimits, transaction: tuple[int, int], longest: int
+) -> str:
+    """What is said where a limit ended the filter, "" where none did.
+
+    `transaction` is the xid of the largest one that isn't stored, and how many bytes of it were
+    passed on, and `longest` the length of the longest message.
+    """
+    if ended.status == SPOOL_FULL:
+        return full_text(limits, *transaction)
+    if ended.status == FRAME_TOO_LARGE:
+        return frame_text(limits, longest)
+    return ""
+
+
+def full_text(limits: BufferLimits, xid: int, size: int) -> str:
+    which = f"transaction {xid} had {size} bytes so far, and"
+    which = which if size else "the open transactions had more than"
+    allowed = f"{limits.max_buffered} may be buffered of all that are open"
+    wanted = 2 * max(limits.max_buffered, size)
+    more = "how much more comes until the commit isn't known, so that may be too little"
+    return f"{which} {allowed}: give --max-buffered {wanted} at least, and memory for it; {more}"
+
+
+def frame_text(limits: BufferLimits, longest: int) -> str:
+    """A frame is four bytes longer than its message."""
+    is_known = longest + 4 > limits.max_frame
+    which = f"a message had {longest} bytes, and" if is_known else "a message had more than the"
+    text = f"{which} {limits.max_frame} are accepted"
+    wanted = min(2 * max(limits.max_frame, longest + 4), LONGEST_FRAME)
+    if wanted <= limits.max_frame:
+        return f"{text}, which is the most that can be"
+    more = f" --max-buffered {2 * wanted}" if 2 * wanted > limits.max_buffered else ""
+    return f"{text}: give --max-frame {wanted}{more}, and memory for it"

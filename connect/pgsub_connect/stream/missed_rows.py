@@ -17,7 +17,7 @@ from pgsub_feed import log
 from pgsub_feed.texts import counted, lsn_text
 
 from ..drift.remembered import Remembered
-from ..status.findings import Counted
+from ..status.state import Counted
 from ..store.checkpoint import MISSING
 from .common import Common
 from .filter_end import Missing

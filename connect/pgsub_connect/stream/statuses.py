@@ -14,8 +14,7 @@ from collections.abc import Sequence
 
 from ..server.connection import Connection
 from .filter import Filter
-from .frames import asking, flushed, lowered
-from .messages import final_lsn
+from .messages import asking, final_lsn, flushed, lowered
 from .missed_rows import Misses
 from .stream_log import Noting
 

@@ -1,3 +1,3 @@
 """The copy and its server compared as of one LSN, and the rows that differ repaired: tables one by
-one (`comparison`) by `digests` of both `sides`. A running follower's copy: `store`, `meeting_point`,
-`repair_rows`. Tables that follow a feed: `tables_file`, `tables_comparison`."""
+one (`comparison`) by `digests` of both `sides`. A running follower's copy: `store`, `repair_rows`.
+Tables that follow a feed: `tables_file`, `view`."""

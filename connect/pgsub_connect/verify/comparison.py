@@ -13,8 +13,8 @@ from collections.abc import Callable, Collection, Iterable, Iterator, Mapping
 
 from pgsub_feed import log
 from pgsub_feed.errors import Passing
-from pgsub_feed.meter import Meter
-from pgsub_feed.tables.row_texts import Field, Fields, fields_in
+from pgsub_feed.log import Meter
+from pgsub_feed.tables.printed import Field, FieldTexts, fields_in
 from pgsub_feed.texts import counted
 
 from ..copy.source import Source
@@ -108,7 +108,7 @@ class Verifier:
         """Prints what each side has of a key that the other hasn't."""
         names = [it.name for it in plan.table.columns]
 
-        def row(fields: Fields) -> dict[str, str | None]:
+        def row(fields: FieldTexts) -> dict[str, str | None]:
             return dict(zip(names, map(shown, fields), strict=True))
 
         if not plan.key:

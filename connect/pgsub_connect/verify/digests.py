@@ -13,12 +13,12 @@ from __future__ import annotations
 import array
 from collections.abc import Sequence
 
-from pgsub_feed.tables.row_texts import (
+from pgsub_feed.tables.printed import (
     CHUNK_WORD,
     FIRST_WORD,
     SECOND_WORD,
     Field,
-    Fields,
+    FieldTexts,
     hash_of,
     text_of,
     words_of,
@@ -78,7 +78,7 @@ class Plan:
         # it)
         self.key = [at for at, column in enumerate(table.columns) if column.key and is_keyed]
 
-    def key_text(self, fields: Fields, text: bytes) -> bytes:
+    def key_text(self, fields: FieldTexts, text: bytes) -> bytes:
         """The text of a row's key, which is all of it in a table without one."""
         return text_of([fields[at] for at in self.key]) if self.key else text
 
@@ -119,7 +119,7 @@ class Summing:
         """Adds a stored row that is there so often."""
         self.add_fields(fields_of(body, self.plan.width), copies)
 
-    def add_fields(self, fields: Fields, copies: int) -> None:
+    def add_fields(self, fields: FieldTexts, copies: int) -> None:
         """Adds a row by its fields."""
         plan, sums = self.plan, self.sums
         text = text_of(fields)

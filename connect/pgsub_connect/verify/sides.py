@@ -12,9 +12,9 @@ from typing import Protocol
 
 from pgsub_feed.errors import Unfit
 from pgsub_feed.interruption import Check
-from pgsub_feed.meter import Meter
+from pgsub_feed.log import Meter
 from pgsub_feed.relation import Relation
-from pgsub_feed.tables.row_texts import fields_in, text_of
+from pgsub_feed.tables.printed import fields_in, text_of
 from pgsub_feed.texts import lsn_text
 
 from ..copy.messages import unescaped

@@ -20,9 +20,7 @@ from pgsub_feed.relation import Relation
 from pgsub_feed.tables.digests import Digest, read_digests
 from pgsub_feed.tables.first_rows import EARLIER
 from pgsub_feed.tables.names import POSITION, names_of
-from pgsub_feed.tables.printed import Fields
-from pgsub_feed.tables.row_texts import Fields as Texts
-from pgsub_feed.tables.row_texts import text_of
+from pgsub_feed.tables.printed import Fields, FieldTexts, text_of
 from pgsub_feed.tables.schema import FEED, RELATIONS, read_definition
 from pgsub_feed.tables.set_aside import Aside, read_asides
 from pgsub_feed.tables.sqlite_files import is_earlier, is_tables, opened
@@ -125,7 +123,7 @@ class View:
             )
         return Fields(valued) if valued else None
 
-    def texts(self, plan: Plan) -> Iterator[Texts]:
+    def texts(self, plan: Plan) -> Iterator[FieldTexts]:
         """The fields of a table's rows at the LSN of the file."""
         if fields := self.fields(plan):
             rows = self.db.execute(fields.query)
@@ -163,7 +161,7 @@ class View:
         for image, fields in self.images([it.plan for it in found.values()]):
             found[image.relation.oid].add_fields(fields, image.sign)
 
-    def images(self, plans: Collection[Plan]) -> Iterator[tuple[Image, Texts]]:
+    def images(self, plans: Collection[Plan]) -> Iterator[tuple[Image, FieldTexts]]:
         """The images that take these tables back, with their fields."""
         if self.trail is None:
             return

@@ -1,4 +1,5 @@
-"""The messages of a change: its envelope under the row's key, and what a key that is gone needs.
+"""The messages of a change, also as lines: its envelope under the row's key, and what a key that
+is gone needs.
 
 | Change | Messages |
 |---|---|
@@ -16,15 +17,15 @@ from collections.abc import Callable, Iterable, Iterator, Sequence
 from typing import Any, NamedTuple
 
 from .. import log
-from ..formats.lines import compact
+from ..formats.lines import Selected, compact
 from ..interruption import Check, never
 from ..known_tables import KnownTables
 from ..reader.commits import XID, Cells, Change, Commit, Head, Missed
+from ..reader.segments import Reader
 from ..relation import Relation
-from ..tables.primary_keys import OTHER, lacking, other_key
+from ..tables.indexes import OTHER, lacking, other_key
 from .settings import TOMBSTONES, TRANSACTIONS, Settings
-from .sources import Moment, Source, field, versioned
-from .tables import Table, schema_text
+from .tables import Moment, Source, Table, field, schema_text, versioned
 
 # The op of a row that was there before the first commit.
 BASE = "r"
@@ -234,3 +235,23 @@ class Envelopes:
         if what not in self.told:
             self.told.add(what)
             log.warning(text)
+
+
+class Debezium(Selected):
+    """The values, each a line. `with_keys`: also the tombstones, which have none, and before each
+    the key and a tab, both empty where there is none."""
+
+    def __init__(
+        self, is_chosen: Callable[[Relation], bool], envelopes: Envelopes, with_keys: bool
+    ) -> None:
+        super().__init__(is_chosen)
+        self.envelopes, self.with_keys = envelopes, with_keys
+
+    def print(self, reader: Reader, commit: Commit) -> Iterator[bytes]:
+        assert reader.head
+        changes = self.changes(reader, commit)
+        for it in self.envelopes.of_commit(reader.head, commit, changes):
+            if self.with_keys:
+                yield (it.key or b"") + b"\t" + (it.value or b"") + b"\n"
+            elif it.value is not None:
+                yield it.value + b"\n"

@@ -5,12 +5,12 @@ server prints it.
 """
 
 import base64
+import re
 from collections.abc import Callable
 from typing import Any, NamedTuple
 
 from ..tables.values import BOOL, BYTEA, FLOAT4, FLOAT8, INT2, INT4, INT8, NUMERIC
 from . import times
-from .arrays import read_elements
 from .numbers import (
     Read,
     based,
@@ -232,3 +232,34 @@ def kind_of(type_oid: int, modifier: int, settings: Settings) -> Kind:
     if type_oid in BY_SETTINGS:
         return BY_SETTINGS[type_oid](modifier, settings)
     return PLAIN.get(type_oid, TEXT)
+
+
+# An element: quoted, with escapes, or as it is; and what comes after it.
+ELEMENT = re.compile(r'(?:"((?:[^"\\]|\\.)*)"|([^,{}"\\]+))([,}])', re.DOTALL)
+ESCAPED = re.compile(r"\\(.)", re.DOTALL)
+BOUNDS = re.compile(r"\[-?\d+:-?\d+\]=")
+
+
+def read_elements(text: str) -> list[str | None]:
+    """The elements of an array of one dimension, wherever it begins. A ValueError says that it has
+    more of them."""
+    if bounds := BOUNDS.match(text):
+        text = text[bounds.end() :]
+    if text == "{}":
+        return []
+    if not text.startswith("{"):
+        raise ValueError("it has more than one dimension, or is no array")
+    found, at, sign = list[str | None](), 1, ","
+    while sign == ",":
+        element = ELEMENT.match(text, at)
+        if not element:
+            raise ValueError("it has more than one dimension, or is no array")
+        quoted, plain, sign = element.groups()
+        if quoted is not None:
+            found.append(ESCAPED.sub(r"\1", quoted))
+        else:
+            found.append(None if plain.upper() == "NULL" else plain)
+        at = element.end()
+    if at != len(text):
+        raise ValueError("something follows the array")
+    return found

@@ -1,4 +1,5 @@
-"""A feed's commits as lines of a bulk request, for Elasticsearch and OpenSearch.
+"""A feed's commits as lines of a bulk request, for Elasticsearch and OpenSearch, and the command
+of a user's for TRUNCATE.
 
 A document's version is the LSN at which its commit ends. One version can say one thing of a
 document alone: so each commit has one line of each key that it changes, what it leaves of the row.
@@ -6,21 +7,65 @@ Whatever is sent again, or late, has a version that isn't above the one that is 
 rejected with the status 409, which loses nothing.
 """
 
+import shlex
+import subprocess
+import sys
+import time
 from collections.abc import Callable, Iterator
 
 from .. import log
-from ..errors import Unfit
+from ..errors import Passing, Unfit, UsageError
 from ..interruption import Check, never
 from ..known_tables import KnownTables
 from ..reader.commits import Change, Commit
 from ..reader.segments import Reader
 from ..relation import Relation
-from ..tables.primary_keys import OTHER, UNKNOWN, lacking, other_key
+from ..tables.indexes import OTHER, UNKNOWN, lacking, other_key
 from ..tables.set_aside import cure
 from ..texts import lsn_text
 from .keys import index_text, key_of, row_text
 from .lines import Objects, Row, compact
-from .on_truncate import Command
+
+# How often it is looked whether to end while it runs, in seconds.
+STEP = 0.1
+
+
+class Command:
+    """The command, words as of a shell. It ends with 0 once nothing is left of the table."""
+
+    def __init__(self, text: str, check: Check) -> None:
+        try:
+            self.words, self.check = shlex.split(text), check
+        except ValueError as error:
+            raise UsageError(f"--on-truncate {text}: {error}") from None
+        if not self.words:
+            # (else the table's name would be run)
+            raise UsageError(f"--on-truncate {text!r}: it names no command")
+
+    def run(self, commit: Commit, relation: Relation, index: str) -> None:
+        """Runs it, once all lines before were written. A Passing says that it failed."""
+        table = f"{relation.namespace or 'pg_catalog'}.{relation.name}"
+        sys.stdout.buffer.flush()
+        if why := self.failure([*self.words, table, commit.text(), index]):
+            raise Passing(
+                f"{commit.text()} truncates {relation.text()}, and {self.words[0]} {why}: go on with --from {lsn_text(commit.prev)}"
+            )
+
+    def failure(self, words: list[str]) -> str:
+        """Why it failed, "" where it didn't. (What it prints isn't for who reads the lines.)"""
+        try:
+            child = subprocess.Popen(words, stdin=subprocess.DEVNULL, stdout=sys.stderr.fileno())
+        except OSError as error:
+            return f"can't be run, {error.strerror}"
+        try:
+            while child.poll() is None:
+                self.check()
+                time.sleep(STEP)
+        except BaseException:
+            child.terminate()
+            raise
+        return f"has ended with status {child.returncode}" if child.returncode else ""
+
 
 # The versions are positive, and have 64 bits with a sign; an id has at most so many bytes.
 MOST_VERSION, MOST_ID = (1 << 63) - 1, 512

@@ -1,5 +1,5 @@
-"""What tables and rows are called outside of SQL: a name without dots of its own, and the values of
-a key as one text.
+"""What tables, rows and values are called outside of SQL: a name without dots of its own, the
+values of a key as one text, and changes as objects by the names of the columns.
 
 | Text | Is |
 |---|---|
@@ -12,10 +12,12 @@ In a name `%`, `:` and `.` are written as `%25`, `%3A` and `%2E`, in a value `%`
 `%null`, and a binary value `%x` with its digits. So no two have one text.
 """
 
+import json
 import string
 from collections.abc import Collection, Sequence
+from typing import Optional
 
-from ..reader.commits import Cell
+from ..reader.commits import Cell, Cells, Change, Missed, Unsent
 from ..relation import Relation
 
 NULL = "%null"
@@ -72,3 +74,41 @@ def index_text(schema: str, table: str) -> str:
 def subject(stream: str, schema: str, table: str) -> str:
     """The subject of a table's messages."""
     return f"{stream}.{escaped(full(schema), OF_TOKEN)}.{escaped(table, OF_TOKEN)}"
+
+
+# The op of a row that was there before the first commit.
+BASE = "r"
+
+
+def compact(value: object) -> str:
+    return json.dumps(value, ensure_ascii=False, separators=(",", ":"))
+
+
+def object_text(relation: Relation, cells: Sequence[Cell | Unsent]) -> str:
+    """A row, without cells that weren't sent."""
+    named = zip(relation.shape.columns, cells, strict=True)
+    return compact(
+        {
+            column.name: {"hex": it.hex()} if isinstance(it, bytes) else it
+            for column, it in named
+            if not isinstance(it, Unsent)
+        }
+    )
+
+
+def entry(it: Change | Missed) -> dict[str, str]:
+    """What is told of a change, each value a text in JSON but for `op`."""
+    rows: dict[str, Optional[Sequence[Cell | Unsent]]]
+    if isinstance(it, Missed):
+        told, rows = {"op": "x", "sent": f'"{it.sent}"'}, {"old": it.old_cells(), "new": it.new}
+    else:
+        told, rows = {"op": it.op}, {"before": it.before, "after": it.after}
+    return {
+        **told,
+        "oid": str(it.relation.oid),
+        **{name: object_text(it.relation, row) for name, row in rows.items() if row is not None},
+    }
+
+
+def base_entry(relation: Relation, row: Cells) -> dict[str, str]:
+    return {"op": BASE, "oid": str(relation.oid), "after": object_text(relation, row)}

@@ -14,8 +14,20 @@ from collections.abc import Callable, Iterable, Iterator
 from typing import Generic, TypeVar
 
 from .. import log
-from ..errors import PASSING, UNFIT, FileError, Passing, Unfit, UsageError
-from ..faults import COMMIT_LINE, COUNTS, NOT_A_FEED, ORDER, OTHER_FEED, Damaged
+from ..errors import (
+    COMMIT_LINE,
+    COUNTS,
+    NOT_A_FEED,
+    ORDER,
+    OTHER_FEED,
+    PASSING,
+    UNFIT,
+    Damaged,
+    FileError,
+    Passing,
+    Unfit,
+    UsageError,
+)
 from ..interruption import Check
 from ..reader.base import sections_of
 from ..reader.commits import Closing, Commit, Head, Part

@@ -3,8 +3,7 @@
 import contextlib
 import json
 
-from ..errors import Failure, Stopped, UsageError
-from ..faults import Damaged
+from ..errors import Damaged, Failure, Stopped, UsageError
 from ..interruption import Check
 from ..reader.commits import Commit, Head
 from ..reader.lines import FORMAT

@@ -12,8 +12,7 @@ import zlib
 from collections.abc import Collection, Iterator
 from typing import Any, NamedTuple, Protocol
 
-from ..errors import FileError, Unfit
-from ..faults import COUNTS, LINE, NOT_A_FEED, OTHER_FEED, WIDTH, Damaged
+from ..errors import COUNTS, LINE, NOT_A_FEED, OTHER_FEED, WIDTH, Damaged, FileError, Unfit
 from ..files import NEW
 from ..interruption import Check
 from ..relation import Relation

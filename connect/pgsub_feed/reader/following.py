@@ -5,8 +5,7 @@ import time
 from collections.abc import Callable, Iterable
 from typing import Protocol
 
-from ..errors import Passing, Stopped
-from ..faults import Damaged
+from ..errors import Damaged, Passing, Stopped
 from ..interruption import Check
 from ..texts import lsn_text
 from .commits import Commit, Head, Part

@@ -7,7 +7,7 @@ import re
 from collections.abc import Callable, Iterable, Iterator, Sequence
 from typing import Any, NoReturn, cast
 
-from ..faults import COUNTS, LINE, UNDESCRIBED, WIDTH, Damaged
+from ..errors import COUNTS, LINE, UNDESCRIBED, WIDTH, Damaged
 from ..relation import Column, Relation, Shape
 from ..texts import parse_lsn
 from .commits import UNSENT, Cells, Change, Closing, Commit, Head, Missed, Part, TableLine, Unsent

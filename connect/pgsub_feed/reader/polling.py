@@ -6,8 +6,7 @@ import select
 import time
 from collections.abc import Iterator
 
-from ..errors import Stopped, Unfit
-from ..faults import Damaged
+from ..errors import Damaged, Stopped, Unfit
 from ..interruption import Check, interruptible
 from ..texts import lsn_text, parse_lsn
 from .commits import Commit

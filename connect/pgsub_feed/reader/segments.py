@@ -16,8 +16,17 @@ import re
 import time
 from collections.abc import Iterator
 
-from ..errors import FileError, NoFeed, Unfit
-from ..faults import COMMIT_LINE, COUNTS, NOT_A_FEED, ORDER, OTHER_FEED, Damaged
+from ..errors import (
+    COMMIT_LINE,
+    COUNTS,
+    NOT_A_FEED,
+    ORDER,
+    OTHER_FEED,
+    Damaged,
+    FileError,
+    NoFeed,
+    Unfit,
+)
 from ..texts import lsn_text, parse_lsn
 from .commits import XID, Closing, Commit, Cursor, Head, Part
 from .lines import COMMIT_SIZE, HEAD_SIZE, Decoder, read_commit, read_head, shown, whole_lines

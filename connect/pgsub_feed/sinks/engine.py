@@ -1,15 +1,27 @@
-"""What an engine does for a sink."""
+"""What an engine does for a sink, which LSN it has reached when, and one sink at a time on this
+host.
 
+`FOLDER/readers/.NAME` is locked as long as a sink runs, beside the positions of the feed's readers.
+It is its owner's alone, since whoever can open a file can lock it.
+"""
+
+import collections
 import dataclasses
+import errno
+import fcntl
+import hashlib
+import os
 import sys
 from collections.abc import Callable, Iterable, Iterator
 from typing import Protocol, TypeVar
 
-from ..errors import Passing
-from ..faults import Damaged
+from .. import log
+from ..errors import Damaged, Passing
 from ..interruption import Check
+from ..ownership import give
 from ..reader.commits import Commit, Head
 from ..reader.following import Keeper
+from ..reader.positions import READERS, make_folder
 from .first_rows import Base
 
 # How many bytes of a commit are made into messages at once. A larger one is read twice.
@@ -73,3 +85,92 @@ class Engine(Keeper, Protocol):
 
     def close(self) -> None:
         """Ends the connection."""
+
+
+# For how long one mark stands, in seconds.
+EVERY = 0.1
+# How many marks are kept. Without the oldest ones an LSN is known later.
+MOST = 50000
+
+
+class Trail:
+    """LSNs, each with a time at which it was reached for sure. `upto` is the last one that was
+    passed over, None before there is one."""
+
+    def __init__(self) -> None:
+        self.upto: int | None = None
+        self.marks = collections.deque[tuple[float, int]](maxlen=MOST)
+
+    def note(self, at: int, now: float) -> None:
+        """Notes that an LSN is reached now."""
+        if self.marks and now < self.marks[-1][0]:
+            self.marks[-1] = self.marks[-1][0], at
+        else:
+            self.marks.append((now + EVERY, at))
+
+    def pass_to(self, moment: float) -> int | None:
+        """Passes over what was reached before a moment. Returns the last LSN of it."""
+        while self.marks and self.marks[0][0] < moment:
+            self.upto = self.marks.popleft()[1]
+        return self.upto
+
+
+# Who may only read a feed locks nothing there.
+DENIED = (errno.EACCES, errno.EPERM, errno.EROFS)
+
+
+class Alone:
+    """The lock of a sink, over all its connections."""
+
+    def __init__(self, feed: str, mode: int) -> None:
+        self.feed, self.mode = feed, mode
+        self.folder = os.path.join(feed, READERS)
+        self.file: int | None = None
+        self.place = ""
+
+    def take(self, kind: str, place: str, where: str) -> None:
+        """Keeps others from a place of an engine of this kind. A Passing says that another sink
+        writes there."""
+        if place == self.place:
+            return
+        self.close()
+        number = hashlib.sha256(place.encode()).hexdigest()[:32]
+        path = os.path.join(self.folder, f".{kind}-{number}")
+        try:
+            self.file = self.opened(path)
+        except OSError as error:
+            if error.errno not in DENIED:
+                raise
+            why = f"{path}: {error.strerror}"
+            log.warning(f"{where}: no lock keeps another sink of this feed from it: {why}")
+        else:
+            self.lock(self.file, place, where)
+        self.place = place
+
+    def opened(self, path: str) -> int:
+        make_folder(self.folder, self.mode)
+        file = os.open(path, os.O_RDWR | os.O_CREAT | os.O_NOFOLLOW | os.O_CLOEXEC, 0o600)
+        if os.geteuid() == 0:
+            # (what root makes is for the account whose feed it is)
+            about = os.stat(self.feed)
+            give(file, about)
+            folder = os.open(self.folder, os.O_RDONLY | os.O_DIRECTORY | os.O_NOFOLLOW)
+            give(folder, about)
+            os.close(folder)
+        return file
+
+    def lock(self, file: int, place: str, where: str) -> None:
+        try:
+            fcntl.flock(file, fcntl.LOCK_EX | fcntl.LOCK_NB)
+        except BlockingIOError:
+            process = os.pread(file, 20, 0).decode(errors="replace").partition(" ")[0]
+            self.close()
+            told = f"{where}: another sink of this feed writes there, process {process}"
+            raise Passing(told) from None
+        os.ftruncate(file, 0)
+        os.pwrite(file, f"{os.getpid()} {place}\n".encode(), 0)
+
+    def close(self) -> None:
+        if self.file is not None:
+            os.close(self.file)
+        self.file, self.place = None, ""

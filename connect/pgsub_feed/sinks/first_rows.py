@@ -11,7 +11,7 @@ from collections.abc import Iterable, Iterator
 from ..errors import FileError
 from ..files import own_name, remove
 from ..interruption import Check
-from ..meter import Meter
+from ..log import Meter
 from ..reader.base import BaseFiles, Section, Span
 from ..reader.commits import Cells
 from ..reader.reading import Reading

@@ -26,8 +26,7 @@ from ..reader.commits import Change, Commit, Missed, TableLine
 from ..reader.following import Read
 from ..reader.selection import Chosen
 from ..texts import lsn_text, shortened
-from .alone import Alone
-from .engine import Wanted, whole
+from .engine import Alone, Wanted, whole
 from .first_rows import Base, numbered
 from .kafka_client import AROUND, LARGEST, Cluster, parts_of, read_config
 

@@ -20,7 +20,7 @@ from ..reader.commits import Commit, TableLine
 from ..reader.following import Read
 from ..reader.selection import Chosen
 from ..texts import lsn_text, shortened
-from .engine import Wanted, whole
+from .engine import Trail, Wanted, whole
 from .first_rows import Base, numbered
 from .jetstream import Info, JetStream, Stored
 from .nats_messages import (
@@ -33,7 +33,6 @@ from .nats_messages import (
     read_last,
 )
 from .nats_wire import Wire
-from .reached import Trail
 
 STREAM = "pgsub"
 # A server writes to its disk what it has taken, and syncs that each two minutes. In seconds.

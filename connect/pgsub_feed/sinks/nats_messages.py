@@ -15,12 +15,11 @@ import json
 import re
 from typing import Any, NamedTuple
 
-from ..formats.keys import subject
+from ..formats.keys import base_entry, compact, entry, subject
 from ..json_texts import Unreadable, lsn_of, object_of, parsed, whole_of
 from ..reader.commits import Cells, Change, Commit, Missed
 from ..relation import Relation
 from ..texts import lsn_text, parse_lsn
-from .entries import base_entry, compact, entry
 
 # (an earlier version of this program gave bases no numbers)
 ID = re.compile(r"([0-9A-F]+/[0-9A-F]+):(?:(commit)|(base:(?:[0-9a-f]{8}:)?[0-9]+)|([0-9]{1,18}))")

@@ -7,7 +7,7 @@ from typing import Any
 
 from .. import log
 from ..errors import EngineError
-from .reached import Trail
+from .engine import Trail
 from .redis_calls import Calls, Said, understood
 
 # How much later than it says a log is written, and how much may be wrong with its times, in

@@ -4,8 +4,8 @@ ends and its number in there."""
 from collections.abc import Collection, Iterable, Iterator
 
 from ..errors import Unfit
+from ..formats.keys import base_entry, entry
 from ..reader.commits import Cells, Change, Commit, Missed
-from .entries import base_entry, entry
 from .redis_calls import Calls, Command, Said, raised, understood
 from .relations import Kept
 

@@ -20,8 +20,8 @@ from ..known_tables import KnownTables
 from ..reader.commits import Change, Missed
 from ..reader.lines import read_relation
 from ..relation import Relation
+from ..tables.indexes import OTHER, UNKNOWN, lacking, other_key
 from ..tables.names import names_of
-from ..tables.primary_keys import OTHER, UNKNOWN, lacking, other_key
 from ..tables.schema import relation_text
 from ..tables.set_aside import cure
 

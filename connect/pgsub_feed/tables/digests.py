@@ -16,8 +16,7 @@ from collections.abc import Iterable, Sequence
 from typing import NamedTuple, cast
 
 from ..reader.commits import Cells, Change
-from .printed import Fields
-from .row_texts import FIRST_WORD, SECOND_WORD, Field, hash_of, text_of, words_of
+from .printed import FIRST_WORD, SECOND_WORD, Field, Fields, hash_of, text_of, words_of
 from .table import Kept, Valued
 from .values import Value
 

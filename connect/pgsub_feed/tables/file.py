@@ -11,12 +11,9 @@ from ..known_tables import KnownTables
 from ..reader.commits import Head
 from ..relation import Relation
 from ..texts import identifier, lsn_text, parse_lsn
-from .digests import FORMAT as WITH_DIGESTS
-from .digests import SCHEMA as DIGESTS_SCHEMA
-from .digests import Digests, has_digests
-from .indexes import Indexes
+from .digests import FORMAT as WITH_DIGESTS, SCHEMA as DIGESTS_SCHEMA, Digests, has_digests
+from .indexes import Indexes, Keys, inherited
 from .names import OLD, POSITION, TABLES, distinct_name, folded, names_of
-from .primary_keys import Keys, inherited
 from .reshape import LOOSE, carry, is_alike, loosen, sources
 from .schema import (
     FEED,

@@ -18,8 +18,8 @@ from ..reader.reading import Reading
 from ..reader.segments import segments
 from ..texts import lsn_text
 from .applier import Applier
-from .file import Rows
 from .digests import has_digests
+from .file import Rows
 from .first_rows import EARLIER, begins_at, keeping, make
 from .indexes import Indexes
 from .rewind import Lost, walk

@@ -5,18 +5,53 @@ Each value of SQLite is one of the server's texts, so nothing is left out: a num
 point is the shortest digits that give it again, and a numeric has its scale, as the module
 `tables.floats` says; a bool is t or f; bytes are in hexadecimal digits. A numeric that a number
 doesn't tell is its second column's text.
+
+The text of a row has for each field its value after that one's length in bytes and a colon, or `n`
+for null. So no two rows have one text.
 """
 
-from collections.abc import Sequence
+import hashlib
+import struct
+from collections.abc import Iterable, Sequence
 
 from ..reader.commits import Cell
 from ..relation import Column
 from ..texts import identifier
 from .floats import stored_float
 from .reshape import printed
-from .row_texts import Field
 from .table import Valued
-from .values import BOOL, BYTEA, FLOAT4, Value, scale_of
+from .values import BOOL, BYTEA, FLOAT4, NULL, Value, scale_of
+
+# Where the words of a hash are: the chunk's and two that are added up.
+CHUNK_WORD, FIRST_WORD, SECOND_WORD = 4, 0, 1
+words_of = struct.Struct(">iiiii").unpack_from
+# A field's value, None for null.
+Field = bytes | None
+FieldTexts = Sequence[Field]
+
+
+def text_of(fields: Iterable[Field]) -> bytes:
+    """The text of fields that tells them apart."""
+    return b"".join([b"n" if it is None else b"%d:%b" % (len(it), it) for it in fields])
+
+
+def fields_in(text: bytes) -> list[Field]:
+    """The fields of such a text."""
+    at, fields = 0, list[Field]()
+    while at < len(text):
+        if text[at] == NULL:
+            fields.append(None)
+            at += 1
+            continue
+        first = text.index(b":", at) + 1
+        at, length = first, int(text[at : first - 1])
+        fields.append(text[at : at + length])
+        at += length
+    return fields
+
+
+def hash_of(text: bytes) -> bytes:
+    return hashlib.sha256(text).digest()
 
 
 class Fields:

@@ -1,4 +1,4 @@
-"""What a file of tables that follows a feed has.
+"""What a file of tables that follows a feed has, and how far it is.
 
 | Table | Has |
 |---|---|
@@ -14,13 +14,17 @@ Where another table got the name of one, the older one's rows are in `pgsub_old 
 back under another name.
 """
 
+from __future__ import annotations
+
+import contextlib
 import json
 import sqlite3
 
 from ..reader.lines import read_relation
 from ..relation import Relation
+from ..texts import parse_lsn
 from .names import POSITION, TABLES
-from .sqlite_files import FOLLOWING
+from .sqlite_files import FOLLOWING, opened
 from .target import Target
 
 # The version of a file without digests, and of an export. (Those of 1 and 2 have numerics as texts.)
@@ -90,3 +94,19 @@ def read_folder(db: sqlite3.Connection) -> str:
     """The folder of the feed."""
     folder: bytes = db.execute(f"SELECT CAST(folder AS BLOB) FROM {FEED}").fetchone()[0]
     return folder.decode(errors="surrogateescape")
+
+
+def read_position(path: str) -> tuple[int, str]:
+    """The LSN of a file of tables, and the folder of its feed."""
+    with contextlib.closing(opened(path)) as db:
+        return parse_lsn(db.execute(f"SELECT lsn FROM {POSITION}").fetchone()[0]), read_folder(db)
+
+
+def read_numeric(path: str) -> str:
+    """How the tables of a file have numerics; "" where there are none that tell."""
+    with contextlib.suppress(sqlite3.Error, KeyError, TypeError, ValueError), contextlib.closing(
+        opened(path)
+    ) as db:
+        told = f"SELECT definition FROM {RELATIONS} WHERE definition IS NOT NULL LIMIT 1"
+        return read_definition(db.execute(told).fetchone()[0])[1]
+    return ""

@@ -150,7 +150,7 @@ KILLED_AT = """
 import os, sys
 sys.path.insert(0, {house!r})
 from pgsub_connect import cli
-from pgsub_connect.add import adder, left_out, turn
+from pgsub_connect.add import adder, replacement, turn
 where, name = {where}, {name!r}
 real, left = getattr(where, name), [{times}]
 def last(*words, **more):
@@ -178,8 +178,8 @@ def killed_at(place: Place, where: str, name: str, after: bool, times: int = 0) 
 # What is cut: a call of those that add tables, whether before or after it was made, and how often
 # it is made before.
 CUTS = (
-    ("left_out.LeftOut", "fill", False, 0),
-    ("left_out.LeftOut", "fill", True, 0),
+    ("replacement.LeftOut", "fill", False, 0),
+    ("replacement.LeftOut", "fill", True, 0),
     ("adder.Adder", "prepare", True, 0),
     ("adder.Adder", "meet", False, 0),
     ("turn.Source", "make_slot", True, 0),

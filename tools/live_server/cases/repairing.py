@@ -372,10 +372,10 @@ FOLLOWER_CUTS = (
     ("follow.repair", "Repairing", "finish", True),
 )
 CUTS = (
-    ("verify.meeting_point", "Request", "tell", False),
-    ("verify.meeting_point", "Request", "copied", True),
+    ("verify.store", "Request", "tell", False),
+    ("verify.store", "Request", "copied", True),
     ("verify.repair_rows", "Changes", "begin", True),
-    ("verify.meeting_point", "Request", "pass_on", False),
+    ("verify.store", "Request", "pass_on", False),
 )
 
 

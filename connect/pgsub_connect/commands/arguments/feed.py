@@ -7,22 +7,20 @@ import os
 from collections.abc import Sequence
 from typing import TypeVar
 
-from pgsub_feed.arguments import duration, size
 from pgsub_feed.errors import Unfit, UsageError
-from pgsub_feed.options import option
-from pgsub_feed.sinks.urls import FORMS, url
-from pgsub_feed.tables.position import read_numeric
+from pgsub_feed.options import duration, option, size
+from pgsub_feed.sinks.connecting import FORMS, url
+from pgsub_feed.tables.schema import read_numeric
 from pgsub_feed.tables.values import BOTH
 
 from ...drift.remembered import Remembered
 from ...follow.feed import FeedSettings
+from ...follow.process_beside import SinkSettings, TablesSettings
 from ...follow.retention import Limits
-from ...follow.sink_process import SinkSettings
-from ...follow.tables_process import TablesSettings
-from ...store.checkpoint_at_rest import read_known
+from ...store.checkpoint import read_known
 from .following import INDEXES, numeric_option
 from .server import has_begun
-from .types import within
+from .words import within
 
 # What each of these options needs.
 NEEDS = {

@@ -7,15 +7,14 @@ import dataclasses
 from collections.abc import Collection, Iterable, Sequence
 from typing import Any
 
-from pgsub_feed.arguments import plain_name
 from pgsub_feed.interruption import Check
-from pgsub_feed.options import option, repeated
+from pgsub_feed.options import option, plain_name, repeated
 from pgsub_feed.reader.reading import Reading
 from pgsub_feed.tables.values import AS_REAL, AS_TEXT, BOTH
 
 from ...store.at_rest import is_followed
 from ...store.export import ExportSettings, export_store
-from .files import mode_option
+from .words import mode_option
 
 INDEXES = "the server's indexes of btree over plain columns, none of them unique; what is left out is told"
 

@@ -7,8 +7,7 @@ from collections.abc import Sequence
 from pgsub_feed.options import add_fields, option, repeated
 
 from ...server.publication_setup import Wanted
-from .texts import check_needs
-from .types import within
+from .words import check_needs, within
 
 
 @dataclasses.dataclass(frozen=True)

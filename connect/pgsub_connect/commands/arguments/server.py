@@ -13,14 +13,11 @@ from pgsub_feed.ownership import readable_by, readable_text
 from ...drift.remembered import Remembered
 from ...server import transport
 from ...server.addresses import parameters
-from ...server.name_length import check_lengths
-from ...server.publication_setup import inserts_of
-from ...server.subscription import Subscription
-from ...store.checkpoint_at_rest import read_known
+from ...server.publication_setup import check_lengths, inserts_of
+from ...server.session import Subscription
+from ...store.checkpoint import read_known
 from ...store.checkpoint_lines import COPYING, INTERRUPTED, Known
-from .files import mode_option, use_mode
-from .texts import check_texts, each
-from .types import seconds
+from .words import check_texts, each, mode_option, seconds, use_mode
 
 
 @dataclasses.dataclass(frozen=True)
