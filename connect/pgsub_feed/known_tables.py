@@ -10,21 +10,9 @@ import os
 import time
 from typing import Any, NamedTuple
 
-from . import log
+from . import json_texts, log
 from .errors import Passing
 from .interruption import Check
-from .json_texts import (
-    LARGEST,
-    Unreadable,
-    flag_of,
-    list_of,
-    lsn_of,
-    object_of,
-    oid_of,
-    open_plain,
-    parsed,
-    text_of,
-)
 from .tables.set_aside import store_at
 from .texts import lsn_text, parse_lsn
 
@@ -82,18 +70,20 @@ class KnownTables:
             if (stamp := stamp_of(self.file)) == self.stamp:
                 return
             self.stamp = stamp
-            with open(open_plain(self.file), "rb") as file:
-                first = file.readline(LARGEST)
+            with open(json_texts.open_plain(self.file), "rb") as file:
+                first = file.readline(json_texts.LARGEST)
             # (what follows are Relation messages, which tell none of it)
             if first == self.first:
                 return
-            said = object_of(parsed(first, LARGEST))
+            said = json_texts.object_of(json_texts.parsed(first, json_texts.LARGEST))
             if said.get("format") != FORMAT:
-                raise Unreadable("of another version of this program")
+                raise json_texts.Unreadable("of another version of this program")
             # (before rows are copied it has no tables)
-            found = map(object_of, list_of(said.get("tables", [])))
-            tables, lsn = {oid_of(it["oid"]): table_of(it) for it in found}, said.get("lsn", "0/0")
-            self.lsn, self.tables = lsn_of(lsn), tables
+            found = map(json_texts.object_of, json_texts.list_of(said.get("tables", [])))
+            tables, lsn = {json_texts.oid_of(it["oid"]): table_of(it) for it in found}, said.get(
+                "lsn", "0/0"
+            )
+            self.lsn, self.tables = json_texts.lsn_of(lsn), tables
             self.first = first
         except FileNotFoundError:
             return
@@ -149,7 +139,7 @@ def known_beside(feed: str, store: str = "") -> KnownTables | None:
 def read_keys(folder: str) -> int | None:
     """The LSN up to which they are right; None where a feed doesn't say."""
     try:
-        with open(open_plain(os.path.join(folder, KEYS)), "rb") as file:
+        with open(json_texts.open_plain(os.path.join(folder, KEYS)), "rb") as file:
             return parse_lsn(file.read(64).decode("ascii").strip())
     except FileNotFoundError:
         return None
@@ -160,19 +150,26 @@ def read_keys(folder: str) -> int | None:
 def table_of(said: dict[str, Any]) -> KnownTable:
     """(An earlier version of this program didn't keep these.)"""
     return KnownTable(
-        tuple(text_of(it) for it in list_of(said.get("primary", []))),
-        tuple(index_of(list_of(it)) for it in list_of(said.get("indexes", []))),
+        tuple(json_texts.text_of(it) for it in json_texts.list_of(said.get("primary", []))),
+        tuple(
+            index_of(json_texts.list_of(it)) for it in json_texts.list_of(said.get("indexes", []))
+        ),
     )
 
 
 def index_of(said: list[Any]) -> Index:
     oid, name, columns, why = said
-    return Index(oid_of(oid), text_of(name), tuple(map(column_of, list_of(columns))), text_of(why))
+    return Index(
+        json_texts.oid_of(oid),
+        json_texts.text_of(name),
+        tuple(map(column_of, json_texts.list_of(columns))),
+        json_texts.text_of(why),
+    )
 
 
 def column_of(said: Any) -> tuple[str, bool]:
-    name, descends = list_of(said)
-    return text_of(name), flag_of(descends)
+    name, descends = json_texts.list_of(said)
+    return json_texts.text_of(name), json_texts.flag_of(descends)
 
 
 def stamp_of(path: str) -> Stamp:

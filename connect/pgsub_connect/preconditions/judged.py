@@ -12,21 +12,9 @@ from ..server.preflight import Facts, role_facts, server_facts, tables_facts
 from ..server.publication_setup import REFUSED, inserts_of, keyless_text, names_of
 from ..server.replica_identity import members
 from . import server
-from .server import (
-    ERROR,
-    FAILOVER,
-    Judged,
-    Purpose,
-    Result,
-    error,
-    number,
-    ok,
-    version_text,
-    warning,
-)
 
 
-def judge_making(facts: Facts, purpose: Purpose) -> Judged:
+def judge_making(facts: Facts, purpose: server.Purpose) -> server.Judged:
     """Whether the publications that aren't there can be made."""
     missing = [it.name for it in facts.publications if not it.is_there]
     if not missing:
@@ -46,55 +34,61 @@ def judge_making(facts: Facts, purpose: Purpose) -> Judged:
     elif foreign and not role.is_superuser:
         names, why = foreign, f", and {role.name} doesn't own all tables that are to be in it"
     text = why or f", and can be made with {counted(len(facts.tables), 'table')}"
-    yield (error if why else ok)("publication", f"not there{text}: {names_of(names)}")
+    yield (server.error if why else server.ok)("publication", f"not there{text}: {names_of(names)}")
 
 
-def judge_publications(facts: Facts, purpose: Purpose) -> Judged:
+def judge_publications(facts: Facts, purpose: server.Purpose) -> server.Judged:
     yield from judge_making(facts, purpose)
     for name in facts.unknown:
-        yield error("publication", f"no table, or none that {facts.role.name} can see: {name}")
+        yield server.error(
+            "publication", f"no table, or none that {facts.role.name} can see: {name}"
+        )
     for publication in facts.publications:
         if not publication.is_there:
             continue
         if publication.leaves_out and not publication.name.endswith(inserts_of("")):
             kinds = ", ".join(publication.leaves_out)
-            yield warning("publication", f"{publication.name} leaves out: {kinds}")
+            yield server.warning("publication", f"{publication.name} leaves out: {kinds}")
         else:
-            yield ok("publication", f"{publication.name} is there")
+            yield server.ok("publication", f"{publication.name} is there")
     if not facts.tables and not facts.unknown:
-        yield warning("publication", "no table is published")
+        yield server.warning("publication", "no table is published")
 
 
-def judge_identities(facts: Facts, purpose: Purpose) -> Judged:
+def judge_identities(facts: Facts, purpose: server.Purpose) -> server.Judged:
     keyless = [name for it in facts.publications if it.is_there for name in it.keyless]
     to_come = [name for it in facts.publications if not it.is_there for name in it.keyless]
     mixed = [name for it in facts.publications for name in it.mixed]
     if keyless:
         text = "published without a replica identity, so the server rejects Updates and Deletes"
-        yield error("identity", f"{text}: {names_of(keyless)}")
+        yield server.error("identity", f"{text}: {names_of(keyless)}")
     if to_come and (purpose.keyless == "refuse" or purpose.all_tables):
-        yield error("identity", keyless_text(to_come, purpose.all_tables))
+        yield server.error("identity", keyless_text(to_come, purpose.all_tables))
     elif to_come:
         text = "without a replica identity, so not published or for Inserts alone"
-        yield warning("identity", f"{text}: {names_of(to_come)}")
+        yield server.warning("identity", f"{text}: {names_of(to_come)}")
     if mixed:
         text = "partitions with another replica identity than the table above them"
-        yield warning("identity", f"{text}: {names_of(mixed)}")
+        yield server.warning("identity", f"{text}: {names_of(mixed)}")
     if not keyless and not to_come and not mixed:
-        yield ok("identity", f"{counted(len(facts.tables), 'table')} with a replica identity")
+        yield server.ok(
+            "identity", f"{counted(len(facts.tables), 'table')} with a replica identity"
+        )
 
 
-def judge_locks(facts: Facts, purpose: Purpose) -> Judged:
+def judge_locks(facts: Facts, purpose: server.Purpose) -> server.Judged:
     """The shared table of locks has room for so many a transaction, and all transactions share
     it."""
-    each = number(facts, "max_locks_per_transaction")
-    room = each * (number(facts, "max_connections") + number(facts, "max_prepared_transactions"))
+    each = server.number(facts, "max_locks_per_transaction")
+    room = each * (
+        server.number(facts, "max_connections") + server.number(facts, "max_prepared_transactions")
+    )
     text = f"a copy holds {facts.relations} locks, the server has room for about {room}"
     if purpose.has_store or facts.relations * 2 <= room:
-        yield ok("locks", text)
+        yield server.ok("locks", text)
     else:
         text += ": raise max_locks_per_transaction, which needs a restart of the server"
-        yield (error if facts.relations > room else warning)("locks", text)
+        yield (server.error if facts.relations > room else server.warning)("locks", text)
 
 
 # SQL's word for a right that is missing
@@ -103,7 +97,7 @@ DENIED = "42501"
 # (Whether the role may replicate, the server has said by letting in the connection by which a copy
 # begins.)
 REQUIRED = ("version", "wal_level", "replication_slots", "standby", "encoding")
-JUDGES: tuple[Callable[[Facts, Purpose], Judged], ...] = (
+JUDGES: tuple[Callable[[Facts, server.Purpose], server.Judged], ...] = (
     server.judge_version,
     server.judge_wal_level,
     server.judge_slots,
@@ -123,7 +117,7 @@ JUDGES: tuple[Callable[[Facts, Purpose], Judged], ...] = (
 )
 
 
-def results(facts: Facts, purpose: Purpose) -> list[Result]:
+def results(facts: Facts, purpose: server.Purpose) -> list[server.Result]:
     """All preconditions."""
     return [result for judge in JUDGES for result in judge(facts, purpose)]
 
@@ -131,12 +125,12 @@ def results(facts: Facts, purpose: Purpose) -> list[Result]:
 def require(connection: Connection, name: str, copies: bool, failover: bool) -> None:
     """Ends a start where the server can't do, before anything is made there."""
     facts = server_facts(connection, name)
-    if failover and facts.version < FAILOVER:
+    if failover and facts.version < server.FAILOVER:
         raise UsageError(
-            f"--failover needs PostgreSQL 17, and this is {version_text(facts.version)}"
+            f"--failover needs PostgreSQL 17, and this is {server.version_text(facts.version)}"
         )
-    for result in results(facts, Purpose(name, copies=copies, failover=failover)):
-        if result.level == ERROR and result.name in REQUIRED:
+    for result in results(facts, server.Purpose(name, copies=copies, failover=failover)):
+        if result.level == server.ERROR and result.name in REQUIRED:
             raise ServerError(f"{result.name}: {result.text}", REFUSED)
 
 
@@ -146,6 +140,8 @@ def require_reading(connection: Connection, publications: list[str]) -> None:
         role=role_facts(connection),
         tables=tables_facts(connection, " UNION ".join(map(members, publications))),
     )
-    texts = [it.text for it in server.judge_reading(facts, Purpose()) if it.level == ERROR]
+    texts = [
+        it.text for it in server.judge_reading(facts, server.Purpose()) if it.level == server.ERROR
+    ]
     if texts:
         raise ServerError("; ".join(texts), DENIED)

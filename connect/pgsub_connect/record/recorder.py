@@ -11,16 +11,8 @@ from pgsub_feed.errors import UsageError
 from pgsub_feed.program import Worker
 from pgsub_feed.texts import counted, identifier, lsn_text, replication_literal
 
+from ..server import session
 from ..server.connection import COPY_BOTH, Connection
-from ..server.session import (
-    STREAMS,
-    Subscription,
-    log_end,
-    settle,
-    settle_for_slot,
-    tell_version_1,
-    unsettle_for_slot,
-)
 from ..stream.messages import COPY_DONE
 from .recording import Recording, Session
 
@@ -83,7 +75,7 @@ class Recorder(Worker):
     connection: Connection | None
 
     def __init__(
-        self, subscription: Subscription, settings: RecordSettings, recording: Recording
+        self, subscription: session.Subscription, settings: RecordSettings, recording: Recording
     ) -> None:
         self.subscription, self.settings, self.recording = subscription, settings, recording
         self.proto = settings.proto
@@ -99,13 +91,13 @@ class Recorder(Worker):
         self.connection = connection = Connection(
             subscription.dsn, replication=True, name=subscription.slot, check=self.check_stop
         )
-        settle(connection)
-        if connection.version() < STREAMS:
+        session.settle(connection)
+        if connection.version() < session.STREAMS:
             version = connection.parameter("server_version")
             for it in self.settings.asks_for:
                 raise UsageError(f"--{it} needs PostgreSQL 14, and this is {version}")
             if self.proto == 2:
-                tell_version_1()
+                session.tell_version_1()
                 self.proto = 1
         return connection
 
@@ -121,14 +113,14 @@ class Recorder(Worker):
         assert connection
         try:
             if settings.is_temporary:
-                settle_for_slot(connection)
+                session.settle_for_slot(connection)
                 slot = identifier(self.subscription.slot)
                 how = "TEMPORARY LOGICAL pgoutput NOEXPORT_SNAPSHOT"
                 connection.run(f"CREATE_REPLICATION_SLOT {slot} {how}")
-                unsettle_for_slot(connection)
+                session.unsettle_for_slot(connection)
                 log.info("recording from now on: make changes now")
             if settings.until == "now":
-                self.until = log_end(connection)
+                self.until = session.log_end(connection)
             connection.run(self.command(), wanted=COPY_BOTH)
             version, it = connection.parameter("server_version"), self.subscription
             asked = self.proto, settings.asks_for, settings.start

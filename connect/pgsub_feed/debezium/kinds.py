@@ -10,23 +10,7 @@ from collections.abc import Callable
 from typing import Any, NamedTuple
 
 from ..tables.values import BOOL, BYTEA, FLOAT4, FLOAT8, INT2, INT4, INT8, NUMERIC
-from . import times
-from .numbers import (
-    Read,
-    based,
-    bits_of,
-    bytes_as,
-    of_money,
-    plain_money,
-    read_bit,
-    read_bool,
-    read_float,
-    read_point,
-    scaled,
-    signed,
-    variable_scale,
-    whole,
-)
+from . import numbers, times
 from .settings import BINARIES, DECIMALS, INTERVALS, TIMES, Settings
 
 Schema = dict[str, Any]
@@ -57,7 +41,7 @@ class Kind(NamedTuple):
     """
 
     schema: Schema
-    read: Read
+    read: numbers.Read
 
 
 def named(kind: str, name: str, **parameters: str) -> Schema:
@@ -84,15 +68,17 @@ def of(schema: Schema, optional: bool, **more: Any) -> Schema:
     return {**kind, "optional": optional, **rest, **more}
 
 
-SMALL, LARGE = Kind({"type": "float"}, read_float), Kind({"type": "double"}, read_float)
+SMALL, LARGE = Kind({"type": "float"}, numbers.read_float), Kind(
+    {"type": "double"}, numbers.read_float
+)
 TEXT = Kind(STRING, text)
 # Those that are the same whatever the settings and the type modifier are.
 PLAIN: dict[int, Kind] = {
-    BOOL: Kind({"type": "boolean"}, read_bool),
-    INT2: Kind({"type": "int16"}, signed(16)),
-    INT4: Kind({"type": "int32"}, signed(32)),
-    INT8: Kind({"type": "int64"}, signed(64)),
-    OID: Kind({"type": "int64"}, whole(0, (1 << 32) - 1)),
+    BOOL: Kind({"type": "boolean"}, numbers.read_bool),
+    INT2: Kind({"type": "int16"}, numbers.signed(16)),
+    INT4: Kind({"type": "int32"}, numbers.signed(32)),
+    INT8: Kind({"type": "int64"}, numbers.signed(64)),
+    OID: Kind({"type": "int64"}, numbers.whole(0, (1 << 32) - 1)),
     FLOAT4: SMALL,
     FLOAT8: LARGE,
     JSON: Kind(debezium("string", "data.Json"), text),
@@ -113,7 +99,7 @@ PLAIN: dict[int, Kind] = {
                 {"type": "int32", "optional": True, "field": "srid"},
             ],
         },
-        read_point,
+        numbers.read_point,
     ),
 }
 VARIABLE_SCALE = Kind(
@@ -125,13 +111,15 @@ VARIABLE_SCALE = Kind(
             {"type": "bytes", "optional": False, "field": "value"},
         ],
     },
-    variable_scale,
+    numbers.variable_scale,
 )
 BYTES: dict[str, Kind] = {
-    "bytes": Kind({"type": "bytes"}, bytes_as(based)),
-    "base64": Kind(STRING, bytes_as(based)),
-    "base64-url-safe": Kind(STRING, bytes_as(lambda it: base64.urlsafe_b64encode(it).decode())),
-    "hex": Kind(STRING, bytes_as(bytes.hex)),
+    "bytes": Kind({"type": "bytes"}, numbers.bytes_as(numbers.based)),
+    "base64": Kind(STRING, numbers.bytes_as(numbers.based)),
+    "base64-url-safe": Kind(
+        STRING, numbers.bytes_as(lambda it: base64.urlsafe_b64encode(it).decode())
+    ),
+    "hex": Kind(STRING, numbers.bytes_as(bytes.hex)),
 }
 
 
@@ -143,20 +131,24 @@ def numeric(modifier: int, settings: Settings) -> Kind:
         return VARIABLE_SCALE
     scale = ((modifier - 4) & 0x7FF ^ 0x400) - 0x400
     precision = {"connect.decimal.precision": str((modifier - 4) >> 16)}
-    return Kind(connect("bytes", "Decimal", scale=str(scale), **precision), scaled(scale))
+    return Kind(connect("bytes", "Decimal", scale=str(scale), **precision), numbers.scaled(scale))
 
 
 def money(_: int, settings: Settings) -> Kind:
     mode = settings[DECIMALS]
     if mode == "precise":
-        return Kind(connect("bytes", "Decimal", scale="2"), of_money(scaled(2)))
-    return Kind({"type": "double"}, of_money(read_float)) if mode == "double" else MONEY_TEXT
+        return Kind(connect("bytes", "Decimal", scale="2"), numbers.of_money(numbers.scaled(2)))
+    return (
+        Kind({"type": "double"}, numbers.of_money(numbers.read_float))
+        if mode == "double"
+        else MONEY_TEXT
+    )
 
 
-MONEY_TEXT = Kind(STRING, plain_money)
+MONEY_TEXT = Kind(STRING, numbers.plain_money)
 
 
-def in_millis(read: Callable[[str], int]) -> Read:
+def in_millis(read: Callable[[str], int]) -> numbers.Read:
     return lambda it: read(it) // 1000
 
 
@@ -196,11 +188,13 @@ def interval(_: int, settings: Settings) -> Kind:
 def bits(modifier: int, _: Settings) -> Kind:
     length = modifier if modifier > 0 else None
     schema = debezium("bytes", "data.Bits", length=str(length or NO_LENGTH))
-    return Kind(schema, bits_of(length))
+    return Kind(schema, numbers.bits_of(length))
 
 
 def bit(modifier: int, settings: Settings) -> Kind:
-    return Kind({"type": "boolean"}, read_bit) if modifier == 1 else bits(modifier, settings)
+    return (
+        Kind({"type": "boolean"}, numbers.read_bit) if modifier == 1 else bits(modifier, settings)
+    )
 
 
 BY_SETTINGS: dict[int, Callable[[int, Settings], Kind]] = {

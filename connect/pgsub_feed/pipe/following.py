@@ -13,21 +13,7 @@ import urllib.parse
 from collections.abc import Callable, Iterable, Iterator
 from typing import Generic, TypeVar
 
-from .. import log
-from ..errors import (
-    COMMIT_LINE,
-    COUNTS,
-    NOT_A_FEED,
-    ORDER,
-    OTHER_FEED,
-    PASSING,
-    UNFIT,
-    Damaged,
-    FileError,
-    Passing,
-    Unfit,
-    UsageError,
-)
+from .. import errors, log
 from ..interruption import Check
 from ..reader.base import sections_of
 from ..reader.commits import Closing, Commit, Head, Part
@@ -74,7 +60,7 @@ class Address:
         except ValueError:
             port = 0
         if not found.hostname or not found.path or port == 0 or found.query or found.fragment:
-            raise UsageError(f"{url}: a feed elsewhere is ssh://USER@HOST:PORT/PATH")
+            raise errors.UsageError(f"{url}: a feed elsewhere is ssh://USER@HOST:PORT/PATH")
         return Address(host + found.hostname, port, urllib.parse.unquote(found.path))
 
     def words(self, follows: bool, reader: str | None) -> list[str]:
@@ -94,7 +80,7 @@ class Link:
         try:
             self.child = subprocess.Popen(words, bufsize=0, stdin=pipe, stdout=pipe)
         except OSError as error:
-            raise FileError(f"{words[0]}: {error.strerror}") from None
+            raise errors.FileError(f"{words[0]}: {error.strerror}") from None
         assert self.child.stdin and self.child.stdout
         self.pipes = Pipes(self.child.stdout.fileno(), self.child.stdin.fileno(), check)
 
@@ -143,7 +129,7 @@ class Remote(Generic[Read]):
                 return
             except Cut as cut:
                 self.bear(f"{cut}; {self.words[0]} ended with status {link.child.returncode}")
-            except Damaged as damaged:
+            except errors.Damaged as damaged:
                 # (the filter may be about to cut it off)
                 self.bear_damaged(damaged)
             if time.monotonic() - began > LONGEST_DELAY:
@@ -173,10 +159,10 @@ class Remote(Generic[Read]):
             head = read_head(line)
         except ValueError:
             told = f"this is no head of a feed's segment: {shown(line)}"
-            raise Damaged(NOT_A_FEED, self.url, 0, told) from None
+            raise errors.Damaged(errors.NOT_A_FEED, self.url, 0, told) from None
         if self.head and head.source() != self.head.source():
             text = f"a feed of {head.text()}, and before of {self.head.text()}"
-            raise Damaged(OTHER_FEED, self.url, 0, text)
+            raise errors.Damaged(errors.OTHER_FEED, self.url, 0, text)
         self.head, self.was_there = head, True
         if self.is_cut:
             log.info(f"{self.url} is there again")
@@ -189,10 +175,10 @@ class Remote(Generic[Read]):
             found = Closing(0)
         if isinstance(found, Closing):
             told = f"this is no line of a commit: {shown(line)}"
-            raise Damaged(COMMIT_LINE, self.url, 0, told)
+            raise errors.Damaged(errors.COMMIT_LINE, self.url, 0, told)
         if self.at not in (None, found.prev):
             told = f"a commit from {lsn_text(found.prev)} to {found.text()} where {lsn_text(self.at or 0)} was reached"
-            raise Damaged(ORDER, self.url, 0, told)
+            raise errors.Damaged(errors.ORDER, self.url, 0, told)
         return found
 
     def base(self, line: bytes) -> Commit:
@@ -203,10 +189,10 @@ class Remote(Generic[Read]):
             counts = [natural(found[it]) for it in ("bytes", "rows", "n")]
         except (KeyError, ValueError):
             told = f"this is no line of first rows: {shown(line)}"
-            raise Damaged(COMMIT_LINE, self.url, 0, told) from None
+            raise errors.Damaged(errors.COMMIT_LINE, self.url, 0, told) from None
         if self.at:
             told = f"rows from before where {lsn_text(self.at)} was reached"
-            raise Damaged(ORDER, self.url, 0, told)
+            raise errors.Damaged(errors.ORDER, self.url, 0, told)
         return Commit(ends[1], 0, counts[0], counts[1], ends[0], base=counts[2])
 
     def rows(self, pipes: Pipes, commit: Commit) -> Iterator[Part]:
@@ -216,13 +202,15 @@ class Remote(Generic[Read]):
             yield from parts_of(section, n)
             n += len(section.rows)
         if n != (commit.base or 0) + commit.changes:
-            raise Damaged(COUNTS, self.url, 0, f"{n} rows, where {commit.changes} are told")
+            raise errors.Damaged(
+                errors.COUNTS, self.url, 0, f"{n} rows, where {commit.changes} are told"
+            )
 
     def parts(self, pipes: Pipes, commit: Commit) -> Iterator[Part]:
         decoder, told = self.decoder, "the commit's last line has no end where its bytes end"
-        decoder.begin(commit, lambda number, at, what: Damaged(number, self.url, at, what))
+        decoder.begin(commit, lambda number, at, what: errors.Damaged(number, self.url, at, what))
         pieces, at = pipes.pieces(commit.bytes), commit.bytes
-        for lines in whole_lines(pieces, lambda: Damaged(COUNTS, self.url, at, told)):
+        for lines in whole_lines(pieces, lambda: errors.Damaged(errors.COUNTS, self.url, at, told)):
             yield from decoder.read(lines)
         decoder.finish()
 
@@ -233,24 +221,24 @@ class Remote(Generic[Read]):
             status, text = said.get("fault"), str(said.get("text"))
         except (ValueError, AttributeError):
             raise Cut(f"it says {shown(line)}") from None
-        if status == UNFIT:
-            raise Unfit(f"{self.url}: {text}")
-        if status == PASSING:
+        if status == errors.UNFIT:
+            raise errors.Unfit(f"{self.url}: {text}")
+        if status == errors.PASSING:
             raise Cut(text)
         if status is not None:
-            raise FileError(f"{self.url}: {text}")
+            raise errors.FileError(f"{self.url}: {text}")
 
     def bear(self, why: str) -> None:
         """Lets a cut pass, unless the feed was never reached, or isn't followed."""
         if not self.follows or not self.was_there:
-            raise Passing(f"{self.url} can't be read: {why}") from None
+            raise errors.Passing(f"{self.url} can't be read: {why}") from None
         if not self.is_cut:
             log.warning(
                 f"{self.url}: {why}. It is tried again, at least every {LONGEST_DELAY:.0f} seconds"
             )
         self.is_cut = True
 
-    def bear_damaged(self, damaged: Damaged) -> None:
+    def bear_damaged(self, damaged: errors.Damaged) -> None:
         now = time.monotonic()
         self.wrong = now if self.wrong is None else self.wrong
         if not self.follows or now - self.wrong > PATIENCE:
