@@ -196,7 +196,7 @@ class Relations(Case):
             (self.found(), self.remembered.last_sent(1), self.noting.relation_log.wants_look),
             ({}, 500, False),
         )
-        self.assertFalse(self.remembered.is_urgent and self.remembered.found.news)
+        self.assertFalse(self.remembered.unsaved.is_urgent and self.remembered.found.news)
 
     def test_a_column(self) -> None:
         self.note(begin(500, 7), relation(1, "t", [ID, NAME, MORE]), insert(1))

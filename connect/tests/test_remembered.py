@@ -100,7 +100,7 @@ class File(Case):
         kept = after.catalog and after.catalog.publications["pgsub"]
         self.assertEqual(kept and (kept.owner, kept.since), (10, "742"))
         self.assertEqual(after.publications(), ["pgsub", "other"])
-        self.assertFalse(after.is_urgent or after.is_changed)
+        self.assertFalse(after.unsaved.is_urgent or after.unsaved.is_changed)
 
     def test_of_an_earlier_version(self) -> None:
         """What it didn't keep is taken as it is found then; and it reads the file, too, which has
@@ -176,7 +176,7 @@ class File(Case):
         assert again.catalog
         self.assertEqual(again.catalog.tables[1].primary, ("name", "id"))
         self.assertEqual(again.look(a_catalog(dataclasses.replace(table, primary=()))), [])
-        self.assertEqual((again.is_urgent, again.found), (True, {}))
+        self.assertEqual((again.unsaved.is_urgent, again.found), (True, {}))
         with open(self.store + ".tables", encoding="utf-8") as file:
             said = json.load(file)
         wrong: tuple[object, ...] = (None, "id", [5], [None])
@@ -272,7 +272,7 @@ class File(Case):
             "os.fsync", side_effect=OSError(28, "No space left on device")
         ), self.assertRaisesRegex(Passing, "No space"):
             self.remembered.save()
-        self.assertTrue(self.remembered.is_urgent)
+        self.assertTrue(self.remembered.unsaved.is_urgent)
         self.assertEqual(os.listdir(os.path.dirname(self.store)), ["copy.db.tables"])
         old = Remembered(self.store).catalog
         self.assertEqual(old and list(old.tables), [1])
@@ -293,10 +293,11 @@ class Looks(Case):
         self.assertEqual(self.remembered.look(a_catalog(T, U, lsn=200)), [])
         self.assertEqual(len(self.found("publication")), 1)
         self.assertEqual(
-            self.remembered.take_news(), ["publication at 0/C8: " + self.found("publication")[0]]
+            self.remembered.found.take_news(),
+            ["publication at 0/C8: " + self.found("publication")[0]],
         )
         self.again().look(a_catalog(T, U, lsn=300))
-        self.assertEqual(self.remembered.take_news(), [])
+        self.assertEqual(self.remembered.found.take_news(), [])
         self.assertEqual(
             (len(self.found("publication")), self.remembered.found["publication"].lsn), (1, 200)
         )
@@ -308,7 +309,7 @@ class Looks(Case):
         self.again().look(
             a_catalog(a_table(1, "t", fresh=True), lsn=200, highest=5000, partitions=[made])
         )
-        self.assertFalse(self.remembered.is_urgent)
+        self.assertFalse(self.remembered.unsaved.is_urgent)
 
     def test_harmless(self) -> None:
         whole = dataclasses.replace(PGSUB, whole=True)
@@ -321,9 +322,9 @@ class Looks(Case):
         self.remembered.begin_copy(a_catalog(T), 100)
         self.remembered.look(a_catalog(dataclasses.replace(T, shape=WIDER), U, lsn=200))
         self.assertEqual(sorted(self.remembered.found), ["publication", "values"])
-        self.remembered.accept(["names", "values"])
+        self.remembered.found.accept(["names", "values"])
         self.assertEqual(sorted(self.again().found), ["publication"])
-        self.remembered.accept(["all"])
+        self.remembered.found.accept(["all"])
         self.assertEqual(self.remembered.found, {})
 
     def test_a_table_that_came_and_went(self) -> None:
@@ -333,8 +334,8 @@ class Looks(Case):
             self.again().look(a_catalog(T, lsn=lsn))
             self.assertEqual(len(self.found("publication")), 1)
             self.assertIn("public.staging (5) was dropped", self.found("publication")[0])
-            self.remembered.take_news()
-        self.remembered.accept(["all"])
+            self.remembered.found.take_news()
+        self.remembered.found.accept(["all"])
         self.again().look(a_catalog(T, lsn=400))
         self.assertEqual(self.remembered.found, {})
 
@@ -430,7 +431,7 @@ class LooksAndMessages(Case):
     def test_look_first(self) -> None:
         self.remembered.begin_copy(a_catalog(T), 100)
         self.remembered.look(a_catalog(dataclasses.replace(T, shape=WIDER), lsn=300))
-        self.again().accept(["values"])
+        self.again().found.accept(["values"])
         self.note(1, "t", 200)
         self.note(1, "t", 250, [ID, NAME, MORE])
         self.assertEqual(self.remembered.found, {})
@@ -439,7 +440,7 @@ class LooksAndMessages(Case):
         self.remembered.begin_copy(a_catalog(T), 100)
         self.note(1, "t", 200, [ID, NAME, MORE])
         self.assertEqual(len(self.found("values")), 1)
-        self.again().accept(["values"])
+        self.again().found.accept(["values"])
         self.remembered.look(a_catalog(dataclasses.replace(T, shape=WIDER), lsn=300))
         self.assertEqual(self.remembered.found, {})
 
@@ -452,7 +453,7 @@ class LooksAndMessages(Case):
         self.assertIn("was written anew", self.found("values")[0])
         self.remembered.begin_copy(a_catalog(before), 100)
         self.note(1, "t", 200, [ID, (0, "name", 1043, 24)])
-        self.again().accept(["values"])
+        self.again().found.accept(["values"])
         shape = a_shape([ID, (0, "name", 1043, 24)])
         self.remembered.look(
             a_catalog(dataclasses.replace(T, shape=shape, node=2, altered="700 800"), lsn=300)
@@ -473,7 +474,7 @@ class LooksAndMessages(Case):
     def test_again_after_it_was_accepted(self) -> None:
         self.remembered.begin_copy(a_catalog(T), 100)
         self.remembered.look(a_catalog(dataclasses.replace(T, shape=WIDER), lsn=300))
-        self.remembered.accept(["all"])
+        self.remembered.found.accept(["all"])
         for lsn, columns in ((400, [ID, NAME, MORE]), (410, [ID, NAME]), (420, [ID, NAME, MORE])):
             self.note(1, "t", lsn, columns)
         self.assertEqual(self.remembered.found["values"].lsn, 420)
@@ -493,9 +494,9 @@ class LooksAndMessages(Case):
     def test_told_until_they_are_in_the_store(self) -> None:
         self.remembered.begin_copy(a_catalog(T), 100)
         self.remembered.look(a_catalog(T, U, lsn=300))
-        self.remembered.forget_told(299)
+        self.remembered.found.forget_told(299)
         self.assertEqual(len(self.remembered.found.told), 1)
-        self.remembered.forget_told(300)
+        self.remembered.found.forget_told(300)
         self.assertEqual(self.remembered.found.told, {})
 
 
@@ -513,14 +514,14 @@ class Names(Case):
 
     def test_seen_by_a_look_first(self) -> None:
         self.remembered.look(a_catalog(U, a_table(3, "t"), lsn=300))
-        self.remembered.accept(["all"])
+        self.remembered.found.accept(["all"])
         self.note(3, "t", 200)
         self.assertEqual(self.found("names"), [])
         self.assertEqual(self.names()["public.t"], (3, [1]))
 
     def test_gone_between_two_looks(self) -> None:
         self.remembered.look(a_catalog(U, a_table(4, "t"), lsn=300))
-        self.remembered.accept(["all"])
+        self.remembered.found.accept(["all"])
         self.note(3, "t", 200)
         self.assertEqual(len(self.found("names")), 1)
         self.assertEqual(self.names()["public.t"], (4, [1, 3]))

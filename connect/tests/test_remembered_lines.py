@@ -63,13 +63,13 @@ class Lines(Case):
         for put, some in enumerate(noted):
             for oid, name, lsn, columns in some:
                 self.note(oid, name, lsn, *columns)
-            self.assertTrue(self.remembered.is_urgent)
+            self.assertTrue(self.remembered.unsaved.is_urgent)
             self.remembered.put()
-            self.assertFalse(self.remembered.is_urgent)
+            self.assertFalse(self.remembered.unsaved.is_urgent)
             self.assertEqual((len(self.lines()), self.lines()[:1]), (put + 2, before))
             again = Remembered(self.store)
             self.assertEqual(self.state(again), self.state(self.remembered))
-            self.assertEqual((again.is_urgent, again.take_news()), (False, []))
+            self.assertEqual((again.unsaved.is_urgent, again.found.take_news()), (False, []))
         self.assertEqual(sorted(again.found), ["names", "values"])
         self.remembered.save()
         self.assertEqual(
@@ -97,7 +97,7 @@ class Lines(Case):
         relation = Relation(1, "public", "t", a_shape([ID, NAME, MORE], "d", [0, 0, 0]))
         changes: list[Callable[[], object]] = [
             lambda: self.remembered.look(later),
-            lambda: self.remembered.accept(["all"]),
+            lambda: self.remembered.found.accept(["all"]),
             lambda: self.remembered.note_made({"pgsub": 7}),
             lambda: self.remembered.replaced(relation, 300),
             lambda: self.remembered.never_copied(3),
@@ -170,7 +170,7 @@ class Lines(Case):
         full = mock.patch("os.fsync", side_effect=OSError(28, "No space left on device"))
         with full, self.assertRaisesRegex(Passing, "No space"):
             self.remembered.put()
-        self.assertTrue(self.remembered.is_urgent)
+        self.assertTrue(self.remembered.unsaved.is_urgent)
         self.remembered.put()
         self.assertEqual(len(self.lines()), 1)
         self.assertEqual(self.state(Remembered(self.store)), self.state(self.remembered))

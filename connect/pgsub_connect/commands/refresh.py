@@ -89,11 +89,13 @@ def compared(remembered: Remembered, now: Catalog) -> list[Told]:
                 others.append(text)
     told = []
     for oid in sorted(found.keys() & now.tables.keys()):
-        is_missing = oid not in known or any(remembered.about(it).is_missing for it in found[oid])
+        is_missing = oid not in known or any(
+            remembered.found.about(it).is_missing for it in found[oid]
+        )
         what = MISSING if is_missing else CHANGED
         told.append(Told(what, oid, remembered.name_of(oid), found[oid]))
     for text in others:
-        about = remembered.about(text)
+        about = remembered.found.about(text)
         is_left = bool(about.gone) and not remembered.left.isdisjoint(about.tables)
         of = (EXTRA, about.tables[0], about.gone) if is_left else (OTHER, 0, "")
         told.append(Told(*of, [text]))

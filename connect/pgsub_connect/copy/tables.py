@@ -101,7 +101,7 @@ class CopiedTables:
             log.warning(f"{self.remembered.text_of(oid)}: {why}: it is added by itself")
             text = f"table {self.remembered.text_of(oid)} isn't copied yet: {why}"
             self.remembered.find(PUBLICATION, point, text, About((oid,)))
-        self.remembered.take_news()
+        self.remembered.found.take_news()
         self.remembered.want_later(self.later)
 
 

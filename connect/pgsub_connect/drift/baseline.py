@@ -49,16 +49,6 @@ class Baseline:
         self.left: set[int] = set()
 
     @property
-    def is_urgent(self) -> bool:
-        """Whether something is new that has to be on the disk before anything more is confirmed."""
-        return self.unsaved.is_urgent
-
-    @property
-    def is_changed(self) -> bool:
-        """Whether anything is new."""
-        return self.unsaved.is_changed
-
-    @property
     def wanted(self) -> dict[int, str]:
         return self.outstanding.wanted
 
@@ -212,19 +202,6 @@ class Baseline:
         """Notes what was found, and what it is about. Returns false where it was known."""
         return self.found.find(kind, lsn, text, about)
 
-    def take_news(self) -> list[str]:
-        """What was found since the last call."""
-        return self.found.take_news()
-
-    def forget_told(self, position: int) -> None:
-        """Forgets which texts a Relation message may give again, once those messages are in the
-        store."""
-        self.found.forget_told(position)
-
-    def accept(self, kinds: list[str]) -> None:
-        """Forgets what was found of these kinds."""
-        self.found.accept(kinds)
-
     def described(self, oid: int) -> Relation | None:
         """A table as it was described last, by which its rows can go; None where that isn't
         known."""
@@ -234,10 +211,6 @@ class Baseline:
     def found_of(self, oid: int) -> list[str]:
         """What was found of the rows of a table."""
         return self.found.of(oid, self.catalog)
-
-    def about(self, text: str) -> About:
-        """What a text that was found is about."""
-        return self.found.about(text)
 
     def tables_of(self, text: str) -> list[int]:
         """The published tables that a text is about."""

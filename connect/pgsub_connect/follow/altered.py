@@ -158,7 +158,7 @@ class Altered:
     def is_right(self, connection: Connection, table: Table, texts: set[str]) -> bool:
         """Whether it is certain that the rows are right all the same: of one with many findings not
         all are kept."""
-        added = [self.remembered.about(it).added for it in sorted(texts)]
+        added = [self.remembered.found.about(it).added for it in sorted(texts)]
         if not all(added) or len(self.remembered.found[VALUES].texts) >= MOST:
             return False
         return are_empty(connection, table, added)

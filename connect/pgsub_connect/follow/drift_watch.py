@@ -52,8 +52,8 @@ class Watch:
         found = {*self.checkpoint.findings(), *self.remembered.found}
         kinds = [it for it in found if self.tolerance.accepts(it)]
         self.checkpoint.accept(kinds)
-        self.remembered.accept(kinds)
-        if self.remembered.is_urgent:
+        self.remembered.found.accept(kinds)
+        if self.remembered.unsaved.is_urgent:
             self.remembered.save()
         self.note_kinds()
         for kind, lsn in self.checkpoint.findings().items():
@@ -82,7 +82,7 @@ class Watch:
         )
         if kind == NAMES:
             return texts
-        texts = [it for it in texts if going.isdisjoint(self.remembered.about(it).tables)]
+        texts = [it for it in texts if going.isdisjoint(self.remembered.found.about(it).tables)]
         return [it for it in texts if not self.altered.is_open(kind, it)]
 
     def show(self) -> None:
@@ -122,7 +122,7 @@ class Watch:
                 f"{remembered.path} remembers the publications as they are now: what was changed before isn't found"
             )
         else:
-            remembered.forget_told(position)
+            remembered.found.forget_told(position)
             for text in remembered.look(now):
                 log.info(text)
         self.keep()
@@ -170,11 +170,11 @@ class Watch:
 
     def keep(self) -> None:
         """Puts what was found on the disk, before anything more is confirmed, and tells it."""
-        if not self.remembered.is_urgent:
+        if not self.remembered.unsaved.is_urgent:
             return
         self.remembered.put()
         self.note_kinds()
-        news = self.remembered.take_news()
+        news = self.remembered.found.take_news()
         for line in news:
             log.warning(f"found: {line}")
         if news:
@@ -192,7 +192,7 @@ class Watch:
     def note(self, kind: str, lsn: int, text: str) -> None:
         """Keeps what the caller has found, and ends the following with."""
         self.remembered.find(kind, lsn, text)
-        self.remembered.take_news()
+        self.remembered.found.take_news()
         self.remembered.save()
         self.checkpoint.note_found(kind, lsn)
 
@@ -209,14 +209,14 @@ class Watch:
         if wants_look and now >= self.next_look:
             wants_look = not self.look_again(check, position)
             self.next_look = now + (AGAIN if wants_look else LOOK)
-        if self.remembered.is_changed and now >= self.next_save:
+        if self.remembered.unsaved.is_changed and now >= self.next_save:
             self.next_save = now + LATER
             self.remembered.save()
         return wants_look
 
     def finish(self) -> None:
         """Writes what isn't urgent, at the end of a session."""
-        if self.remembered.is_changed:
+        if self.remembered.unsaved.is_changed:
             try:
                 self.remembered.save()
             except Passing as error:
