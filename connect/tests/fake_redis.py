@@ -171,6 +171,9 @@ class FakeCalls:
             for command in commands
         ]
 
+    def end_by(self, check: Check) -> None:
+        self.check = check
+
     def one(self, command: list[bytes]) -> Any:
         name = command[0]
         if name == b"MULTI":

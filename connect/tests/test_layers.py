@@ -1,8 +1,4 @@
-"""What the two packages may import, and how long their modules and functions are.
-
-The module `layers_known` lists what isn't so yet. What isn't listed fails, and so does what is listed and is right by
-now.
-"""
+"""What the two packages may import, and how long their modules and functions are."""
 
 from __future__ import annotations
 
@@ -10,8 +6,6 @@ import ast
 import unittest
 from collections.abc import Iterator
 from pathlib import Path
-
-from .layers_known import KNOWN
 
 CONNECT = Path(__file__).resolve().parent.parent
 # Each imports from itself and from those before it. (The version is of the package itself.)
@@ -167,10 +161,8 @@ def found_wrong() -> set[str]:
 
 
 class Layers(unittest.TestCase):
-    def test_nothing_is_wrong_but_what_is_known(self) -> None:
-        wrong = found_wrong()
-        self.assertEqual(sorted(wrong - KNOWN), [], "isn't listed")
-        self.assertEqual(sorted(KNOWN - wrong), [], "isn't so any more")
+    def test_nothing_is_wrong(self) -> None:
+        self.assertEqual(sorted(found_wrong()), [])
 
     def test_cycles(self) -> None:
         edges = {"a": {"b"}, "b": {"c"}, "c": {"a"}, "d": {"a"}, "e": set[str]()}

@@ -37,7 +37,7 @@ KNOWN = Known(FOLLOWING, "77", "shop", "pgsub", 1)
 class Asks(StoreCase):
     def setUp(self) -> None:
         super().setUp()
-        for name in ("store.at_rest.LOOK", "copy.source.LOOK", "store.asking.STEP"):
+        for name in ("store.at_rest.LOOK", "copy.source.LOOK", "store.socket_file.STEP"):
             self.patch(f"pgsub_connect.{name}", 0.005)
         self.ended = threading.Event()
         self.request = Request(self.path, 60.0, never)

@@ -22,11 +22,11 @@ CONNECT = os.path.dirname(os.path.dirname(os.path.abspath(__file__)))
 # Draws a line twice, says a line of the log, and ends in the midst of more.
 WORK = """
 from unittest import mock
-from pgsub_feed import log, meter, program
+from pgsub_feed import log, program
 def work():
     clock = [0.0]
     with mock.patch("time.monotonic", lambda: clock[0]):
-        it = meter.Meter("copying")
+        it = log.Meter("copying")
         for done in (0, 500, 1000, 1500):
             it.note(done, 2000, "public.t" + "\\x1b[31m")
             clock[0] += 0.15

@@ -56,7 +56,7 @@ class Repairs(Case):
 
     def setUp(self) -> None:
         super().setUp()
-        for name in ("store.at_rest.LOOK", "copy.source.LOOK", "store.asking.STEP"):
+        for name in ("store.at_rest.LOOK", "copy.source.LOOK", "store.socket_file.STEP"):
             patch = mock.patch(f"pgsub_connect.{name}", 0.005)
             patch.start()
             self.addCleanup(patch.stop)

@@ -6,7 +6,7 @@ import unittest
 
 from pgsub_connect.stream.filter_end import FRAME_TOO_LARGE, MEMORY, SPOOL_FULL, FilterEnded
 from pgsub_connect.stream.memory_limit import (
-    LEAST,
+    SMALL,
     LONGEST_FRAME,
     BufferLimits,
     KilledTwice,
@@ -24,29 +24,29 @@ KILLED = FilterEnded(-9, "")
 class Killed(unittest.TestCase):
     def test_twice_in_one_transaction(self) -> None:
         kills = Kills()
-        kills.note(KILLED, 7, LEAST)
+        kills.note(KILLED, 7, SMALL)
         with self.assertRaises(KilledTwice) as raised:
-            kills.note(KILLED, 7, 5 * LEAST)
+            kills.note(KILLED, 7, 5 * SMALL)
         text = str(raised.exception)
-        for part in ("signal 9", "transaction 7", str(5 * LEAST), "--max-buffered", "memory"):
+        for part in ("signal 9", "transaction 7", str(5 * SMALL), "--max-buffered", "memory"):
             self.assertIn(part, text)
         self.assertEqual(raised.exception.exit_status(), REJECTED)
 
     def test_in_two(self) -> None:
         kills = Kills()
         for xid in (7, 8, 7, 9):
-            kills.note(KILLED, xid, LEAST)
+            kills.note(KILLED, xid, SMALL)
 
     def test_small_ones_arent_why(self) -> None:
         kills = Kills()
         for _ in range(3):
-            kills.note(KILLED, 7, LEAST - 1)
+            kills.note(KILLED, 7, SMALL - 1)
 
     def test_what_ends_by_itself(self) -> None:
         """Of memory too, of which there may be more a little later."""
         kills = Kills()
         for _ in range(3):
-            kills.note(FilterEnded(MEMORY, "pgsub: out of memory"), 7, LEAST)
+            kills.note(FilterEnded(MEMORY, "pgsub: out of memory"), 7, SMALL)
 
 
 class Texts(unittest.TestCase):
@@ -113,8 +113,8 @@ class Follows(Case):
         """In a transaction that isn't complete, or isn't stored yet; what others did between
         doesn't matter."""
         for payloads in (
-            [begin(0x100, 7), insert(1) + bytes(LEAST)],
-            [begin(0x100, 7), insert(1) + bytes(LEAST), commit(0x100, 0x108)],
+            [begin(0x100, 7), insert(1) + bytes(SMALL)],
+            [begin(0x100, 7), insert(1) + bytes(SMALL), commit(0x100, 0x108)],
         ):
             self.follower.life.kills.xid = 0
             for repeat in range(2):
@@ -127,7 +127,7 @@ class Follows(Case):
                     self.child.input.waiting = 0
                 if repeat:
                     with self.assertRaisesRegex(
-                        KilledTwice, f"twice in the transaction 7, of which {LEAST}"[:-3]
+                        KilledTwice, f"twice in the transaction 7, of which {SMALL}"[:-3]
                     ):
                         self.end(-9)
                 else:

@@ -500,7 +500,7 @@ class Waited(FeedCase):
 
     def test_a_signal(self) -> None:
         code = (
-            "from pgsub_connect.store import asking; asking.STEP = 60.0; "
+            "from pgsub_connect.store import socket_file; socket_file.STEP = 60.0; "
             "from pgsub_connect.cli import run; run()"
         )
         with contextlib.closing(RequestSocket(self.store)) as requests:

@@ -227,7 +227,7 @@ class Nats:
             if time.monotonic() > end:
                 raise Stopped
 
-        self.stream.wire.check = check
+        self.stream.wire.end_by(check)
         with contextlib.suppress(Stopped):
             self.settle()
             return True

@@ -320,6 +320,10 @@ class Wire:
         except BUSY:
             return None
 
+    def end_by(self, check: Check) -> None:
+        """Has another check say when nothing is waited for any more."""
+        self.check = check
+
     def close(self) -> None:
         self.socket.close()
 

@@ -111,8 +111,20 @@ class Calls(Protocol):
     def run(self, commands: Sequence[Command]) -> list[Any]:
         """Sends commands, and returns what each got."""
 
+    def end_by(self, check: Check) -> None:
+        """Has another check say when nothing is waited for any more."""
+
     def close(self) -> None:
         """Ends it."""
+
+
+def asked(calls: Calls, commands: Sequence[Command]) -> list[Any]:
+    """What commands got, of which none may fail."""
+    said = calls.run(commands)
+    for it in said:
+        if isinstance(it, Said):
+            raise raised(it, calls.where)
+    return said
 
 
 class Connection:
@@ -241,6 +253,9 @@ class Connection:
             return [self.whole(it) for it in said]
         return Said(self.text(said)) if isinstance(said, Exception) else said
 
+    def end_by(self, check: Check) -> None:
+        self.check = check
+
     def close(self) -> None:
         self.connection.disconnect()
 
@@ -277,15 +292,13 @@ def master_of(sentinels: Sequence[str], service: str, check: Check) -> str:
     wrong = []
     for it in sentinels:
         try:
-            with contextlib.closing(Connection(f"redis://{it}", check)) as asked:
-                (said,) = asked.run([("SENTINEL", "GET-MASTER-ADDR-BY-NAME", service)])
-                if isinstance(said, Said):
-                    raise raised(said, asked.where)
-                with understood(asked.where):
+            with contextlib.closing(Connection(f"redis://{it}", check)) as sentinel:
+                (said,) = asked(sentinel, [("SENTINEL", "GET-MASTER-ADDR-BY-NAME", service)])
+                with understood(sentinel.where):
                     if said is not None:
                         host, port = (it.decode() for it in said)
                         return f"[{host}]:{int(port)}" if ":" in host else f"{host}:{int(port)}"
-            wrong.append(f"{asked.where}: a sentinel knows no master {service}")
+            wrong.append(f"{sentinel.where}: a sentinel knows no master {service}")
         except Passing as error:
             wrong.append(str(error))
     raise Passing("; ".join(wrong))

@@ -30,7 +30,7 @@ from ..reader.following import Read
 from ..texts import lsn_text, parse_lsn, shortened
 from .engine import Wanted
 from .first_rows import Base
-from .redis_calls import Calls, Command, Said, raised, understood
+from .redis_calls import Calls, Command, Said, asked, raised, understood
 from .redis_disk import Disk, fields
 from .relations import Holder, Kept, Relations
 
@@ -186,8 +186,8 @@ class Redis:
         if self.writer.is_before(owner := self.two(ASK)[1]):
             self.check_owner(owner)
         self.writer.begin()
-        self.run([("SET", SINK, self.writer.text)])
-        self.lsn = self.both(self.run([WATCH, ASK])[1])[0]
+        asked(self.calls, [("SET", SINK, self.writer.text)])
+        self.lsn = self.both(asked(self.calls, [WATCH, ASK])[1])[0]
 
     def check_about(self, about: bytes | None) -> None:
         """Rejects what is of another feed, or of other tables."""
@@ -207,15 +207,9 @@ class Redis:
 
     # ---- calls
 
-    def run(self, commands: Sequence[Command]) -> list[Any]:
-        """Runs commands outside of a MULTI, of which none may fail."""
-        said = self.calls.run(commands)
-        self.check_said(said)
-        return said
-
     def two(self, command: Command) -> tuple[Any, Any]:
         """The two values that a command asks for, each bytes or None."""
-        return self.both(self.run([command])[0])
+        return self.both(asked(self.calls, [command])[0])
 
     def both(self, found: Any) -> tuple[Any, Any]:
         with understood(self.calls.where):
@@ -224,20 +218,17 @@ class Redis:
                 raise TypeError("no bytes")
         return first, second
 
-    def check_said(self, said: Iterable[Any]) -> None:
-        for it in said:
-            if isinstance(it, Said):
-                raise raised(it, self.calls.where)
-
     def transact(self, commands: Sequence[Command], after: bytes | None) -> None:
         """Runs commands in one MULTI, which leave the LSN at what is said, as long as this is the
         sink that writes."""
         for _ in range(TRIES):
             if watched := self.form.watched():
-                self.run([("WATCH", *watched)])
+                asked(self.calls, [("WATCH", *watched)])
                 self.form.prepare()
             *queued, done, _, found = self.calls.run([("MULTI",), *commands, ("EXEC",), WATCH, ASK])
-            self.check_said([*queued, done, found])
+            for it in (*queued, done, found):
+                if isinstance(it, Said):
+                    raise raised(it, self.calls.where)
             lsn, owner = self.both(found)
             self.check_owner(owner)
             if done is not None:
@@ -270,7 +261,7 @@ class Redis:
             wrong = [it for it in done if isinstance(it, Said) and not self.form.accepts(it)]
         if wrong:
             # (the others had their effect, so nothing may go on from there)
-            self.run([("DEL", LSN)])
+            asked(self.calls, [("DEL", LSN)])
             raise EngineError(
                 f"{self.calls.where}: keys of the sink were altered by something else, begin anew: {wrong[0]}"
             )
@@ -287,7 +278,8 @@ class Redis:
         self.check_lsn(self.lsn, None)
         with understood(self.calls.where):
             self.left = [
-                text_of(it) for it in list_of(parsed(self.run([("MGET", LOADING)])[0][0] or b"[]"))
+                text_of(it)
+                for it in list_of(parsed(asked(self.calls, [("MGET", LOADING)])[0][0] or b"[]"))
             ]
         self.transact([*form.removals(self.left), ("DEL", LOADING)], self.lsn)
         form.check_new()
@@ -297,7 +289,8 @@ class Redis:
             self.transact([("SET", LOADING, names)], self.lsn)
             for kept in tables:
                 self.load(base, kept)
-        self.end, self.relations.is_changed = base.lsn, True
+        self.end = base.lsn
+        self.relations.touch()
         self.write([("SET", FEED, json.dumps(self.about)), ("DEL", LOADING)])
 
     def load(self, base: Base, kept: Kept) -> None:
@@ -345,7 +338,7 @@ class Redis:
         self.transact(commands, text.encode())
         self.form.clear()
         if tables is not None:
-            self.relations.saved, self.relations.is_changed = tables, False
+            self.relations.note_saved(tables)
         self.reach(self.end)
 
     def commands(self) -> list[Command]:
@@ -358,7 +351,7 @@ class Redis:
 
     def forget(self) -> None:
         self.form.clear()
-        self.relations.load(self.relations.saved)
+        self.relations.go_back()
         self.end = self.at
 
     def look(self) -> None:
@@ -372,7 +365,7 @@ class Redis:
     def finish(self, seconds: float) -> bool:
         if self.calls.is_lost:
             return False
-        self.calls.check = never
+        self.calls.end_by(never)
         with contextlib.suppress(Stopped), at_most(seconds):
             self.settle()
             return True

@@ -13,7 +13,7 @@ from typing import Union
 from ..errors import Unfit
 from ..formats.keys import NULL, row_text
 from ..reader.commits import XID, Cell, Cells, Change, Commit, Missed
-from .redis_calls import Calls, Command, Said, raised, understood
+from .redis_calls import Calls, Command, Said, asked, understood
 from .relations import Kept
 
 # How many keys one command has, and one step of a search looks at.
@@ -113,10 +113,7 @@ class Hashes:
     def has_any(self, keys: Sequence[str]) -> bool:
         """Whether one of these keys is there."""
         parts = [keys[at : at + KEYS] for at in range(0, len(keys), KEYS)]
-        said = self.calls.run([("EXISTS", *it) for it in parts])
-        for it in said:
-            if isinstance(it, Said):
-                raise raised(it, self.calls.where)
+        said = asked(self.calls, [("EXISTS", *it) for it in parts])
         with understood(self.calls.where):
             return sum(map(int, said)) > 0
 
@@ -150,9 +147,8 @@ class Hashes:
         cursor = b"0"
         while True:
             self.calls.check()
-            said = self.calls.run([("SCAN", cursor, "MATCH", pattern, "COUNT", LOOKED)])[0]
-            if isinstance(said, Said):
-                raise raised(said, self.calls.where)
+            search = ("SCAN", cursor, "MATCH", pattern, "COUNT", LOOKED)
+            (said,) = asked(self.calls, [search])
             with understood(self.calls.where):
                 cursor, keys = said
                 is_end = int(cursor) == 0
@@ -216,9 +212,7 @@ class Hashes:
 
     def read(self, value: Stored) -> dict[str | bytes, str | bytes]:
         """A row that is stored."""
-        said = self.calls.run([("HGETALL", value.key)])[0]
-        if isinstance(said, Said):
-            raise raised(said, self.calls.where)
+        (said,) = asked(self.calls, [("HGETALL", value.key)])
         with understood(self.calls.where):
             return {
                 name.decode(): text_of(cell)

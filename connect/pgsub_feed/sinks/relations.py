@@ -103,6 +103,18 @@ class Relations:
             primary = tuple(text_of(it) for part in more for it in list_of(part))
             self.put(Kept(read_relation(definition), text_of(name), primary))
 
+    def go_back(self) -> None:
+        """Has again what was saved last."""
+        self.load(self.saved)
+
+    def touch(self) -> None:
+        """It is to be saved, whatever is in it."""
+        self.is_changed = True
+
+    def note_saved(self, text: str) -> None:
+        """What `text` returned is there."""
+        self.saved, self.is_changed = text, False
+
     def text(self) -> str:
         kept = ",".join(
             f"[{json.dumps(it.name)},{relation_text(it.relation)},{json.dumps(it.primary)}]"
