@@ -1,10 +1,12 @@
 """How a program ends: by signals that ask for it, and by errors that are told."""
 
+import contextlib
 import errno
+import gc
 import os
 import signal
 import traceback
-from collections.abc import Callable
+from collections.abc import Callable, Iterator
 
 from . import log
 from .errors import BUG, FILE, PASSING, Failure, Stopped
@@ -22,6 +24,22 @@ PASSING_ERRORS = (
     errno.ETIMEDOUT,
     errno.EHOSTDOWN,
 )
+
+# How many objects more are there until Python looks for cycles of garbage, and how often it looks
+# at those of its youngest generation, and of the next, until at all.
+COLLECTED = 100_000, 20, 20
+
+
+@contextlib.contextmanager
+def collected_rarely() -> Iterator[None]:
+    """Has Python look for cycles of garbage less often while many rows are read at once: they are
+    none, and it looks at each again and again."""
+    before = gc.get_threshold()
+    gc.set_threshold(*COLLECTED)
+    try:
+        yield
+    finally:
+        gc.set_threshold(*before)
 
 
 class Worker:

@@ -16,8 +16,9 @@ from pgsub_connect.store import export as export_module
 from pgsub_connect.store.export import ExportSettings, export_store
 from pgsub_feed.interruption import never
 from pgsub_feed.relation import Column, Relation, Shape
-from pgsub_feed.tables import target, values
-from pgsub_feed.tables.values import BOTH, Malformed, Row, Unlike, kinds_of, row_reader, rows_reader
+from pgsub_feed.tables import stored_rows, target, values
+from pgsub_feed.tables.stored_rows import row_reader, rows_reader
+from pgsub_feed.tables.values import BOTH, Kind, Malformed, Unlike, Value, kinds_of
 
 from .drawn import ANY
 from .stores import Cell, StoreCase, spelled
@@ -26,8 +27,40 @@ from .vectors import logged
 # int4, text, float8, numeric (of which there are two columns), bytea and bool.
 TYPES = 23, 25, 701, 1700, 17, 16
 SEVERAL = [kinds_of(Column(str(it), it, -1, False), BOTH, "t") for it in TYPES]
+TEXTS = [kinds_of(Column(it, 25, -1, False), BOTH, "t") for it in "ab"]
 USUAL: tuple[Cell, ...] = ("-12", "text", "1.5", "1.50", "\\x00ff", "t")
-SHORT = "", "0", "-0", "007", "12", "-9", "n", "t", "nt", "f", "NaN", "1e3", "ä", "1_0", " 1", "+1"
+NUMBERS = (
+    "0",
+    "-0",
+    "007",
+    "12",
+    "-9",
+    "1e3",
+    "1.",
+    ".5",
+    "-.5",
+    "1e+400",
+    "1_0",
+    " 1",
+    "+1",
+    "1,2",
+    "٣",
+)
+SHORT = (
+    "",
+    "n",
+    "t",
+    "nt",
+    "f",
+    "true",
+    "NaN",
+    "Infinity",
+    "-Infinity",
+    "inf",
+    "ä",
+    "é" * 70,
+    *NUMBERS,
+)
 # numbers that are of eight bytes and aren't, what is long, and texts that look like heads of cells
 ODD = "9" * 18, "-" + "9" * 18, "9" * 19, "1" * 19, "x" * 255, "x" * 256, "t\0\0\0\1x", "\0"
 CELLS = some.one_of(some.sampled_from(SHORT + ODD), some.none(), some.binary(max_size=9))
@@ -54,54 +87,91 @@ def bodies(draw: some.DrawFn) -> list[bytes]:
     return rows
 
 
-def told(read: Callable[[], list[Row]]) -> object:
+def told(read: Callable[[], list[Value]]) -> object:
     """The values with their types, or what is wrong."""
     try:
-        return [[(type(it), it) for it in row] for row in read()]
+        return [(type(it), repr(it)) for it in read()]
     except (Malformed, Unlike) as error:
         return type(error), error.args
 
 
 class AtOnce(unittest.TestCase):
+    def check(self, columns: list[list[Kind]], rows: list[bytes]) -> None:
+        """Rows are read at once as each by itself."""
+        at_once, read = rows_reader(columns), row_reader(columns)
+        each = told(lambda: [it for row in rows for it in read(row)])
+        self.assertEqual(told(lambda: at_once(rows)), each)
+
     @ANY
     @given(bodies())
     def test_as_one_by_one(self, rows: list[bytes]) -> None:
-        at_once, each = rows_reader(SEVERAL), row_reader(SEVERAL)
-        self.assertEqual(told(lambda: at_once(rows)), told(lambda: [*map(each, rows)]))
+        self.check(SEVERAL, rows)
+
+    @ANY
+    @given(some.lists(some.tuples(CELLS, CELLS).map(spelled), max_size=5))
+    def test_texts(self, rows: list[bytes]) -> None:
+        self.check(TEXTS, rows)
 
     def test_each_cell(self) -> None:
-        at_once, each = rows_reader(SEVERAL), row_reader(SEVERAL)
         for at, cell in itertools.product(range(len(USUAL)), (*SHORT, *ODD, None, b"", b"\0\xff")):
             rows = [spelled(it) for it in (USUAL, (*USUAL[:at], cell, *USUAL[at + 1 :]), USUAL)]
-            self.assertEqual(told(lambda: at_once(rows)), told(lambda: [*map(each, rows)]))
+            self.check(SEVERAL, rows)
+
+    def test_each_pair_of_texts(self) -> None:
+        cells = (*SHORT, *ODD, None)
+        for pair in itertools.product(cells, cells):
+            self.check(TEXTS, [spelled(pair), spelled(["a", "b"])])
 
     def test_that_it_is(self) -> None:
-        """Nothing is read by itself that needn't be."""
-        usual, other = spelled(USUAL), spelled([None, *USUAL[1:]])
+        """Nothing is read by itself that needn't be: nulls, long texts and those of any script
+        are read at once, too, and binary values aren't."""
+        usual = spelled(USUAL)
+        others: list[list[Cell]] = [
+            [None, *USUAL[1:]],
+            [*USUAL[:1], "ä" * 300, *USUAL[2:]],
+            [None] * len(USUAL),
+        ]
         by_itself: list[bytes] = []
 
-        def noted(body: bytes) -> Row:
+        def noted(body: bytes) -> list[Value]:
             by_itself.append(body)
             return read(body)
 
         read = row_reader(SEVERAL)
-        with mock.patch.object(values, "row_reader", lambda _: noted):
-            rows = rows_reader(SEVERAL)([usual, other, usual])
-        self.assertEqual(by_itself, [other])
-        self.assertEqual([[*it] for it in rows], [read(it) for it in (usual, other, usual)])
+        with mock.patch.object(stored_rows, "row_reader", lambda _: noted):
+            for rows in ([usual], [usual, *map(spelled, others), usual]):
+                expected = [it for row in rows for it in read(row)]
+                self.assertEqual(rows_reader(SEVERAL)(rows), expected)
+            self.assertEqual(by_itself, [])
+            binary = spelled([b"\0\0\0\1", *USUAL[1:]])
+            rows_reader(SEVERAL)([usual, binary])
+            self.assertEqual(by_itself, [usual, binary])
+            with mock.patch.object(stored_rows, "LARGE", len(usual)):
+                long = spelled(["123", *USUAL[1:-1], "t"])
+                rows_reader(SEVERAL)([long])
+                self.assertEqual(by_itself, [usual, binary])
+                rows_reader(SEVERAL)([spelled(["1234", *USUAL[1:]])])
+                self.assertEqual(len(by_itself), 3)
 
     def test_lengths_that_fit_together(self) -> None:
         """A byte less in one cell and one more in the next: as long as it should be."""
-        columns = [kinds_of(Column(it, 25, -1, False), BOTH, "t") for it in "ab"]
         good = spelled(["ab", "cd"])
         spoiled = bytearray(good)
         spoiled[6], spoiled[13] = 1, 3
-        read, read_row = rows_reader(columns), row_reader(columns)
-        self.assertEqual([[*it] for it in read([good])], [["ab", "cd"]])
-        with self.assertRaises(Malformed):
-            read_row(bytes(spoiled))
-        with self.assertRaises(Malformed):
-            read([good, bytes(spoiled)])
+        self.assertEqual(rows_reader(TEXTS)([good]), ["ab", "cd"])
+        for rows in ([bytes(spoiled)], [good, bytes(spoiled)]):
+            with self.assertRaises(Malformed):
+                rows_reader(TEXTS)(rows)
+
+    def test_rows_that_fit_together(self) -> None:
+        """Bytes of one row in the next one, though what parts the cells is between them."""
+        one, other = (spelled(it) for it in (["a", ""], ["", "b"]))
+        part = stored_rows.SHORT
+        for at in (it for it in range(len(one)) if one.startswith(part, it)):
+            rows = [one[:at], one[at + len(part) :] + part + other]
+            self.assertEqual(part.join(rows), part.join([one, other]))
+            with self.assertRaises(Malformed):
+                rows_reader(TEXTS)(rows)
 
 
 class Inserted(StoreCase):
@@ -133,7 +203,7 @@ class Inserted(StoreCase):
             for name in ("t", "u"):
                 it.rename(name)
                 base.execute(it.definition())
-                self.assertEqual(it.insert(base, [(name,), (name * 2,)]), 2)
+                self.assertEqual(it.insert(base, [name, name * 2]), 2)
         for name in ("t", "u"):
             self.assertEqual(self.rows_of(f"SELECT * FROM {name}"), [(name,), (name * 2,)])
 

@@ -4,7 +4,7 @@ import dataclasses
 from collections.abc import Sequence
 
 from pgsub_feed.options import option, repeated
-from pgsub_feed.program import check_signals
+from pgsub_feed.program import check_signals, collected_rarely
 from pgsub_feed.tables.values import ALL_TEXT
 
 from ..store.export import ExportSettings, export_store
@@ -39,5 +39,6 @@ def run(options: Options) -> int:
     settings = ExportSettings(
         options.store, options.into, form, tuple(options.table), options.mode, options.indexes
     )
-    export_store(settings, check_signals())
+    with collected_rarely():
+        export_store(settings, check_signals())
     return 0

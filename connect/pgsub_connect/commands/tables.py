@@ -11,7 +11,7 @@ from pgsub_feed.errors import UsageError
 from pgsub_feed.interruption import Check
 from pgsub_feed.known_tables import known_beside
 from pgsub_feed.options import add_fields, lsn, option
-from pgsub_feed.program import check_signals
+from pgsub_feed.program import check_signals, collected_rarely
 from pgsub_feed.reader.polling import Parent
 from pgsub_feed.tables.first_rows import check_file
 from pgsub_feed.tables.following import Wanted, keep
@@ -98,7 +98,8 @@ def settled(options: Options) -> Options:
 
 def run(options: Options) -> int:
     """Follows a feed; the exit status."""
-    return follow_feed(settled(options), check_signals())
+    with collected_rarely():
+        return follow_feed(settled(options), check_signals())
 
 
 def follow_feed(options: Options, check: Check) -> int:

@@ -18,7 +18,7 @@ from pgsub_feed import log
 from pgsub_feed.errors import Failure, Passing, Stopped
 from pgsub_feed.files import placed
 from pgsub_feed.interruption import Check
-from pgsub_feed.program import check_signals, guarded
+from pgsub_feed.program import check_signals, collected_rarely, guarded
 from pgsub_feed.tables.first_rows import prepare
 from pgsub_feed.tables.sqlite_files import check_sqlite
 from pgsub_feed.tables.values import Malformed
@@ -96,5 +96,5 @@ def attempted(make: Callable[[], None], lacks: str) -> int:
 
 def run() -> None:
     wanted, check = wanted_of(sys.argv[1:]), check_signals()
-    with open(0, "rb", buffering=READ) as source:
+    with open(0, "rb", buffering=READ) as source, collected_rarely():
         sys.exit(guarded(lambda: filled(wanted, source, check)))

@@ -12,7 +12,6 @@ from __future__ import annotations
 
 import contextlib
 import dataclasses
-import itertools
 import sqlite3
 from collections.abc import Callable, Collection, Iterable, Iterator, Mapping, Sequence
 from functools import partial
@@ -29,7 +28,7 @@ from pgsub_feed.tables.names import OLD, POSITION, TABLES, name_tables, names_of
 from pgsub_feed.tables.schema import RELATIONS, SCHEMA, definition
 from pgsub_feed.tables.sqlite_files import EXPORT as APPLICATION, check_sqlite, is_export
 from pgsub_feed.tables.target import Target, key_index, unlike_reason
-from pgsub_feed.tables.values import BOTH, Malformed, Row, Unlike
+from pgsub_feed.tables.values import BOTH, Malformed, Unlike, Value
 from pgsub_feed.texts import counted, identifier, lsn_text
 
 from ..drift.remembered import Remembered
@@ -41,9 +40,8 @@ from .placing import check_into
 ROOM = 1 << 20
 # What a row takes beside its bytes.
 ROW = 200
-# How many copies of a row are written, and how many steps SQLite makes, until it is asked whether
-# to end.
-LOT, STEPS = 10000, 1_000_000
+# How many steps SQLite makes until it is asked whether to end.
+STEPS = 1_000_000
 
 
 # A row: the OID of its table, its cells, and how many of it there are.
@@ -64,7 +62,7 @@ class Export:
         note: Callable[[int], None] = lambda rows: None,
     ) -> None:
         self.into, self.form, self.check, self.names = into, form, check, names
-        self.indexes, self.waiting, self.note = indexes, 0, note
+        self.indexes, self.note = indexes, note
 
     def run(
         self,
@@ -110,17 +108,21 @@ class Export:
 
     def copy_rows(self, stored: dict[int, Relation], held: Iterable[Held]) -> None:
         """Copies all rows, in the order in which they come."""
+        target, last, room = None, None, ROOM
         for oid, body, copies in held:
-            target = self.targets.get(oid)
-            if target is None:
-                if oid not in stored:
+            if oid != last:
+                target, last = self.targets.get(oid), oid
+                if target is None and oid not in stored:
                     raise Malformed
+            if target is None:
                 # (of an older table whose name another one has, or one that wasn't chosen)
                 continue
-            target.waiting.append((body, copies))
-            self.waiting += len(body) + ROW
-            if self.waiting > ROOM:
+            target.waiting.append(body)
+            target.copies.append(copies)
+            room -= len(body) + ROW
+            if room < 0:
                 self.write()
+                room = ROOM
         self.write()
         for target in self.targets.values():
             if target.key and not target.is_keyed:
@@ -129,7 +131,7 @@ class Export:
                     f"CREATE INDEX {index} ON {identifier(target.name)} ({target.keys()})"
                 )
 
-    def values(self, target: Target, bodies: list[bytes]) -> list[Row]:
+    def values(self, target: Target, bodies: list[bytes]) -> list[Value]:
         try:
             return target.row_values(bodies)
         except Unlike as unlike:
@@ -139,26 +141,24 @@ class Export:
     def write(self) -> None:
         """Writes the rows that wait."""
         self.check()
-        self.waiting = 0
         for target in self.targets.values():
             if target.waiting:
                 self.write_table(target)
         self.note(sum(it.rows for it in self.targets.values()))
 
     def write_table(self, target: Target) -> None:
-        waiting = target.take()
-        rows = self.values(target, [body for body, _ in waiting])
-        copies = [it for _, it in waiting]
-        if target.have_null_keys(rows):
+        bodies, copies = target.take()
+        values = self.values(target, bodies)
+        if target.have_null_keys(values):
             self.loosen(target)
-        before = self.into.total_changes
-        try:
-            target.insert(self.into, repeated(rows, copies, self.check))
-        except sqlite3.IntegrityError:
-            done = self.into.total_changes - before
-            self.loosen(target)
-            left = itertools.islice(repeated(rows, copies, self.check), done, None)
-            target.insert(self.into, left)
+        for some in repeated(values, bodies, copies, self.check):
+            before = self.into.total_changes
+            try:
+                target.insert(self.into, some)
+            except sqlite3.IntegrityError:
+                done = self.into.total_changes - before
+                self.loosen(target)
+                target.insert(self.into, some[done * len(target.columns) :])
 
     def loosen(self, target: Target) -> None:
         """Makes a table anew whose key can't be a primary key: a row has null there, or two have
@@ -182,24 +182,25 @@ def named(relations: list[Relation], names: Sequence[str]) -> list[Relation]:
     return [it for it in relations if not names or names_of(it.namespace, it.name) & set(names)]
 
 
-def repeated(rows: list[Row], copies: list[int], check: Check) -> Iterable[Row]:
-    """Each row as often as it is there."""
+def repeated(
+    values: list[Value], bodies: list[bytes], copies: list[int], check: Check
+) -> Iterator[list[Value]]:
+    """The values of rows, each row as often as it is there, some at a time."""
     if copies.count(1) == len(copies):
-        return rows
-    return itertools.chain.from_iterable(
-        itertools.repeat(row, part)
-        for row, count in zip(rows, copies, strict=True)
-        for part in lots(count, check)
-    )
-
-
-def lots(copies: int, check: Check) -> Iterator[int]:
-    """Parts of a number, of which each is soon written."""
-    while copies > LOT:
-        check()
-        yield LOT
-        copies -= LOT
-    yield copies
+        yield values
+        return
+    width, some, room = len(values) // len(bodies), list[Value](), ROOM
+    for at, (body, left) in enumerate(zip(bodies, copies, strict=True)):
+        row, size = values[at * width : (at + 1) * width], len(body) + ROW
+        while left:
+            part = min(left, max(room // size, 1))
+            some += row * part
+            left, room = left - part, room - part * size
+            if room < size:
+                check()
+                yield some
+                some, room = [], ROOM
+    yield some
 
 
 def stop(check: Check) -> Callable[[], int]:

@@ -193,7 +193,7 @@ class Applier:
                 "rows were repaired, and without a key nobody knows which of those here",
             )
         images = (it for change in changes for it in (change.before, change.after) if it)
-        keys = list(dict.fromkeys(tuple(kept.searched(it)) for it in images))
+        keys = list(dict.fromkeys(tuple(it) for it in kept.searched([*images])))
         if self.rows.digests:
             self.rows.digests.take_off(kept, keys)
         self.db.executemany(kept.deletion, keys)
@@ -237,14 +237,15 @@ class Applier:
             self.kept[kept.oid] = self.rows.rekeyed(kept)
             return
         if op == "c":
-            rows = [kept.row(it.after or ()) for it in changes]
-            self.check_done(kept, len(rows), kept.target.insert(self.db, rows))
+            values = kept.values([it.after or () for it in changes])
+            self.check_done(kept, len(changes), kept.target.insert(self.db, values))
             return
         kept.find_rows(self.db)
+        before = [it.before or () for it in changes]
         if op == "d":
-            self.run(kept, kept.deletion, [kept.searched(it.before or ()) for it in changes])
+            self.run(kept, kept.deletion, kept.searched(before))
             return
-        changed = [kept.changed(it.before or (), it.after or ()) for it in changes]
+        changed = kept.changed(before, [it.after or () for it in changes])
         for keeps, some in itertools.groupby(changed, operator.itemgetter(0)):
             self.run(kept, kept.change if keeps else kept.update, [values for _, values in some])
 

@@ -1,11 +1,12 @@
 """One table of a file of tables: what a row's cells are there, and the statements that change it.
 """
 
+import contextlib
+import itertools
 import math
 import operator
 import sqlite3
 from collections.abc import Callable, Sequence
-from typing import Any
 
 from ..reader.commits import Cell
 from ..relation import Relation
@@ -13,7 +14,8 @@ from ..texts import identifier
 from .names import folded
 from .set_aside import Unkept
 from .target import Target, key_index, unlike_reason
-from .values import BOTH, Unlike, Value, text_reader
+from .typed import Typed
+from .values import BOTH, Unlike, Value
 
 # How many columns the index has by which a row without a key is found.
 INDEXED = 4
@@ -49,29 +51,23 @@ class Valued:
         self.relation, self.oid, self.name, self.primary = relation, relation.oid, name, primary
         self.target = Target(name, relation, form, primary)
         self.width = len(self.target.columns)
-        self.is_wider = self.width > len(self.target.several)
-        # the columns whose values aren't what their cells are, with what reads these
-        kinds = enumerate(self.target.kinds)
-        self.read: list[tuple[int, Callable[[Any], Value]]] = [
-            (at, text_reader(read)) for at, (kind, read, _) in kinds if kind != "TEXT"
-        ]
+        self.typed = Typed(self.target.several)
+
+    def values(self, rows: Sequence[Sequence[Cell]]) -> list[Value]:
+        """Rows' cells as SQLite takes them, one row's after the other's."""
+        cells = [*itertools.chain.from_iterable(rows)]
+        texts = [it for it in cells if not isinstance(it, bytes)]
+        if texts and len(texts) == len(cells):
+            # (which value isn't one of its type, the other way tells)
+            with contextlib.suppress(ValueError):
+                return self.typed.values(texts)
+        return [value for row in rows for value in self.row(row)]
 
     def row(self, cells: Sequence[Cell]) -> list[Value]:
-        """A row's cells as SQLite takes them."""
+        """The same of one row."""
         if not cells:
             return [None]
-        if self.is_wider:
-            cells = [cells[at] for at in self.target.places]
-        values: list[Value] = list(cells)
-        if bytes in map(type, cells):
-            return [self.value(at, cell) for at, cell in enumerate(cells)]
-        for at, read in self.read:
-            if (cell := cells[at]) is not None:
-                try:
-                    values[at] = read(cell)
-                except ValueError:
-                    raise self.unlike(at, cell) from None
-        return values
+        return [self.value(at, cells[place]) for at, place in enumerate(self.target.places)]
 
     def unlike(self, at: int, cell: Value) -> Unkept:
         shown = cell if isinstance(cell, bytes) else str(cell).encode()
@@ -132,7 +128,7 @@ class Kept(Valued):
         rest = [at for at in everything if at not in self.found] if target.is_keyed else everything
         changes = [
             f"{column} = {value}"
-            for column, value in zip(columns, self.values(everything, 0), strict=True)
+            for column, value in zip(columns, self.bound(everything, 0), strict=True)
         ]
         # (the values of the new row, and then those that find the old one)
         where = self.where(self.width)
@@ -146,7 +142,7 @@ class Kept(Valued):
         self.deletion = f"DELETE FROM {name} WHERE {self.where(0)}"
         self.truncation = f"DELETE FROM {name}"
 
-    def values(self, places: Sequence[int], first: int) -> list[str]:
+    def bound(self, places: Sequence[int], first: int) -> list[str]:
         """The values of these columns as they are bound."""
         kinds = [self.target.kinds[at][0] for at in places]
         return [
@@ -156,9 +152,8 @@ class Kept(Valued):
 
     def where(self, first: int) -> str:
         """What finds a row, by values that are bound from a number on."""
-        columns, values = [self.target.columns[at] for at in self.found], self.values(
-            self.found, first
-        )
+        columns = [self.target.columns[at] for at in self.found]
+        values = self.bound(self.found, first)
         where = listed(columns, values)
         if self.target.is_keyed:
             return where
@@ -179,19 +174,32 @@ class Kept(Valued):
         )
         raise Unkept(self.relation, why)
 
-    def searched(self, cells: Sequence[Cell]) -> list[Value]:
-        """The values that find a row: of a keyed one only its key is looked at."""
+    def searched(self, rows: Sequence[Sequence[Cell]]) -> list[list[Value]]:
+        """The values that find rows: of keyed ones only the key is looked at."""
         if not self.target.is_keyed:
-            return self.row(cells)
-        return [self.value(at, cells[key]) for at, key in zip(self.found, self.keys, strict=True)]
+            return self.each(self.values(rows))
+        pairs = [*zip(self.found, self.keys, strict=True)]
+        return [[self.value(at, cells[key]) for at, key in pairs] for cells in rows]
 
-    def changed(self, before: Sequence[Cell], after: Sequence[Cell]) -> tuple[bool, list[Value]]:
-        """Whether a row's key stays, and the values of the new row, then those that find the
-        old one."""
-        values = self.row(after)
-        if not (self.target.is_keyed and self.key(before) == self.key(after)):
-            return False, values + self.searched(before)
-        return True, values + [values[at] for at in self.found]
+    def changed(
+        self, before: Sequence[Sequence[Cell]], after: Sequence[Sequence[Cell]]
+    ) -> list[tuple[bool, list[Value]]]:
+        """Of each row whether its key stays, and the values of the new row, then those that find
+        the old one."""
+        new, key = self.each(self.values(after)), self.key
+        if not self.target.is_keyed:
+            pairs = zip(new, self.searched(before), strict=True)
+            return [(False, values + found) for values, found in pairs]
+        return [
+            (True, values + [values[at] for at in self.found])
+            if key(was) == key(now)
+            else (False, values + self.searched([was])[0])
+            for values, was, now in zip(new, before, after, strict=True)
+        ]
+
+    def each(self, values: list[Value]) -> list[list[Value]]:
+        """The values of rows, by themselves."""
+        return [values[at : at + self.width] for at in range(0, len(values), self.width)]
 
     def have_null_keys(self, rows: Sequence[Sequence[Cell]]) -> bool:
         """Whether a row has null in the key."""

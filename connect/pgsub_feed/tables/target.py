@@ -4,13 +4,14 @@ import dataclasses
 import functools
 import itertools
 import sqlite3
-from collections.abc import Callable, Collection, Iterable, Sequence
+from collections.abc import Callable, Collection, Sequence
 
 from ..relation import Column, Relation, Shape
 from ..texts import identifier
 from .names import name_columns
 from .set_aside import Unkept
-from .values import AS_REAL, BOTH, Kind, Row, Unlike, is_rounded, kinds_of, rows_reader
+from .stored_rows import rows_reader
+from .values import AS_REAL, BOTH, Kind, Unlike, Value, is_rounded, kinds_of
 
 # The column of a table that has none, since SQLite has no such tables.
 NONE = Column("pgsub_none", 25, -1, False)
@@ -63,8 +64,8 @@ class Target:
         # whether the key is one of SQLite's
         self.is_keyed = bool(self.key)
         self.is_bare = not self.told.shape.columns
-        # rows of a store, and how many there are of each
-        self.waiting: list[tuple[bytes, int]] = []
+        # rows of a store that wait, and how many there are of each
+        self.waiting, self.copies = list[bytes](), list[int]()
         self.rows = 0
         # the statements that insert rows, by how many
         self.insertions = dict[int, str]()
@@ -77,11 +78,11 @@ class Target:
         """The key is none of SQLite's, since rows have null in it, or equal ones."""
         self.is_keyed = False
 
-    def take(self) -> list[tuple[bytes, int]]:
-        """The rows that wait, which are about to be written, and so counted."""
-        waiting, self.waiting = self.waiting, []
-        self.rows += sum(copies for _, copies in waiting)
-        return waiting
+    def take(self) -> tuple[list[bytes], list[int]]:
+        """Takes the rows that wait, which are about to be written, and so counted."""
+        taken, self.waiting, self.copies = (self.waiting, self.copies), [], []
+        self.rows += sum(taken[1])
+        return taken
 
     def named(self, at: int) -> list[str]:
         """The columns of SQLite that are of a column of the relation."""
@@ -122,30 +123,31 @@ class Target:
             self.insertions[count] = f"INSERT INTO {identifier(self.name)} VALUES {rows}"
         return self.insertions[count]
 
-    def insert(self, db: sqlite3.Connection, rows: Iterable[Row]) -> int:
-        """Inserts rows, several by a statement, of which all are there or none. Returns how many
-        there are now."""
-        most = max(MOST_VALUES // len(self.columns), 1)
-        left, done = iter(rows), 0
-        while some := [*itertools.islice(left, most)]:
-            if len(some) < most:
-                cursor = db.executemany(self.insertion(), some)
-            else:
-                cursor = db.execute(self.insertion(most), [*itertools.chain.from_iterable(some)])
-            done += cursor.rowcount
+    def insert(self, db: sqlite3.Connection, values: Sequence[Value]) -> int:
+        """Inserts rows, whose values come one row's after the other's: several by a statement, of
+        which all are there or none. Returns how many there are now."""
+        width, done = len(self.columns), 0
+        most = max(MOST_VALUES // width, 1)
+        whole = len(values) - len(values) % (most * width)
+        for at in range(0, whole, most * width):
+            some = values[at : at + most * width]
+            done += db.execute(self.insertion(most), some).rowcount
+        if rest := [values[at : at + width] for at in range(whole, len(values), width)]:
+            done += db.executemany(self.insertion(), rest).rowcount
         return done
 
     @functools.cached_property
-    def read_rows(self) -> Callable[[Sequence[bytes]], list[Row]]:
+    def read_rows(self) -> Callable[[Sequence[bytes]], list[Value]]:
         return rows_reader(self.several)
 
-    def row_values(self, bodies: Sequence[bytes]) -> list[Row]:
-        """The values of rows as SQLite takes them."""
-        return [(None,)] * len(bodies) if self.is_bare else self.read_rows(bodies)
+    def row_values(self, bodies: Sequence[bytes]) -> list[Value]:
+        """The values of rows of a store as SQLite takes them, one row's after the other's."""
+        return [None] * len(bodies) if self.is_bare else self.read_rows(bodies)
 
-    def have_null_keys(self, rows: Sequence[Row]) -> bool:
-        """Whether a row has null in the key."""
-        return self.is_keyed and any(None in [row[at] for row in rows] for at in self.key)
+    def have_null_keys(self, values: Sequence[Value]) -> bool:
+        """Whether one of these rows has null in the key."""
+        width = len(self.columns)
+        return self.is_keyed and any(None in values[at::width] for at in self.key)
 
 
 def unlike_reason(relation: Relation, unlike: Unlike) -> str:

@@ -9,7 +9,7 @@ import binascii
 import math
 import re
 import struct
-from collections.abc import Callable, Iterable, Iterator, Sequence
+from collections.abc import Callable, Sequence
 
 from .. import log
 from ..relation import Column
@@ -35,7 +35,6 @@ BOOL, BYTEA, INT8, INT2, INT4, FLOAT4, FLOAT8, NUMERIC = (
 # Types whose binary form is their text: "char", name, text, json, xml, unknown, bpchar, varchar.
 TEXTS = (18, 19, 25, 114, 142, 705, 1042, 1043)
 NULL, TEXT, BINARY = b"ntb"
-LENGTH = struct.Struct(">I").unpack_from
 FLOAT = re.compile(rb"-?\d+(?:\.\d+)?(?:e[+-]?\d+)?")
 NO_NUMBERS = {b"Infinity": math.inf, b"-Infinity": -math.inf}
 NAN, NAN_TEXT = b"NaN", "NaN"
@@ -47,9 +46,6 @@ DIGITS, FARTHEST = 15, 290
 # The integers of eight bytes.
 LEAST, GREATEST = -(1 << 63), (1 << 63) - 1
 ESCAPE = re.compile(rb"\\(?:\\|([0-3][0-7]{2}))")
-# A cell of a row: a text of less than 256 bytes without zeros, and one that is an integer of eight
-# bytes. The length is captured, and compared.
-SHORT, SHORT_INT = rb"t\0\0\0(.)([^\0]*)", rb"t\0\0\0(.)(-?[0-9]{1,18})"
 
 
 def read_int(text: bytes) -> int:
@@ -60,13 +56,6 @@ def read_int(text: bytes) -> int:
     if not LEAST <= number <= GREATEST:
         raise ValueError
     return number
-
-
-def read_int_text(text: str) -> int:
-    number = int(text)
-    if str(number) == text and LEAST <= number <= GREATEST:
-        return number
-    return read_int(text.encode())
 
 
 def read_bool(text: bytes) -> int:
@@ -154,9 +143,6 @@ def unpacked(form: str) -> Read:
     return number
 
 
-# What reads a text that is known to be short, or a number, in place of what reads any.
-QUICK: dict[Read, Read] = {read_text: bytes.decode, read_int: int}
-
 # By type. Any other type but numeric is TEXT.
 KINDS: dict[int, Kind] = {
     BOOL: ("INTEGER", read_bool, unpacked(">?")),
@@ -183,13 +169,6 @@ def kinds_of(column: Column, form: str, of: str) -> list[Kind]:
     return [text if form == ALL_TEXT else KINDS.get(column.type_oid, text)]
 
 
-def text_reader(read: Read) -> Callable[[str], Value]:
-    """What reads a text of a feed, by what reads one of the store."""
-    if read is read_int:
-        return read_int_text
-    return lambda text: read(text.encode())
-
-
 class Malformed(Exception):
     """A row of the store that isn't one of its table."""
 
@@ -200,77 +179,6 @@ class Unlike(Exception):
     def __init__(self, index: int, value: bytes) -> None:
         super().__init__(index, value)
         self.index, self.value = index, value
-
-
-def row_reader(columns: Sequence[Sequence[Kind]]) -> Callable[[bytes], list[Value]]:
-    """What reads a row into values, of each of its columns one for each of those that it becomes. A
-    row has an Int16 count, and of each cell a letter, and of one that isn't null an Int32 length
-    and the bytes."""
-    count = len(columns).to_bytes(2, "big")
-    # (most become one)
-    readers = [(kinds, kinds[0][1] if len(kinds) == 1 else None) for kinds in columns]
-
-    def read_row(body: bytes) -> list[Value]:
-        at, first, index, values = 2, 2, 0, list[Value]()
-        try:
-            for index, (kinds, read_one) in enumerate(readers):
-                if (letter := body[at]) == NULL:
-                    values += [None] * len(kinds)
-                    at += 1
-                    continue
-                first = at + 5
-                at = first + LENGTH(body, at + 1)[0]
-                cell = body[first:at]
-                if letter == TEXT and read_one:
-                    values.append(read_one(cell))
-                elif letter == TEXT:
-                    values += [read(cell) for _, read, _ in kinds]
-                elif letter == BINARY:
-                    values += [read(cell) for _, _, read in kinds]
-                else:
-                    raise Malformed
-        except (IndexError, struct.error):
-            raise Malformed from None
-        except ValueError:
-            # (what was cut may be no value either)
-            if at > len(body):
-                raise Malformed from None
-            raise Unlike(index, body[first:at]) from None
-        if at != len(body) or body[:2] != count:
-            raise Malformed
-        return values
-
-    return read_row
-
-
-def rows_reader(columns: Sequence[Sequence[Kind]]) -> Callable[[Sequence[bytes]], list[Row]]:
-    """What reads several rows: at once those that have but short texts, and column by column."""
-    read_row, count = row_reader(columns), len(columns).to_bytes(2, "big")
-    cells = (
-        SHORT_INT if any(read is read_int for _, read, _ in kinds) else SHORT for kinds in columns
-    )
-    match = re.compile(re.escape(count) + b"".join(cells), re.DOTALL).fullmatch
-    readers = [[QUICK.get(read, read) for _, read, _ in kinds] for kinds in columns]
-
-    def read_short(found: Iterable[re.Match[bytes]]) -> Iterator[Row]:
-        parts, values = zip(*(it.groups() for it in found)), list[Iterable[Value]]()
-        for several, lengths, texts in zip(readers, parts, parts):
-            if b"".join(lengths) != bytes(map(len, texts)):
-                raise ValueError
-            values += (map(read, texts) for read in several)
-        return zip(*values)
-
-    def read_rows(bodies: Sequence[bytes]) -> list[Row]:
-        found = [*map(match, bodies)]
-        try:
-            short = read_short(it for it in found if it)
-            pairs = zip(found, bodies, strict=True)
-            return [next(short) if it else read_row(body) for it, body in pairs]
-        except ValueError:
-            # (which value isn't one, the other way tells)
-            return [*map(read_row, bodies)]
-
-    return read_rows
 
 
 def read_columns(body: bytes) -> tuple[Column, ...]:
