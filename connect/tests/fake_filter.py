@@ -17,6 +17,8 @@ these words:
   `rejects LSN N TEXT`  ends at the commit with this end, in decimal, with this status and this line
   on standard error, and takes the
                      file away; it confirms none of those before, as if all came at once
+  `tells LSN LINE`   says this line on standard error before it stores the commit with this end, in decimal
+  `stops LSN LINE`   says it in the commit's place, and ends with the status of a rule that is broken
 
 The tests start it often, so it imports little.
 """
@@ -37,7 +39,7 @@ if TYPE_CHECKING:
 # The signal that can't be handled.
 KILL = 9
 BEGIN, COMMIT, STREAM_COMMIT, DELETE = ord("B"), ord("C"), ord("c"), ord("D")
-MISSED = 16
+MISSED, BREACH = 16, 17
 
 
 def frames() -> Iterator[tuple[bytes, bytes]]:
@@ -102,6 +104,11 @@ class Fake:
             status, line = self.says[2].split(" ", 1)
             print(line, file=sys.stderr, flush=True)
             sys.exit(int(status))
+        if self.says[:1] in (["tells"], ["stops"]) and self.says[1] == str(end):
+            print(self.says[2], file=sys.stderr, flush=True)
+            if self.says[0] == "stops":
+                print("pgsub: read", file=sys.stderr, flush=True)
+                sys.exit(BREACH)
         if self.feed and end > self.position:
             from feed_text import commit_line
 

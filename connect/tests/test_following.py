@@ -110,7 +110,8 @@ class Case(Quiet):
         )
         self.addCleanup(child.kill)
         self.progress, remembered = Progress(), Remembered(self.store)
-        remembered.begin_copy(a_catalog(a_table(1, "t")), 100)
+        if remembered.catalog is None:
+            remembered.begin_copy(a_catalog(a_table(1, "t")), 100)
         known = self.checkpoint, self.progress, remembered
         told = followed(known, self.store, self.server.dsn(), **options)
         return Follower(*told, child, None, snapshots_of(self, self.store))

@@ -22,6 +22,8 @@ from .patience import Patience
 # The statuses after which a supervisor starts the connector again: something is in the way only for
 # now.
 AGAIN = (7,)
+# What a connector tells of a server that breaks a rule, or of one that isn't watched.
+OF_RULES = ("found: rule at", "found: unwatched at")
 
 
 # The states of a process that has ended, and of a thread that stands still or has ended, too.
@@ -88,6 +90,17 @@ def kill_all(pids: Sequence[int]) -> bool:
             os.kill(pid, signal.SIGKILL)
             killed = True
     return killed
+
+
+def check_rules(log: Path) -> None:
+    """Fails where connectors have told that the server broke a rule of docs/PROTOCOL.md, or wasn't
+    watched all the time."""
+    if not log.exists():
+        return
+    lines = log.read_text(encoding="utf-8", errors="replace").splitlines()
+    told = [line for line in lines if any(it in line for it in OF_RULES)]
+    if told:
+        raise Failed("\n".join(("the server didn't keep the rules, or wasn't watched:", *told)))
 
 
 class Supervisor(threading.Thread):
@@ -178,6 +191,7 @@ class Supervisor(threading.Thread):
             raise Failed(
                 f"the connector ended with status {status} after SIGTERM: {self.last_said()}"
             )
+        check_rules(self.log)
 
     def kill(self) -> None:
         """Ends what still runs."""

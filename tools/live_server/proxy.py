@@ -1,5 +1,5 @@
-"""A proxy on a unix socket before a server: holds commands back until something else was done, and
-can fall silent."""
+"""A proxy on a unix socket before a server: holds commands back until something else was done, can
+fall silent, and can make something else of a stream."""
 
 from __future__ import annotations
 
@@ -8,10 +8,13 @@ import dataclasses
 import shutil
 import socket
 import threading
-from collections.abc import Callable
+from collections.abc import Callable, Sequence
 from pathlib import Path
 
 CANCEL = 80877102
+
+# What is made of a payload of a stream: others, in its place.
+Edit = Callable[[bytes], Sequence[bytes]]
 
 
 @dataclasses.dataclass
@@ -35,6 +38,8 @@ class Proxy:
         self.ended = threading.Event()
         # after how many bytes of the server a connection stops, and how many have
         self.limit: int | None = None
+        # makes what edits the stream of a connection that is made from then on
+        self.editing: Callable[[], Edit] | None = None
         self.stopped = 0
         self.open: list[socket.socket] = []
         self.listener = socket.socket(socket.AF_UNIX)
@@ -82,6 +87,9 @@ class Proxy:
 
     def down(self, client: socket.socket, server: socket.socket) -> None:
         """Passes on what the server says."""
+        if self.editing:
+            self.down_edited(client, server, self.editing())
+            return
         passed = 0
         with contextlib.suppress(OSError):
             while piece := server.recv(1 << 16):
@@ -91,6 +99,22 @@ class Proxy:
                 if self.limit is not None and passed >= self.limit:
                     self.stopped += 1
                     self.ended.wait()
+        for it in (client, server):
+            with contextlib.suppress(OSError):
+                it.shutdown(socket.SHUT_RDWR)
+
+    def down_edited(self, client: socket.socket, server: socket.socket, edit: Edit) -> None:
+        """Passes on what the server says, message by message."""
+        streams = False
+        with contextlib.suppress(OSError), server.makefile("rb") as source:
+            while typed := source.read(1):
+                message = whole_message(source.read, typed)
+                streams = streams or typed == b"W"
+                if not (streams and typed == b"d"):
+                    client.sendall(message)
+                    continue
+                for payload in edit(message[5:]):
+                    client.sendall(typed + (len(payload) + 4).to_bytes(4, "big") + payload)
         for it in (client, server):
             with contextlib.suppress(OSError):
                 it.shutdown(socket.SHUT_RDWR)

@@ -17,7 +17,9 @@ CHANGES = (
     ("> 300", "> 301"),
     ("unreserved|lost", "unreserved"),
     ("3600) < 0", "7200) < 0"),
-    ("pgsub_found == 1", "pgsub_found == 0"),
+    ('pgsub_found{kind!="unwatched"} == 1', 'pgsub_found{kind!="unwatched"} == 0'),
+    ('pgsub_found{kind!="unwatched"}', "pgsub_found"),
+    ('pgsub_found{kind="unwatched"}', 'pgsub_found{kind="rule"}'),
     ("[15m]) > 2", "[15m]) > 0"),
     ("> 100e6", "> 99e6"),
     ("for: 15m", "for: 10m"),
@@ -34,7 +36,7 @@ class Case(unittest.TestCase):
     def test_rules(self) -> None:
         checked = promtool("check", "rules", RULES)
         self.assertEqual(checked.returncode, 0, checked.stderr)
-        self.assertIn("6 rules found", checked.stdout)
+        self.assertIn("7 rules found", checked.stdout)
         tried = promtool("test", "rules", TRIED)
         self.assertEqual(tried.returncode, 0, tried.stdout + tried.stderr)
 

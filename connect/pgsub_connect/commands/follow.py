@@ -234,6 +234,8 @@ def made(options: Options, checkpoint: Checkpoint) -> Parts:
     feeding = Feeding(options.feed_settings(store, mode), common)
     feeding.check()
     part, child = (make_filter(options, checkpoint, it) for it in (part_of(store), store))
+    # (the rows of a copy are no server's session)
+    child.add_words(["--watch", "stop" if tolerance.stops else "tell"])
     told = subscription, checkpoint, part, progress, remembered
     copier = Copier(options.copy_settings(), *told, feeding.rows_beside())
     recording, requests = recording_of(options), RequestSocket(store, mode)

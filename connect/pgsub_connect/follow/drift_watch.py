@@ -2,6 +2,7 @@
 accepts it, and tells it."""
 
 import time
+from collections.abc import Sequence
 from contextlib import closing
 
 from pgsub_feed import log
@@ -9,7 +10,7 @@ from pgsub_feed.errors import Passing, Unfit
 from pgsub_feed.interruption import Check
 
 from ..drift.doubts import resolved, warnings
-from ..drift.findings import NAMES
+from ..drift.findings import NAMES, RULE
 from ..errors import ServerError
 from ..server.catalog import Catalog
 from ..server.catalog_reader import read_catalog
@@ -18,6 +19,7 @@ from ..server.session import settle
 from ..store.checkpoint import MISSING
 from ..stream.common import Common
 from ..stream.missed_rows import texts_of
+from ..stream.watch_lines import Told
 from .altered import Altered
 
 # After how many seconds the file is written where nothing in it is urgent, the publications are
@@ -90,8 +92,9 @@ class Watch:
         began = time.monotonic()
         kinds = self.checkpoint.findings()
         self.progress.findings.note({kind: "; ".join(self.texts_of(kind)) for kind in kinds})
-        lasting = {kind: it for kind in kinds if (it := "; ".join(self.lasting_of(kind)))}
-        if lasting and self.tolerance.is_strict:
+        ends = filter(self.tolerance.ends_at, kinds)
+        lasting = {kind: it for kind in ends if (it := "; ".join(self.lasting_of(kind)))}
+        if lasting:
             texts = "\n".join(f"{kind}: {text}" for kind, text in lasting.items())
             told = "the copy may be wrong (copy anew, or take it as it is by --accept KIND)"
             raise Unfit(f"{told}\n{texts}")
@@ -172,6 +175,12 @@ class Watch:
         """Puts what was found on the disk, before anything more is confirmed, and tells it."""
         if not self.remembered.unsaved.is_urgent:
             return
+        if self.put() and self.tolerance.is_strict:
+            self.show()
+        self.show_later()
+
+    def put(self) -> bool:
+        """Puts what was found on the disk, and tells it. Returns whether there was any."""
         self.remembered.put()
         self.note_kinds()
         news = self.remembered.found.take_news()
@@ -180,9 +189,16 @@ class Watch:
         if news:
             self.altered.look_later(0.0)
         self.is_shown = self.is_shown and not news
-        if news and self.tolerance.is_strict:
-            self.show()
-        self.show_later()
+        return bool(news)
+
+    def hear(self, told: Sequence[Told], position: int) -> None:
+        """Keeps what the filter says of the server, before what came behind that is confirmed. It
+        ends the following later, where that is to be strict."""
+        stays = "; nothing of that is stored" if self.tolerance.stops else ""
+        for kind, text in told:
+            self.remembered.find(kind, position, text + (stays if kind == RULE else ""))
+        if self.remembered.unsaved.is_urgent:
+            self.put()
 
     def show_later(self) -> None:
         """Tells the progress what was found since it was told that last, in its time."""

@@ -12,7 +12,7 @@ from pgsub_feed.texts import counted
 
 from ..errors import FilterFault
 from ..stream.awake import Awake, Numbers, Served
-from ..stream.filter_end import MISSED, FilterEnded
+from ..stream.filter_end import BREACH, MISSED, FilterEnded
 from ..stream.memory_limit import BufferLimits, Kills, limit_text
 from ..stream.statuses import Confirming
 from .drift_watch import Watch
@@ -90,14 +90,16 @@ class FilterLife:
     def serve(
         self, timeout: float, reads: Numbers = (), writes: Numbers = (), awake: Awake | None = None
     ) -> Served:
-        """Serves the filter. What it says of changes that found no row is on the disk before
-        anybody sees the statuses that follow."""
+        """Serves the filter. What it says of the server, and of changes that found no row, is on the
+        disk before anybody sees the statuses that follow."""
         statuses: list[bytes] = []
         try:
             readable, writable, statuses = self.filter.serve(timeout, reads, writes, awake)
             return readable, writable, statuses
         finally:
             self.confirming.note_missing(statuses)
+            if self.filter.said.news:
+                self.watch.hear(self.filter.said.take_news(), self.confirming.position)
 
     def serve_alone(self, seconds: float, reads: Numbers) -> None:
         """Serves the filter while no session is open, until one of these can be read at most."""
@@ -149,6 +151,9 @@ class FilterLife:
                 log.error(text)
             if ended.is_rejection():
                 self.tell_rejected(ended)
+                if ended.status == BREACH:
+                    # (that was found, and is told as such)
+                    self.watch.show()
                 raise ended
             self.kills.note(ended, *largest)
             log.warning(f"{ended}: it is started again")

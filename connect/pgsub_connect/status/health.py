@@ -33,6 +33,9 @@ CURES = {
     "missing": "`pgsub-connect verify --repair --store {store}`, then start it with --accept missing",
 }
 ADDED = "its rows are being copied: wait for that"
+# What doesn't make the copy wrong by itself.
+UNWATCHED = "unwatched"
+UNWATCHED_CURE = "`pgsub-connect verify --store {store}` compares the copy; then start it with --accept unwatched"
 COMPARED = (
     "`pgsub-connect verify --repair --store {store}`, once it was started with --accept {kind}"
 )
@@ -98,7 +101,10 @@ def of_parts(status: dict[str, Any]) -> Iterator[Fault]:
 
 
 def of_findings(status: dict[str, Any]) -> Iterator[Fault]:
-    found, store = status.get("found") or {}, status.get("store") or "STORE"
+    found, store = dict(status.get("found") or {}), status.get("store") or "STORE"
+    if text := found.pop(UNWATCHED, None):
+        cure = UNWATCHED_CURE.format(store=store)
+        yield Fault("the server wasn't watched all the time", f"{text}: {cure}")
     if found:
         cures = dict(CURES, publication=ADDED) if status.get("adding") else CURES
         texts = []

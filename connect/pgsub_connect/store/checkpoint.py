@@ -62,7 +62,17 @@ BEFORE, BETWEEN = '"confirmed":', ',"position":'
 # The kind of what is found by changes that found no row.
 MISSING = "missing"
 # All kinds of what may be found.
-KINDS = ("slot", "gap", "history", "names", "publication", "values", MISSING)
+KINDS = (
+    "slot",
+    "gap",
+    "history",
+    "names",
+    "publication",
+    "values",
+    "rule",
+    "unwatched",
+    MISSING,
+)
 
 
 class Checkpoint:

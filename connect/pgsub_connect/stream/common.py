@@ -4,6 +4,7 @@ are."""
 from collections.abc import Iterable
 from typing import NamedTuple
 
+from ..drift.findings import RULE, UNWATCHED
 from ..drift.remembered import Remembered
 from ..server.session import Subscription
 from ..status.progress import Progress
@@ -15,11 +16,17 @@ class Tolerance:
 
     def __init__(self, kinds: Iterable[str] = (), is_strict: bool = False) -> None:
         self.kinds, self.is_strict = frozenset(kinds), is_strict
+        # whether nothing is stored that breaks a rule: what was accepted may still have to come
+        self.stops = is_strict and not self.accepts(RULE)
 
     def accepts(self, kind: str) -> bool:
         """Whether what may be wrong in this way is taken as it is."""
         kinds = {"gap", "slot"} if kind in ("gap", "slot") else {kind}
         return bool(kinds & self.kinds) or "all" in self.kinds
+
+    def ends_at(self, kind: str) -> bool:
+        """Whether the run ends where something of this kind was found."""
+        return self.is_strict and kind != UNWATCHED and (kind != RULE or self.stops)
 
     def use_gap(self) -> None:
         """A gap was taken as it is: another one isn't."""

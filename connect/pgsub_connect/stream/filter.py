@@ -207,7 +207,7 @@ class Filter:
         status = self.child.wait()
         while self.said.has_said():
             self.said.read()
-        ended = FilterEnded(status, self.said.said)
+        ended = FilterEnded(status, self.said.reason(status))
         self.close(ended.has_told_all())
         return ended
 

@@ -15,6 +15,8 @@ PASSING = (UNOPENED, REFUSED, MEMORY, BROKEN)
 BUSY = "another program may have the store open, as `pgsub dump`: let that end. Beside a follower `pgsub-connect export` or `follow --tables` has the rows"
 # The status of one whose input ended, after changes that found no row.
 MISSED = 16
+# The status of one that was to store nothing by which the server breaks a rule.
+BREACH = 17
 # What it says of these on standard error, before the status that confirms their commits: how many
 # there were since it began, and of the first one the OID of its table and the end of its commit.
 MISSING = re.compile(
@@ -41,6 +43,8 @@ class FilterEnded(Failure):
     def exit_status(self) -> int:
         if not self.is_rejection():
             return errors.PASSING
+        if self.status == BREACH:
+            return errors.UNFIT
         return self.status if self.status in (errors.USAGE, errors.FILE) else errors.REJECTED
 
     def told(self) -> str:

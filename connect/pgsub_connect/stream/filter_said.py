@@ -6,18 +6,23 @@ from typing import IO
 
 from pgsub_feed import log
 
-from .filter_end import Missing, missing_of
+from .filter_end import BREACH, Missing, missing_of
 from .filter_input import PIECE
+from .watch_lines import Told, told_of
 
 
 class FilterSaid:
-    """Notes how many changes found no row, passes on the rest, and keeps the last line."""
+    """Notes how many changes found no row and what is told of the server, passes on the rest, and
+    keeps the last line."""
 
     def __init__(self, file: IO[bytes] | None = None) -> None:
         self.speaks, self.number = file is not None, file.fileno() if file else -1
         self.line, self.said = b"", ""
         # what it has said of changes that found no row since it began
         self.missing = Missing()
+        # what it has said of the server since the caller looked last, and the last of that
+        self.news: list[Told] = []
+        self.told = ""
         self.hearing = select.poll()
         if file:
             os.set_blocking(self.number, False)
@@ -45,6 +50,18 @@ class FilterSaid:
     def hear(self, line: str) -> None:
         if missing := missing_of(line):
             self.missing = missing
+        elif told := told_of(line):
+            self.news.append(told)
+            self.told = told.text
         else:
             self.said = line
             log.info(f"filter: {line}")
+
+    def take_news(self) -> list[Told]:
+        """What it has said of the server since the last call."""
+        news, self.news = self.news, []
+        return news
+
+    def reason(self, status: int) -> str:
+        """What it has said of why it ended with a status."""
+        return self.told if status == BREACH and self.told else self.said

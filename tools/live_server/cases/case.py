@@ -20,6 +20,8 @@ class Case:
     until: int = NEWEST
     # whether it needs the rights of root
     root: bool = False
+    # whether what the connector gets isn't what the server sends
+    breaks_rules: bool = False
 
     def about(self) -> str:
         return " ".join((self.run.__doc__ or "").split())

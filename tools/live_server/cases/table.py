@@ -8,6 +8,7 @@ from collections.abc import Iterable, Sequence
 
 from ..checks import Checks
 from ..errors import Unusable
+from ..follower import check_rules
 from ..options import Options
 from ..place import Place, Shared
 from . import (
@@ -15,6 +16,7 @@ from . import (
     altering,
     answering,
     basing,
+    breaking,
     confining,
     copying,
     feeding,
@@ -97,7 +99,7 @@ THEMES: dict[str, Sequence[Case]] = {
     "silence": silence.CASES,
     "standbys": standbys.CASES,
     "reaching": (*reaching.CASES, *trusting.CASES),
-    "versions": (*versions.CASES, *rules.CASES),
+    "versions": (*versions.CASES, *rules.CASES, *breaking.CASES),
     "sideroads": sideroads.CASES,
     "privacy": privacy.CASES,
     "operating": (*operating.CASES, *confining.CASES),
@@ -126,6 +128,8 @@ def tell() -> None:
 def run_case(case: Case, options: Options, shared: Shared) -> None:
     with contextlib.closing(Place(options, shared.fresh())) as place:
         case.run(place)
+        if not case.breaks_rules:
+            check_rules(place.log)
 
 
 def run(cases: Iterable[Case], options: Options, checks: Checks) -> None:

@@ -70,7 +70,19 @@ def settled_sizes(options: Settled) -> Settled:
     return dataclasses.replace(options, pgsub=options.pgsub or program(), **sizes)
 
 
-ACCEPTED = ("history", "slot", "names", "publication", "values", "missing", "gap", "all", PLAINTEXT)
+ACCEPTED = (
+    "history",
+    "slot",
+    "names",
+    "publication",
+    "values",
+    "missing",
+    "rule",
+    "unwatched",
+    "gap",
+    "all",
+    PLAINTEXT,
+)
 
 
 @dataclasses.dataclass(frozen=True)
@@ -94,8 +106,8 @@ class SessionOptions:
         False,
     )
     accept: Sequence[str] = option(
-        "--accept",
-        "take what was found of this kind as it is, may be repeated; plaintext, which isn't in all: go on without TLS",
+        "--accept KIND",
+        f"take what was found of this kind as it is, may be repeated: {', '.join(ACCEPTED)}; the last, which isn't in all: go on without TLS",
         (),
         choices=ACCEPTED,
     )
