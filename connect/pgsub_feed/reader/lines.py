@@ -27,10 +27,11 @@ PLAIN = re.compile(
 # What may be the escape of half of a pair.
 SURROGATE = re.compile(r"\\u[dD]")
 SENT = {str, type(None)}
+are_sent = SENT.issuperset
 # (a call of `Change` takes twice as long)
 as_change = cast(Callable[[tuple[object, ...]], Change], functools.partial(tuple.__new__, Change))
-# Of which rows each change has: the one before it, and the one after it.
-ROWS = {"c": (False, True), "u": (True, True), "d": (True, False), "t": (False, False)}
+# Which rows each change lacks: the one before it, and the one after it.
+NO_ROWS = {"c": (True, False), "u": (False, False), "d": (False, True), "t": (True, True)}
 
 
 def parsed(content: bytes) -> Any:
@@ -40,7 +41,7 @@ def parsed(content: bytes) -> Any:
         found = json.loads(text)
     except RecursionError:
         raise ValueError from None
-    if SURROGATE.search(text):
+    if "\\u" in text and SURROGATE.search(text):
         # (half of a pair has no encoding)
         json.dumps(found, ensure_ascii=False).encode()
     return found
@@ -197,25 +198,24 @@ class Decoder:
                 f"the commit has {self.n} changes, and its line says {self.commit.changes}",
             )
 
-    def read(self, lines: Sequence[bytes]) -> Iterator[Part]:
+    def read(self, lines: Sequence[bytes]) -> list[Part]:
         """What the next lines say, which have lost their ends."""
         # (definitions come again and again)
-        tables = [*map(self.known.get, lines)]
+        tables, parts = [*map(self.known.get, lines)], list[Part]()
         objects = self.objects(lines, tables)
         for line, table in zip(lines, tables, strict=True):
             if table:
-                relation = table.relation
-                self.described[relation.oid] = relation
-                part: Part = table
+                self.described[table.relation.oid] = table.relation
+                parts.append(table)
             else:
                 try:
-                    part = self.part(line, next(objects))
+                    parts.append(self.part(line, next(objects)))
                 except (ValueError, KeyError, TypeError):
                     raise self.fault(
                         LINE, self.offset, f"this is no line of a commit: {shown(line)}"
                     ) from None
             self.offset += len(line) + 1
-            yield part
+        return parts
 
     def objects(self, lines: Sequence[bytes], tables: Sequence[TableLine | None]) -> Iterator[Any]:
         """The objects of the lines that are no definitions known by now."""
@@ -262,13 +262,16 @@ class Decoder:
         if op == "x":
             return self.missed(relation, n, found)
         before, after = found["before"], found["after"]
-        if ROWS[op] != (before is not None, after is not None):
+        if NO_ROWS[op] != (before is None, after is None):
             raise ValueError
         width = len(relation.shape.columns)
-        if before is not None:
-            before = self.row(before, width)
-        if after is not None:
-            after = self.row(after, width)
+        for row in (before, after):
+            if row is not None and (type(row) is not list or len(row) != width):
+                self.refuse(row, width)
+        if before is not None and not are_sent(map(type, before)):
+            before = read_whole(before)
+        if after is not None and not are_sent(map(type, after)):
+            after = read_whole(after)
         return as_change((op, relation, n, before, after))
 
     def table(self, line: bytes, found: dict[str, Any]) -> TableLine:
@@ -281,14 +284,12 @@ class Decoder:
         self.described[table.relation.oid] = table.relation
         return table
 
-    def row(self, row: Any, width: int) -> Cells:
+    def refuse(self, row: Any, width: int) -> NoReturn:
+        """Raises for what is no row of so many cells."""
         if type(row) is not list:
             raise ValueError
-        if len(row) != width:
-            raise self.fault(
-                WIDTH, self.offset, f"a row of {len(row)} cells, where there are {width} columns"
-            )
-        return row if SENT.issuperset(map(type, row)) else read_whole(row)
+        told = f"a row of {len(row)} cells, where there are {width} columns"
+        raise self.fault(WIDTH, self.offset, told)
 
     def missed(self, relation: Relation, n: int, found: dict[str, Any]) -> Missed:
         sent, old, new = found["sent"], found["old"], found["new"]
@@ -303,11 +304,7 @@ class Decoder:
         rows = [None if it is None else [read_cell(cell) for cell in it] for it in (cells, new)]
         for row in rows:
             if row is not None and len(row) != width:
-                raise self.fault(
-                    WIDTH,
-                    self.offset,
-                    f"a row of {len(row)} cells, where there are {width} columns",
-                )
+                self.refuse(row, width)
         return Missed(relation, n, sent, kind, *rows)
 
 

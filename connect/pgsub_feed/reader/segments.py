@@ -14,7 +14,7 @@ import contextlib
 import os
 import re
 import time
-from collections.abc import Iterator
+from collections.abc import Iterable, Iterator
 
 from ..errors import (
     COMMIT_LINE,
@@ -133,9 +133,14 @@ class Segment:
                 COMMIT_LINE, self.path, offset, f"this is no line of a commit: {shown(line)}"
             ) from None
 
-    def lines(self, offset: int, size: int) -> Iterator[list[bytes]]:
+    def lines(self, offset: int, size: int) -> Iterable[list[bytes]]:
         """The lines of these bytes without their ends, some at a time."""
         end, text = offset + size, "the commit's last line has no end where its bytes end"
+        if 0 < size <= CHUNK and len(piece := self.read(offset, size)) == size:
+            # (as most commits)
+            *lines, rest = piece.split(b"\n")
+            if not rest:
+                return (lines,)
         return whole_lines(self.pieces(offset, end), lambda: Damaged(COUNTS, self.path, end, text))
 
     def pieces(self, offset: int, end: int) -> Iterator[bytes]:
@@ -342,7 +347,7 @@ class Reader:
         assert self.segment
         return self.segment.read(self.body - COMMIT_SIZE, COMMIT_SIZE)
 
-    def raw(self, commit: Commit) -> Iterator[list[bytes]]:
+    def raw(self, commit: Commit) -> Iterable[list[bytes]]:
         """The lines of the commit that was taken last, without their ends, some at a time."""
         assert self.segment
         return self.segment.lines(self.body, commit.bytes)

@@ -6,12 +6,13 @@ from where all rows come again.
 """
 
 import json
-from collections.abc import Iterator
+from collections.abc import Iterable, Iterator
 
 from ..tables.schema import table_line
 from ..texts import lsn_text
 from .base import FirstRows, Section, base_of_feed
-from .commits import Cell, Change, Commit, Part, TableLine
+from .commits import Cell, Commit, Part, TableLine
+from .lines import as_change
 from .segments import Reader, read_source, segments
 
 # The op of a row from before.
@@ -43,8 +44,8 @@ class Sections:
 
     def inserts(self) -> Iterator[Part]:
         """Its rows as if they were inserted."""
-        for it in self.parts():
-            yield it._replace(op="c") if isinstance(it, Change) else it
+        assert self.section
+        return parts_of(self.section, self.n, "c")
 
     def lines(self) -> Iterator[bytes]:
         """Its lines without their ends, as a file of first rows has them."""
@@ -54,11 +55,12 @@ class Sections:
             yield compact([cell_json(it) for it in row])
 
 
-def parts_of(section: Section, before: int) -> Iterator[Part]:
+def parts_of(section: Section, before: int, op: str = BASE) -> Iterator[Part]:
     """A section as a part of a commit, behind so many rows."""
-    yield TableLine(section.relation)
+    relation = section.relation
+    yield TableLine(relation)
     for n, cells in enumerate(section.rows, before):
-        yield Change(BASE, section.relation, n, None, cells)
+        yield as_change((op, relation, n, None, cells))
 
 
 def compact(value: object) -> bytes:
@@ -124,7 +126,7 @@ class Whole(Reader):
         }
         return compact(told) + b"\n"
 
-    def raw(self, commit: Commit) -> Iterator[list[bytes]]:
+    def raw(self, commit: Commit) -> Iterable[list[bytes]]:
         if commit.base is None:
             return super().raw(commit)
         assert self.sections

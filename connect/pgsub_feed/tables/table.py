@@ -7,6 +7,7 @@ import math
 import operator
 import sqlite3
 from collections.abc import Callable, Sequence
+from typing import cast
 
 from ..reader.commits import Cell
 from ..relation import Relation
@@ -14,7 +15,7 @@ from ..texts import identifier
 from .names import folded
 from .set_aside import Unkept
 from .target import Target, key_index, unlike_reason
-from .typed import Typed
+from .typed import Text, Typed
 from .values import BOTH, Unlike, Value
 
 # How many columns the index has by which a row without a key is found.
@@ -56,11 +57,10 @@ class Valued:
     def values(self, rows: Sequence[Sequence[Cell]]) -> list[Value]:
         """Rows' cells as SQLite takes them, one row's after the other's."""
         cells = [*itertools.chain.from_iterable(rows)]
-        texts = [it for it in cells if not isinstance(it, bytes)]
-        if texts and len(texts) == len(cells):
+        if cells and bytes not in {*map(type, cells)}:
             # (which value isn't one of its type, the other way tells)
             with contextlib.suppress(ValueError):
-                return self.typed.values(texts)
+                return self.typed.values(cast(list[Text], cells))
         return [value for row in rows for value in self.row(row)]
 
     def row(self, cells: Sequence[Cell]) -> list[Value]:
