@@ -1,0 +1,3 @@
+mod Commits
+mod Histories
+mod Noting
