@@ -6,12 +6,15 @@ from __future__ import annotations
 from collections.abc import Callable, Sequence
 
 from ..errors import Failed
+from ..follower import wait_until
 from ..place import REJECTED, UNFIT, Place
 from ..proxy import Edit
 from .case import Case
 
 # The letters of changes, and where a payload of XLogData has its message's.
 CHANGES, AT = (b"I", b"U", b"D"), slice(25, 26)
+# How many items of streamed transactions a watch holds.
+HELD = 1_000_000
 Transaction = Sequence[bytes]
 
 
@@ -126,10 +129,32 @@ def strict_and_accepted(place: Place) -> None:
     place.equal()
 
 
+def unwatched_stream(place: Place) -> None:
+    """A session of which more is streamed than a watch holds isn't watched any further. That is told
+    and kept, and doesn't end a strict one."""
+    place.stock()
+    place.follow("--create")
+    place.set(logical_decoding_work_mem="64kB")
+    child = place.start("--strict")
+    place.catch_up(child)
+    place.run(f"INSERT INTO stock SELECT it, 0 FROM generate_series(1000, {1000 + HELD}) it")
+    end = place.value("SELECT pg_current_wal_insert_lsn()")
+    wait_until(lambda: place.has_confirmed(end), f"confirming {end}", 300, child.check)
+    place.finds("unwatched", "no more is held", child.stop())
+    place.equal()
+    said = place.subcommand("status", "--store", str(place.store), status=REJECTED)
+    if "wasn't watched all the time" not in said or "--accept unwatched" not in said:
+        raise Failed(f"status doesn't tell it: {said}")
+    place.follow("--strict", "--accept", "unwatched")
+    if place.found():
+        raise Failed(f"it still has {place.found()}")
+
+
 CASES = (
     Case("rule-broken-by-a-commit-twice", commit_twice, breaks_rules=True),
     Case("rule-broken-by-a-keepalive", keepalive_above, breaks_rules=True),
     Case("rule-broken-by-a-change-undescribed", change_undescribed, breaks_rules=True),
     Case("rule-broken-ends-a-strict-one", strict_end, breaks_rules=True),
     Case("rule-broken-and-accepted", strict_and_accepted, breaks_rules=True),
+    Case("stream-that-isnt-watched", unwatched_stream, since=14, breaks_rules=True),
 )
