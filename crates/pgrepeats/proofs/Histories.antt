@@ -1,6 +1,8 @@
 -- What is noted of a history's commits, and what is answered of the next one.
-use Rattle.std.proofs.Common.{◌≡◌, ◌≤◌, ◌<◌, ◌⊎◌, ◌∙◌, inl, inr, ⊎_elim, ℕ, List, [], ◌∷◌, Bool, true, false}
-use Rattle.std.proofs.Common.{true≢false, Option, None, Some, Ok, refl, sym, ap, subst, arith, if◌then◌else◌}
+use Rattle.std.proofs.Common.{◌≡◌, ◌≤◌, ◌<◌, ◌⊎◌, ◌∙◌, inl, inr, ⊎_elim, ℕ, List, [], ◌∷◌, Bool}
+use Rattle.std.proofs.Common.{true, false}
+use Rattle.std.proofs.Common.{true≢false, Option, None, Some, Ok, refl, sym, ap, subst, arith}
+use Rattle.std.proofs.Common.{if◌then◌else◌}
 use Rattle.std.specs.Option.{IsSome}
 use Rattle.std.proofs.lemmas.Bool.{cases_eq, cases_order}
 use Rattle.std.proofs.lemmas.Map.Keys.{le_from_not_gt}
@@ -13,10 +15,12 @@ use Rattle.pgrepeats.specs.declared.past.Answer.{Answer}
 use Rattle.pgrepeats.specs.declared.past.Answer.TheVariants as answer
 use Rattle.pgrepeats.specs.declared.past.Noted.{Noted}
 use Rattle.pgrepeats.specs.declared.past.Past.{Past}
-use Rattle.pgrepeats.specs.Past.{noted_at, commit_at, must_come, Answers, Begins, Contradicts, IsBefore}
+use Rattle.pgrepeats.specs.Past.{noted_at, commit_at, must_come, Answers, Begins, Contradicts}
+use Rattle.pgrepeats.specs.Past.{IsBefore}
 use Rattle.pgrepeats.specs.Past.{IsFirst, IsForgotten, IsLeftOut, IsNew, WasAnother}
 use Rattle.pgrepeats.specs.Laws.{IsHistory, IsOf, IsNext, HasComeTo, EndsOne, IsPastOf}
-use Rattle.pgrepeats.specs.Laws.{HistoriesAreNotContradicted, AnswersKeepThePast, SessionsKeepThePast}
+use Rattle.pgrepeats.specs.Laws.{HistoriesAreNotContradicted, AnswersKeepThePast}
+use Rattle.pgrepeats.specs.Laws.{SessionsKeepThePast}
 
 -- ---- a history
 
@@ -96,8 +100,8 @@ module _ (history : List Commit) (p : Past) (at : ℕ) (d : Commit) (h : IsHisto
   before_is end (inr (over, same)) =
       (omega (arith, over, same, i.changed.1), subst (EndsOne history) same i.changed.0)
 
-  not_over : (lsn : ℕ) → lsn ≡ d.lsn → p.newest < d.end → d.lsn < p.newest → (p.newest ≡ 0) ⊎ ((c : Commit) × IsOf history c × (c.end ≡ p.newest))
-      → ⊥
+  not_over : (lsn : ℕ) → lsn ≡ d.lsn → p.newest < d.end → d.lsn < p.newest
+      → (p.newest ≡ 0) ⊎ ((c : Commit) × IsOf history c × (c.end ≡ p.newest)) → ⊥
   not_over lsn e over under (inl zero) = omega (arith, under, zero)
   not_over lsn e over under (inr (c, is, same)) =
       let k = apart 0 history c d h is next.is (omega (arith, same, over)) in omega (arith, k, same, under)

@@ -1,6 +1,8 @@
 -- A new commit, once what has to be forgotten is.
-use Rattle.std.proofs.Common.{◌≡◌, ◌≢◌, ◌≤◌, ◌<◌, ◌⊎◌, ◌∙◌, inl, inr, ⊎_elim, ℕ, Result, Ok, Err, None, Some}
-use Rattle.std.proofs.Common.{refl, sym, ap, subst, if◌then◌else◌, Bool, true, false, arith, List, [], ◌∷◌, length}
+use Rattle.std.proofs.Common.{◌≡◌, ◌≢◌, ◌≤◌, ◌<◌, ◌⊎◌, ◌∙◌, inl, inr, ⊎_elim, ℕ, Result, Ok, Err}
+use Rattle.std.proofs.Common.{None, Some}
+use Rattle.std.proofs.Common.{refl, sym, ap, subst, if◌then◌else◌, Bool, true, false, arith, List}
+use Rattle.std.proofs.Common.{[], ◌∷◌, length}
 use Rattle.std.proofs.lemmas.Bool.{cases_eq}
 use Rattle.std.proofs.lemmas.Bool.Decides.{eqb_tells}
 use Rattle.std.specs.Cmp.{unsigned_tied}

@@ -1,5 +1,5 @@
--- What an answer means: no commit of a well-formed server is contradicted by those of the same history
--- that it sent before. `docs/PROTOCOL.md`, "What a well-formed server is".
+-- What an answer means: no commit of a well-formed server is contradicted by those of the same
+-- history that it sent before. `docs/PROTOCOL.md`, "What a well-formed server is".
 use Rattle.std.specs.Prelude.{◌≡◌, ◌≤◌, ◌<◌, ◌⊎◌, ℕ, List, [], ◌∷◌, true, None, Some, Ok}
 use Rattle.std.specs.BTreeMap.{btree_map_len}
 use Rattle.pgrepeats.specs.declared.commit.Commit.{Commit}

@@ -23,9 +23,9 @@ noted_at p end = get nat_cmp p.commits end
 abbrev pub commit_at : ℕ → Noted → Commit
 commit_at end n = record { end = end; lsn = n.lsn; xid = n.xid; time = n.time; digest = n.digest }
 
--- It is a server's, and changes something: no session that sends what comes before it and what comes
--- behind it leaves it out. FrozenTransactionId, 2, is no transaction's: so the connector marks rows
--- that it puts into a stream.
+-- It is a server's, and changes something: no session that sends what comes before it and what
+-- comes behind it leaves it out. FrozenTransactionId, 2, is no transaction's: so the connector
+-- marks rows that it puts into a stream.
 abbrev pub must_come : Commit → Bool
 must_come d = nat_lt 0 d.digest.changes && not (d.xid == 2)
 
@@ -63,8 +63,8 @@ Contradicts p d (contradiction.Inserted end) = (end ≡ d.end) × WasNotThere p 
 Contradicts p d (contradiction.LeftOut end) = IsBefore p d end × IsLeftOut p.last end
 Contradicts p d (contradiction.Overlaps lsn end) = (lsn ≡ d.lsn) × (end ≡ p.newest) × (p.newest < d.end) × (d.lsn < p.newest)
 
--- Where what is noted begins: as before, at one that was noted and that all others are above, or with
--- this one.
+-- Where what is noted begins: as before, at one that was noted and that all others are above, or
+-- with this one.
 abbrev pub Begins : Past → Commit → Past → Type 0
 Begins p d new =
     ((new.since ≡ p.since) × (0 < btree_map_len p.commits))
@@ -80,8 +80,8 @@ pub record IsEqual (p : Past) (d : Commit) (new : Past) : Type 0 where
   pub goes : new ≡ record p { last = Some d.end }
 
 -- Of the others those above where what is noted begins stay, and only where the limit is met, the
--- first one goes. With the connector's rows all go: they take the place of changes of some tables in
--- the commits before them, which a server may send again.
+-- first one goes. With the connector's rows all go: they take the place of changes of some tables
+-- in the commits before them, which a server may send again.
 pub record Keeps (p : Past) (d : Commit) (new : Past) : Type 0 where
   pub none_more : (k : ℕ) (n : Noted) → k ≢ d.end → noted_at new k ≡ Some n → noted_at p k ≡ Some n
   pub all_since : (k : ℕ) → new.since < k → k ≤ p.newest → k ≢ d.end → noted_at new k ≡ noted_at p k

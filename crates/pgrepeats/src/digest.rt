@@ -1,5 +1,5 @@
-//! The digest of a list of changes: it is short, and lists that differ have different ones but for a
-//! collision of CRC-32.
+//! The digest of a list of changes: it is short, and lists that differ have different ones but for
+//! a collision of CRC-32.
 
 ghost use Rattle.std.specs.Prelude.{◌≡◌, ◌++◌};
 ghost use Rattle.pgcrc.specs.Crc.{crc32};

@@ -1,8 +1,8 @@
 //! Whether the commits that a server sends again are those that it sent before.
 //!
 //! A subscriber passes over a commit that ends at or below its position: it takes it for one that
-//! it has. A server that was set back, as by a backup that was restored, or a standby that took over
-//! and lagged behind, may send other commits there. So what came of each commit is noted, and
+//! it has. A server that was set back, as by a backup that was restored, or a standby that took
+//! over and lagged behind, may send other commits there. So what came of each commit is noted, and
 //! compared when it comes again:
 //!
 //! ```text

@@ -5,7 +5,8 @@ ghost use Rattle.std.specs.Bool.{OnTrue};
 ghost use Rattle.std.specs.BTreeMap.{btree_map_len};
 ghost use Rattle.pgrepeats.specs.Past.{BeginsAt, Forgets, IsFirstForgotten};
 ghost use Rattle.pgrepeats.specs.Past.{Answers, DiffersIn, IsFirst, IsForgotten, IsLeftOut};
-ghost use Rattle.pgrepeats.specs.Past.{NoneIsLeftOut, Notes, Readies, commit_at, must_come, noted_at};
+ghost use Rattle.pgrepeats.specs.Past.{NoneIsLeftOut, Notes, Readies, commit_at, must_come};
+ghost use Rattle.pgrepeats.specs.Past.{noted_at};
 
 use crate::commit::Commit;
 use crate::digest::Digest;

@@ -24,6 +24,7 @@ returns c =
           is_noted p c.if-must_come.self d n c.of-noted.ensures.same c.of-noted.ensures.before
           (subst (λ m. Updates nat_cmp p.commits m d.end (Some n)) (sym (ap (λ (x : Past). x.commits) w.self-is)) c.in-Ok.ensures.updates)
           (ap (λ (x : Past). x.limit) w.self-is) (ap (λ (x : Past). x.since) w.self-is) (ap (λ (x : Past). x.newest) w.self-is)
-          (not_chosen (must_come d) _ d.end p.changed (sym c.must_come.ensures ∙ w.if-must_come.false) (ap (λ (x : Past). x.changed) w.self-is))
+          (not_chosen (must_come d) _ d.end p.changed (sym c.must_come.ensures ∙ w.if-must_come.false)
+          (ap (λ (x : Past). x.changed) w.self-is))
           (ap (λ (x : Past). x.last) w.self-is)
     ]
