@@ -99,6 +99,13 @@ BUGS = (
         ("test_broken_rules",),
     ),
     Bug(
+        "a broken rule isn't kept where the disk is full",
+        "pgsub_connect/follow/drift_watch.py",
+        "        self.note_kinds()\n        if self.remembered.unsaved",
+        "        if self.remembered.unsaved",
+        ("test_broken_rules",),
+    ),
+    Bug(
         "a line on the server that can't be read says nothing",
         "pgsub_connect/stream/watch_lines.py",
         """return Told(UNWATCHED, f"what the filter""",

@@ -26,7 +26,7 @@ from pgsub_connect.stream.filter_end import FilterEnded
 from pgsub_connect.stream.filter_said import FilterSaid
 from pgsub_connect.stream.messages import flushed
 from pgsub_connect.stream.watch_lines import Told, told_of
-from pgsub_feed.errors import UNFIT, Unfit
+from pgsub_feed.errors import UNFIT, Passing, Unfit
 from pgsub_feed.interruption import never
 
 from .test_following import FAKE
@@ -142,6 +142,17 @@ class Kept(FollowCase):
                     self.assertEqual(self.progress.findings.found, {kind: text} if told else {})
                 os.unlink(self.store)
                 self.server.forget()
+
+    def test_where_the_disk_is_full(self) -> None:
+        """The checkpoint says that there was something, and the log what."""
+        self.says(f"tells {0x118} {LINE}")
+        follower = self.follower()
+        self.server.to_send = list(THREE)
+        with mock.patch.object(Remembered, "put", side_effect=Passing("no space")):
+            with self.assertRaisesRegex(Passing, "no space"):
+                follower.run()
+        self.assertIn(RULE, self.found(follower))
+        self.assertIn(f"filter: {LINE}", self.said)
 
 
 class Ends(FollowCase):

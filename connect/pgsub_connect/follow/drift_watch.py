@@ -197,6 +197,8 @@ class Watch:
         stays = "; nothing of that is stored" if self.tolerance.stops else ""
         for kind, text in told:
             self.remembered.find(kind, position, text + (stays if kind == RULE else ""))
+        # (the checkpoint can be written also where a disk is full)
+        self.note_kinds()
         if self.remembered.unsaved.is_urgent:
             self.put()
 

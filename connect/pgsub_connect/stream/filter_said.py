@@ -50,12 +50,13 @@ class FilterSaid:
     def hear(self, line: str) -> None:
         if missing := missing_of(line):
             self.missing = missing
-        elif told := told_of(line):
+            return
+        log.info(f"filter: {line}")
+        if told := told_of(line):
             self.news.append(told)
             self.told = told.text
         else:
             self.said = line
-            log.info(f"filter: {line}")
 
     def take_news(self) -> list[Told]:
         """What it has said of the server since the last call."""
