@@ -1,5 +1,8 @@
+mod Counted
 mod DefinedRows
+mod Given
 mod HeldRows
 mod Laid
+mod Matching
 mod OwnKeys
 pub mod Sound

@@ -1,10 +1,13 @@
 -- What was seen of the entries of a tree.
-use Rattle.std.specs.Prelude.{◌≡◌, ◌<◌, ◌^◌, ◌++◌, ◌⊎◌, ℕ, ℤ, List, [], ◌∷◌, Option, None, Some}
+use Rattle.std.specs.Prelude.{◌≡◌, ◌<◌, ◌^◌, ◌++◌, ◌⊎◌, ℕ, ℤ, List, [], ◌∷◌, length, Option, None, Some}
 use Rattle.std.specs.Prelude.{map, ⊤}
 use Rattle.std.specs.Int.{w64, to_be_bytes}
 use Rattle.sqlite.specs.declared.types.Value.TheVariants.{Int}
 use Rattle.sqlite.specs.Order.{Row, column}
 use Rattle.sqlite_rules.specs.Lists.{Has}
+use Rattle.sqlite.specs.View.{View}
+use Rattle.sqlite_sql.specs.Catalog.{entry_of}
+use Rattle.sqlite_exec.specs.Loops.{left_of}
 use Rattle.pgtables.specs.Kept.{Copies, Definition, held_row, pos_row, rel_row}
 
 -- a row of `held` that is accepted
@@ -16,8 +19,12 @@ pub record IsHeldRow {C : Type 0} (accepts : C → ℕ → List ℕ → Copies �
   pub is : row ≡ held_row (Int id) oid ident kept
   pub accepted : accepts check oid ident kept
 
-abbrev pub AreHeldRows : {C : Type 0} → (C → ℕ → List ℕ → Copies → Type 0) → C → List Row → Type 0
-AreHeldRows accepts check rows = (row : Row) → Has rows row → IsHeldRow accepts check row
+-- the entry is that of a row, which is accepted
+pub record IsNamed {C : Type 0} (accepts : C → ℕ → List ℕ → Copies → Type 0) (check : C) (rows : List Row) (entry : Row) : Type 0 where
+  pub row : Row
+  pub there : Has rows row
+  pub held : IsHeldRow accepts check row
+  pub is : entry ≡ entry_of (1 ∷ 2 ∷ []) row
 
 -- two entries of the index have one OID and one identity
 abbrev pub IsSameKey : Row → Row → Type 0
@@ -37,6 +44,20 @@ AreApart (e ∷ es) = IsFollowed e es × AreApart es
 pub record HaveOwnKeys (last : Row) (entries : List Row) : Type 0 where
   pub apart : AreApart entries
   pub ends : (entries ≡ []) ⊎ ((front : List Row) × (entries ≡ front ++ last ∷ []))
+
+-- each entry is that of a row, which is accepted, no two neighbors have one key, and there are as
+-- many entries as rows
+pub record AreMatched {C : Type 0} (accepts : C → ℕ → List ℕ → Copies → Type 0) (check : C) (rows entries : List Row) : Type 0 where
+  pub named : (entry : Row) → Has entries entry → IsNamed accepts check rows entry
+  pub apart : AreApart entries
+  pub count : length entries ≡ length rows
+
+-- cursor 1 has given so many rows of the table, and this one last, or is at the end
+pub record HasGiven (v : View) (row : Row) (count : ℕ) : Type 0 where
+  pub given : List Row
+  pub all : given ++ left_of v 1 ≡ v.trees 1
+  pub many : length given ≡ count
+  pub last : (row ≡ []) ⊎ Has (v.trees 1) row
 
 -- the rows are those of these definitions
 abbrev pub AreRowsOf : List Row → List (ℕ × Definition) → Type 0

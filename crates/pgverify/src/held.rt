@@ -5,7 +5,6 @@ ghost use Rattle.sqlite.specs.declared.types.Value.TheVariants.{Int};
 ghost use Rattle.sqlite_value.specs.Value.{owned};
 ghost use Rattle.pgverify.specs.Seen.{IsHeldRow};
 
-use crate::walk::TreeVisitor;
 use pgtables::RowCheck;
 use sqlite::types::FromSql;
 use sqlite::{Error, ErrorCode};
@@ -13,24 +12,6 @@ use sqlite_trees::error::StoreError;
 use sqlite_value::row::Row;
 use sqlite_value::value::ValueRef;
 use std::alloc::Global;
-
-/// Accepts the rows of `held` that a check accepts.
-#[derive(Drop)]
-pub(crate) struct HeldRows<'a, C: RowCheck> {
-    pub(crate) alloc: Global,
-    pub(crate) check: &'a C,
-}
-
-impl<C: RowCheck> TreeVisitor for HeldRows<'_, C> {
-    ghost use Rattle.pgverify.specs.Seen.{AreHeldRows};
-
-    ghost has_seen = { λ start v rows. (v.check.now ≡ start.check.now)
-        × AreHeldRows C.RowCheck.accepts start.check.now rows };
-
-    fn visit(&mut self, entry: &Row) -> Result<bool, StoreError> {
-        is_held_row(self.alloc, self.check, entry)
-    }
-}
 
 /// The number that a value is, if it has 32 bits.
 pub(crate) fn number_in(alloc: Global, value: ValueRef<'_>) -> Option<u32>
@@ -43,7 +24,11 @@ pub(crate) fn number_in(alloc: Global, value: ValueRef<'_>) -> Option<u32>
 }
 
 /// Whether a row has the form of one of `held`, and the check accepts it.
-fn is_held_row<C: RowCheck>(alloc: Global, check: &C, row: &Row) -> Result<bool, StoreError>
+pub(crate) fn is_held_row<C: RowCheck>(
+    alloc: Global,
+    check: &C,
+    row: &Row,
+) -> Result<bool, StoreError>
     ensures { result ≡ Ok true → IsHeldRow C.RowCheck.accepts check.now row.now }
 {
     if row.len() != 5 {

@@ -17,6 +17,7 @@ mod definitions;
 mod held;
 mod keys;
 mod place;
+mod rows;
 mod verify;
 mod walk;
 

@@ -4,34 +4,23 @@ ghost use Rattle.std.specs.Prelude.{◌≡◌, ◌&&◌, ◌<◌, ◌^◌, ◌�
 ghost use Rattle.std.specs.Int.{w64, to_be_bytes};
 ghost use Rattle.sqlite_trees.specs.View.{IsClean, IsQuiet};
 ghost use Rattle.sqlite_exec.specs.Calls.{OnlyReads};
-ghost use Rattle.sqlite_sql.specs.Catalog.{IsIndexOf};
 ghost use Rattle.pgtables.specs.Kept.{AreDefined, pos_row, tables_in};
 ghost use Rattle.pgtables.specs.Opened.{ListsDefinitions};
-ghost use Rattle.pgverify.specs.Seen.{AreApart, AreHeldRows};
 ghost use Rattle.pgverify.specs.Verified.{AreVerified, ListsStore};
 
 use crate::definitions::Definitions;
-use crate::held::HeldRows;
-use crate::keys::Keys;
+use crate::keys::are_matched;
 use crate::place::Place;
 use crate::walk::walk;
 use pgtables::{Remains, RowCheck, StoredDefinition, remains_of};
 use sqlite_catalog::load::load;
-use sqlite_exec::check::is_index;
-use sqlite_exec::work::Workspace;
-use sqlite_sql::query::Index;
 use sqlite_trees::error::StoreError;
 use sqlite_trees::store::Alter;
-use sqlite_value::keys::Order;
 use sqlite_value::row::Row;
 use std::alloc::{AllocError, Global};
 
-/// The trees of `rel`, of `held`, of its index and of `pos`.
+/// The trees of `rel` and of `pos`.
 const DEFINED: u32 = 0;
-
-const TABLE: u32 = 1;
-
-const INDEX: u32 = 2;
 
 const PLACE: u32 = 3;
 
@@ -83,60 +72,6 @@ pub fn read_definitions<S: Alter>(
     Ok(Some(definitions.all))
 }
 
-/// Whether each row of `held` has its form, and the check accepts it.
-fn are_held_rows<S: Alter, C: RowCheck>(
-    store: &mut S,
-    alloc: Global,
-    check: &C,
-) -> Result<bool, StoreError>
-    ensures rows { IsClean (S.Store.view store.new) → result ≡ Ok true →
-        AreHeldRows C.RowCheck.accepts check.now ((S.Store.view store.old).trees 1) }
-    ensures same { OnOk result (IsClean (S.Store.view store.new) →
-        OnlyReads (S.Store.view store.old) (S.Store.view store.new)) }
-    ensures quiet { IsQuiet S.Store.view S.Store.faults S.Store.recovers S.Store.is_shielded
-        store.old store.new }
-{
-    let mut entry = Row::new(alloc);
-    let mut rows = HeldRows { alloc, check };
-    walk(store, TABLE, &mut entry, &mut rows)
-}
-
-/// Whether no two neighbors in the index have one key.
-fn are_apart<S: Alter>(store: &mut S, alloc: Global) -> Result<bool, StoreError>
-    ensures apart { IsClean (S.Store.view store.new) → result ≡ Ok true →
-        AreApart ((S.Store.view store.old).trees 2) }
-    ensures same { OnOk result (IsClean (S.Store.view store.new) →
-        OnlyReads (S.Store.view store.old) (S.Store.view store.new)) }
-    ensures quiet { IsQuiet S.Store.view S.Store.faults S.Store.recovers S.Store.is_shielded
-        store.old store.new }
-{
-    let mut entry = Row::new(alloc);
-    let last = Row::new(alloc);
-    let mut keys = Keys { last };
-    walk(store, INDEX, &mut entry, &mut keys)
-}
-
-/// Whether the index has an entry for each row of `held`, and no other.
-fn is_indexed<S: Alter>(store: &mut S, alloc: Global) -> Result<bool, StoreError>
-    requires { IsClean (S.Store.view store.old) → ListsStore (S.Store.view store.old) }
-    ensures indexed { IsClean (S.Store.view store.new) → result ≡ Ok true →
-        IsIndexOf (1 ∷ 2 ∷ []) ((S.Store.view store.old).trees 1)
-        ((S.Store.view store.old).trees 2) }
-    ensures same { OnOk result (IsClean (S.Store.view store.new) →
-        OnlyReads (S.Store.view store.old) (S.Store.view store.new)) }
-    ensures quiet { IsQuiet S.Store.view S.Store.faults S.Store.recovers S.Store.is_shielded
-        store.old store.new }
-{
-    let mut work = Workspace::new(alloc);
-    let index = Index {
-        tree: INDEX,
-        table: TABLE,
-        columns: &[1, 2],
-        order: Order::PLAIN,
-    };
-    is_index(store, &mut work, &index)
-}
-
 /// Whether each row of `held` is accepted, no two have one identity, and the index has the entry of
 /// each. Nothing changes.
 pub fn check_rows<S: Alter, C: RowCheck>(
@@ -152,13 +87,7 @@ pub fn check_rows<S: Alter, C: RowCheck>(
     ensures quiet { IsQuiet S.Store.view S.Store.faults S.Store.recovers S.Store.is_shielded
         store.old store.new }
 {
-    if !are_held_rows(store, alloc, check)? {
-        return Ok(false);
-    }
-    if !are_apart(store, alloc)? {
-        return Ok(false);
-    }
-    is_indexed(store, alloc)
+    are_matched(store, alloc, check)
 }
 
 /// The position that the only row of `pos` stores, or `None` where there is no row, another one or
