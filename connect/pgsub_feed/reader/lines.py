@@ -24,6 +24,7 @@ PLAIN = re.compile(
     rb'\{"end":%b,"prev":%b,"bytes":(\d+),"changes":(\d+),"lsn":(?:%b,"xid":(\d+),"ts_us":(-?\d+)|null,"xid":null,"ts_us":null)\} *\n'
     % (LSN, LSN, LSN)
 )
+decoded = json.JSONDecoder().decode
 # What may be the escape of half of a pair.
 SURROGATE = re.compile(r"\\u[dD]")
 SENT = {str, type(None)}
@@ -38,7 +39,7 @@ def parsed(content: bytes) -> Any:
     """A text in JSON, whose strings are UTF-8. A ValueError says that it is none."""
     text = content.decode()
     try:
-        found = json.loads(text)
+        found = decoded(text)
     except RecursionError:
         raise ValueError from None
     if "\\u" in text and SURROGATE.search(text):

@@ -118,7 +118,8 @@ class Segment:
         return os.pread(self.file, size, offset)
 
     def size(self) -> int:
-        return os.fstat(self.file).st_size
+        # (all is read by offset, so where the file is doesn't matter)
+        return os.lseek(self.file, 0, os.SEEK_END)
 
     def commit(self, offset: int) -> Commit | Closing | None:
         """The line of a commit or of the end at an offset; None where it isn't there yet."""
