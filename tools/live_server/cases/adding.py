@@ -151,6 +151,7 @@ import os, sys
 sys.path.insert(0, {house!r})
 from pgsub_connect import cli
 from pgsub_connect.add import adder, replacement, turn
+from pgsub_connect.drift import remembered
 where, name = {where}, {name!r}
 real, left = getattr(where, name), [{times}]
 def last(*words, **more):
@@ -191,7 +192,7 @@ CUTS = (
     ("turn.Rows", "closing", True, 0),
     ("adder.Adder", "send", True, 0),
     ("adder.Adder", "finish", False, 0),
-    ("adder.Remembered", "added", True, 0),
+    ("remembered.Remembered", "added", True, 0),
     ("adder.Adder", "forget", True, 0),
 )
 
