@@ -2,10 +2,10 @@
 """A filter in the place of `pgsub follow`: it stores nothing but its position, and says what the
 tests ask it to.
 
-usage: fake_filter follow --store FILE [--proto N] [--feed FOLDER --feed-system TEXT --feed-database TEXT --feed-slot TEXT] ..
+usage: fake_filter follow --store FILE [--load] [--proto N] [--feed FOLDER --feed-system TEXT --feed-database TEXT --feed-slot TEXT] ..
 
 The file holds the position as text. Of a commit the feed has the line alone. A Delete finds no row,
-and anything else does. FAKE_FILTER in its first line's place: a file FILE.says may hold one of
+and anything else does. Each table of a load is a part. FAKE_FILTER in its first line's place: a file FILE.says may hold one of
 these words:
   `status N TEXT`    ends at the first frame, with this status and this line on standard error
   `bytes HEX`        writes these bytes in place of its first status
@@ -13,7 +13,7 @@ these words:
   `late PATH`        takes no commit before this file is there
   `parts PATH`       says a line on standard error in two parts, the second one once this file is
                      there, which it takes away
-  `dies LSN`         kills itself once it has stored the commit with this end, in decimal, and takes the file away
+  `dies LSN`         kills itself once it has stored the commit with this end, or the part or the end of a load, in decimal, and takes the file away
   `rejects LSN N TEXT`  ends at the commit with this end, in decimal, with this status and this line
   on standard error, and takes the
                      file away; it confirms none of those before, as if all came at once
@@ -43,7 +43,8 @@ MISSED, BREACH = 16, 17
 
 
 def frames() -> Iterator[tuple[bytes, bytes]]:
-    """The frames of standard input: the tag and the payload of each."""
+    """The frames of standard input, or those that are left of it: the tag and the payload of
+    each."""
     source = sys.stdin.buffer
     while len(head := source.read(5)) == 5:
         payload = source.read(length := int.from_bytes(head[1:], "big") - 4)
@@ -113,6 +114,11 @@ class Fake:
             from feed_text import commit_line
 
             self.feed.put(commit_line(end, self.position, 0, 0, None))
+        self.move(end)
+        self.tell(end)
+
+    def move(self, end: int) -> None:
+        """Notes a position on the disk."""
         self.position = max(self.position, end)
         self.confirmed = max(self.confirmed, end)
         with open(self.store, "w", encoding="ascii") as file:
@@ -120,7 +126,26 @@ class Fake:
         if self.says[:2] == ["dies", str(end)]:
             os.unlink(self.store + ".says")
             os.kill(os.getpid(), KILL)
-        self.tell(end)
+
+    def load(self) -> int:
+        """Reads a load; the exit status where it is none."""
+        if self.position:
+            print("pgsub: load 7 NotNew", file=sys.stderr, flush=True)
+            return 3
+        for tag, payload in frames():
+            if self.says[:1] == ["status"]:
+                print(self.says[2], file=sys.stderr, flush=True)
+                return int(self.says[1])
+            if tag != b"d" or payload[:1] not in (b"R", b"t", b"e", b"p"):
+                print("pgsub: load 8 BadInput", file=sys.stderr, flush=True)
+                return 1
+            if payload[:1] == b"e":
+                self.move(self.position + 1)
+            elif payload[:1] == b"p":
+                self.move(int.from_bytes(payload[1:], "big"))
+                return 0
+        print("pgsub: load 9 CutInput", file=sys.stderr, flush=True)
+        return 15
 
     def tell(self, end: int) -> None:
         """Says how many changes have found no row, where the commit with this end had such ones."""
@@ -173,6 +198,10 @@ def main(words: list[str]) -> int:
     store = words[words.index("--store") + 1]
     says = said(store)
     fake = Fake(store, says)
+    if not os.path.exists(store):
+        open(store, "w", encoding="ascii").close()
+    if "--load" in words and (status := fake.load()):
+        return status
     if "--feed" in words:
         folder, *named = (
             words[words.index(f"--feed{it}") + 1] for it in ("", "-system", "-database", "-slot")

@@ -317,7 +317,7 @@ BUGS = (
     ),
     Bug(
         "an escaped backslash isn't one in a copied value",
-        "pgsub_connect/copy/messages.py",
+        "pgsub_connect/server/copied_text.py",
         'return b"\\\\".join(pieces)',
         'return b"".join(pieces)',
         ("test_messages",),
@@ -513,9 +513,9 @@ BUGS = (
     ),
     Bug(
         "a table whose last rows aren't stored is kept",
-        "pgsub_connect/copy/copier.py",
-        "if end <= position}",
-        "if end <= position + 1}",
+        "pgsub_connect/copy/interrupted.py",
+        "if stored[oid] == rows}",
+        "if stored[oid]}",
         ("test_copying",),
     ),
     Bug(
@@ -583,16 +583,16 @@ BUGS = (
     ),
     Bug(
         "what can't be added by itself is waited for",
-        "pgsub_connect/copy/copier.py",
-        "if not whole or large or position > point:",
-        "if not whole or position > point:",
+        "pgsub_connect/copy/interrupted.py",
+        "if not whole or large:",
+        "if not whole:",
         ("test_copying",),
     ),
     Bug(
-        "parts of two tables get into one transaction",
+        "a table of a load begins where the text of another goes on",
         "pgsub_connect/copy/sender.py",
-        "return self.end_transaction(self.lsn + 1)",
-        "return self.lsn + 1",
+        "        if part.is_last:\n",
+        "        if not part.is_first:\n",
         ("test_copying",),
     ),
     Bug(
@@ -1529,8 +1529,8 @@ BUGS = (
     Bug(
         "tables are made before the store that they are of",
         "pgsub_connect/copy/copier.py",
-        "        self.files.keep()\n        self.beside.end()\n",
-        "        self.beside.end()\n        self.files.keep()\n",
+        "        self.end_tables(point)\n        if ",
+        "        self.end_tables(point)\n        self.beside.end()\n        if ",
         ("test_first_rows",),
     ),
     Bug(

@@ -2,7 +2,7 @@
 """A filter in the place of `pgsub follow` that keeps rows, in a file of the store's format: for
 tests that compare rows.
 
-usage: row_filter follow --store FILE [--proto N] [--max-buffered N] [--max-frame N] ..
+usage: row_filter follow --store FILE [--load] [--proto N] [--max-buffered N] [--max-frame N] ..
        row_filter dump --store FILE
 
 It is a plain reading of docs/PROTOCOL.md, slow, and checks no more than it needs to. The file
@@ -390,6 +390,50 @@ def follow(store: Store, most: int, limit: int) -> None:
             status()
 
 
+ESCAPES = {b"b": b"\b", b"f": b"\f", b"n": b"\n", b"r": b"\r", b"t": b"\t", b"v": b"\v"}
+
+
+def read_field(text: bytes) -> Cell:
+    """A field of a line of COPY's text."""
+    if text == b"\\N":
+        return "n", b""
+    first, *pieces = text.split(b"\\")
+    value, at = first, 0
+    while at < len(pieces):
+        if not pieces[at]:
+            # (a backslash stands for itself, and what comes behind the second one is as it is)
+            value, at = value + b"\\" + b"".join(pieces[at + 1 : at + 2]), at + 2
+            continue
+        value += ESCAPES.get(pieces[at][:1], pieces[at][:1]) + pieces[at][1:]
+        at += 1
+    return "t", value
+
+
+def load(store: Store, limit: int) -> None:
+    """Reads a load. Each table of it is a part."""
+    if store.position:
+        raise Fault(3, "pgsub: load 7 NotNew")
+    table, text = None, b""
+    for _, payload in pieces(limit):
+        letter, rest = payload[:1], payload[1:]
+        if letter == b"R":
+            table, text = read_relation(rest), b""
+        elif letter == b"t":
+            text += rest
+        elif letter == b"e":
+            assert table is not None
+            cells = [
+                [read_field(it) for it in line.split(b"\t")] for line in text.split(b"\n")[:-1]
+            ]
+            head = struct.pack(">Ic", table.oid, b"N")
+            changes = [(table, "I", head + spelled(it if table.columns else [])) for it in cells]
+            store.take(changes, store.position + 1)
+        elif letter == b"p":
+            store.take([], number(rest, 0, 8))
+            return
+    raise Fault(15, "pgsub: load 9 CutInput")
+
+
 def dump(store: Store) -> None:
     import json
 
@@ -419,7 +463,10 @@ def main(words: list[str]) -> int:
         if words[0] == "dump":
             dump(store)
         else:
-            follow(store, value("--max-buffered", 1 << 26), value("--max-frame", 1 << 24))
+            limit = value("--max-frame", 1 << 24)
+            if "--load" in words:
+                load(store, limit)
+            follow(store, value("--max-buffered", 1 << 26), limit)
     except Fault as fault:
         print(fault, file=sys.stderr, flush=True)
         return fault.status

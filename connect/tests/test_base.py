@@ -566,7 +566,7 @@ class Beside(Case):
 
     def begin(self) -> None:
         self.it.begin(POINT)
-        self.it.take(frames(COPIED, b"1\t5\n"))
+        self.it.take(COPIED, [b"1\t5\n"])
 
     def test_to_the_end(self) -> None:
         self.begin()

@@ -23,7 +23,7 @@ from pgsub_feed.reader.base import BaseFiles
 
 from .stores import Store
 from .test_copying import POINT, STOCK
-from .test_first_rows import EMPTY, KINDS, NOTHING, Case, frames
+from .test_first_rows import EMPTY, KINDS, NOTHING, Case
 
 STORED = (1, "id", 23, -1), (0, "n", 23, -1)
 ALL_OF_KINDS = tuple(
@@ -151,7 +151,7 @@ class Beside(BesideCase):
     def test_a_process_that_was_killed_within_a_whole_copy(self) -> None:
         self.it.close()
         self.rows_beside.begin(POINT)
-        self.rows_beside.take(frames(STOCK, b"1\t5\n"))
+        self.rows_beside.take(STOCK, [b"1\t5\n"])
         child = self.rows_beside.child
         assert child
         child.kill()
@@ -163,7 +163,7 @@ class Beside(BesideCase):
     def test_one_that_is_there(self) -> None:
         """It stays."""
         self.rows_beside.begin(POINT)
-        self.rows_beside.take(frames(STOCK, b"1\t6\n"))
+        self.rows_beside.take(STOCK, [b"1\t6\n"])
         self.rows_beside.end()
         self.rows_beside.complete(True, never)
         self.assertEqual(self.found()[STOCK.oid], [["1", "6"]])

@@ -170,6 +170,20 @@ class Remembers(Begun):
             self.assertTrue(options.copy_settings().wanted.keeps)
             self.assertFalse(self.follow("--create").copy_settings().wanted.keeps)
 
+    def test_an_interrupted_copy_isnt_taken_for_a_whole_one(self) -> None:
+        """Its file is there."""
+        for phase in (COPYING, SLOT):
+            self.followed(phase)
+            with self.assertRaisesRegex(Unfit, "lacks rows, since its copy was interrupted"):
+                follow.begin(self.follow("--no-copy"), self.parts(phase))
+            parts = self.parts(phase)
+            follow.begin(self.follow("--create"), parts)
+            parts.copier.run.assert_called_once_with()
+
+    def parts(self, phase: str) -> Any:
+        known = Tolerance(), mock.Mock(known=Known(phase)), Progress(), Remembered(self.store)
+        return mock.Mock(common=Common(Subscription(), *known))
+
     def test_what_a_checkpoint_has_no_room_for(self) -> None:
         checkpoint = Checkpoint(self.store)
         self.addCleanup(os.close, checkpoint.file)

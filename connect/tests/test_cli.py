@@ -305,7 +305,7 @@ class Words(Quiet):
         self.refused("^--store .*: that isn't UTF-8$", "follow", "--store", word)
         os.symlink(word, folder + "/link")
         self.refused(
-            "^--store .*/a\udcff.copying: that isn't UTF-8$", "follow", "--store", folder + "/link"
+            "^--store .*/a\udcff: that isn't UTF-8$", "follow", "--store", folder + "/link"
         )
         dsn = Path(folder, "dsn")
         dsn.write_bytes(b"password=a\xff\n")

@@ -3,6 +3,7 @@ anew."""
 
 from __future__ import annotations
 
+import collections
 import contextlib
 import dataclasses
 import os
@@ -13,10 +14,14 @@ from collections.abc import Callable, Sequence
 from typing import Any, cast
 from unittest import mock
 
-from pgsub_connect.copy import copy_slot, slots, table_reader, tables as tables_module
+from pgsub_connect.copy import copy_slot, files as files_module, interrupted, slots, table_reader
+from pgsub_connect.copy import tables as tables_module
 from pgsub_connect.copy.copier import Copier, CopySettings
-from pgsub_connect.copy.messages import InsertHeads, begin, commit, frame, inserts, relation
+from pgsub_connect.copy.load import frame as load_frame
+from pgsub_connect.copy.load import point_frame, table_frame
+from pgsub_connect.copy.messages import begin, commit, frame
 from pgsub_connect.copy.rows_beside import RowsBeside, Several
+from pgsub_connect.copy.sender import Sender
 from pgsub_connect.copy.slots import create_slot
 from pgsub_connect.copy.tables import altered_tables
 from pgsub_connect.copy.tries import CHANGED, Tries
@@ -30,16 +35,15 @@ from pgsub_connect.status.progress import Progress
 from pgsub_connect.store import checkpoint_lines
 from pgsub_connect.store.checkpoint import Checkpoint
 from pgsub_connect.store.checkpoint_lines import COPIED, SLOT
-from pgsub_connect.store.snapshot import part_of
 from pgsub_connect.stream.filter import Filter
 from pgsub_connect.stream.filter_end import FilterEnded
 from pgsub_connect.stream.memory_limit import BufferLimits
 from pgsub_feed import log
 from pgsub_feed.errors import Passing, Stopped, Unfit, UsageError
+from pgsub_feed.files import meant
 from pgsub_feed.relation import Column, Shape
 
 from .fake_server import FakeServer, Quiet, Row
-from .row_filter import Store, Subscriber
 from .vectors import PGSUB, a_catalog, a_table
 
 POINT = 0x1000028
@@ -53,27 +57,48 @@ STOCK = Table(
 
 
 class FakeFilter:
-    """A filter that confirms the end of the last transaction, and keeps what it was sent."""
+    """A filter that confirms the end of a load, or of the last transaction, and keeps what it was
+    sent."""
 
     def __init__(self, path: str) -> None:
-        self.path, self.sent = path, b""
+        self.path, self.sent, self.loaded = path, b"", b""
+        self.words: tuple[str, ...] = ()
+        self.stops = False
         self.ended = self.runs = False
         self.readable: list[int] = []
         self.fails: list[Exception] = []
 
-    def start(self, check: Callable[[], None]) -> int:
-        check()
+    def launch(self, *more: str) -> None:
         with open(self.path, "ab"):
             self.ended, self.runs = False, True
+        self.words, self.loaded, self.sent = more, b"", b""
         if self.fails:
             raise self.fails.pop(0)
+
+    def start(self, check: Callable[[], None]) -> int:
+        check()
+        self.launch()
         return 0
 
+    def has_opened(self) -> bool:
+        return bool(self.point())
+
+    def point(self) -> int:
+        """Where the load has ended."""
+        last = self.loaded[-14:]
+        return int.from_bytes(last[6:], "big") if last[:6] == b"d\0\0\0\x0dp" else 0
+
+    def is_to_stop(self) -> bool:
+        return self.stops
+
     def confirmed(self) -> int:
-        return int.from_bytes(self.sent[-16:-8], "big")
+        return self.point() or int.from_bytes(self.sent[-16:-8], "big")
 
     def push(self, piece: bytes) -> None:
         self.sent += piece
+
+    def push_load(self, piece: bytes | memoryview) -> None:
+        self.loaded += piece
 
     def has_room(self) -> bool:
         return True
@@ -85,7 +110,8 @@ class FakeFilter:
         self, timeout: float, reads: Sequence[int] = ()
     ) -> tuple[list[int], list[int], list[bytes]]:
         if self.ended:
-            raise FilterEnded(0, "")
+            is_cut = "--load" in self.words and not self.point()
+            raise FilterEnded(15 if is_cut else 0, "")
         return self.readable, [], []
 
     def kill(self) -> None:
@@ -182,11 +208,13 @@ class Copying(Quiet):
     def copier(self, max_buffered: int = 0, **settings: Any) -> Copier:
         self.checkpoint = Checkpoint(self.store)
         self.addCleanup(os.close, self.checkpoint.file)
-        self.filter = FakeFilter(part_of(self.store))
+        self.filter = FakeFilter(meant(self.store))
         self.progress = Progress()
         self.remembered = Remembered(self.store)
         return Copier(
-            CopySettings(self.store, Wanted(["pgsub"]), BufferLimits(max_buffered), **settings),
+            CopySettings(
+                self.store, Wanted(["pgsub"]), BufferLimits(max_buffered, 1 << 24), **settings
+            ),
             Subscription(publications=["pgsub"]),
             self.checkpoint,
             cast(Filter, self.filter),
@@ -245,23 +273,23 @@ class Locks(Copying):
         )
 
 
+def text_frame(*lines: bytes) -> bytes:
+    return load_frame(b"t", b"".join(lines))
+
+
+END = load_frame(b"e")
+
+
 class Sent(Copying):
-    def test_transactions(self) -> None:
+    def test_a_load(self) -> None:
         self.copier().run()
-        rows = inserts(self.server.lines, InsertHeads(STOCK, 0))
         self.assertEqual(
-            self.filter.sent.hex(" "),
+            self.filter.loaded.hex(" "),
             b"".join(
-                (
-                    frame(1, begin(1)),
-                    frame(0, relation(STOCK)),
-                    rows,
-                    frame(1, commit(1, 2)),
-                    frame(2, begin(2)),
-                    frame(2, commit(2, POINT)),
-                )
+                (table_frame(STOCK), text_frame(*self.server.lines), END, point_frame(POINT))
             ).hex(" "),
         )
+        self.assertEqual((self.filter.words, self.filter.sent), (("--load",), b""))
         self.assertEqual(
             (self.progress.copy.rows, self.progress.copy.total_rows, self.progress.copy.table),
             (2, 3, None),
@@ -270,19 +298,48 @@ class Sent(Copying):
         self.assertEqual(self.checkpoint.known.position, POINT)
         self.assertTrue(os.path.exists(self.store))
         self.assertEqual(self.server.opened, self.server.closed)
+        # (the filter that has loaded the rows follows)
+        self.assertTrue(self.filter.runs)
 
     def test_parts(self) -> None:
-        """A part ends with the block that fills it, and each part is a transaction."""
-        self.patch(table_reader, "PART", 200)
+        """A part ends with the block that fills it."""
+        self.patch(table_reader, "PART", 15)
         self.patch(table_reader, "BLOCK", 1)
         self.server.lines = [b"%d\t0\n" % number for number in range(5)]
+        sent = list[tuple[bool, int, bool]]()
+        real = Sender.send_part
+
+        def send_part(sender: Sender, part: table_reader.Part) -> None:
+            sent.append((part.is_first, part.rows, part.is_last))
+            real(sender, part)
+
+        self.patch(Sender, "send_part", send_part)
         self.copier().run()
-        wanted, lines = [frame(1, begin(1)), frame(0, relation(STOCK))], self.server.lines
-        for lsn, some in ((1, lines[:4]), (2, lines[4:])):
-            wanted += [frame(2, begin(2))] if lsn == 2 else []
-            wanted += [inserts(some, InsertHeads(STOCK, 0)), frame(lsn, commit(lsn, lsn + 1))]
-        wanted += [frame(3, begin(3)), frame(3, commit(3, POINT))]
-        self.assertEqual(self.filter.sent.hex(" "), b"".join(wanted).hex(" "))
+        self.assertEqual(sent, [(True, 4, False), (False, 1, True)])
+        wanted = [table_frame(STOCK), *map(text_frame, self.server.lines), END, point_frame(POINT)]
+        self.assertEqual(self.filter.loaded.hex(" "), b"".join(wanted).hex(" "))
+
+    def test_what_takes_the_rows_beside_says_what_the_filter_is_told(self) -> None:
+        self.beside = Several((), lambda: None, lambda: ("--feed", "f"))
+        self.copier().run()
+        self.assertEqual(self.filter.words, ("--load", "--feed", "f"))
+
+    def test_a_filter_that_is_to_stop_by_what_it_watches_is_started_again(self) -> None:
+        """It watches from its start, and a load is no session."""
+        copier = self.copier()
+        self.filter.stops = True
+        copier.run()
+        self.assertEqual((self.filter.ended, self.checkpoint.known.phase), (True, COPIED))
+
+    def test_a_base_that_failed_is_made_from_the_store(self) -> None:
+        """So the load ends before its point, and what follows it begins later."""
+        self.patch(RowsBeside, "is_ready", lambda *_: False)
+        self.copier().run()
+        self.assertEqual(
+            (self.filter.words, self.filter.sent.hex(" ")),
+            ((), (frame(1, begin(1)) + frame(1, commit(1, POINT))).hex(" ")),
+        )
+        self.assertEqual((self.checkpoint.known.phase, self.filter.ended), (COPIED, True))
 
     def test_how_far_it_is(self) -> None:
         self.patch(log, "WRITTEN", -1.0)
@@ -292,16 +349,12 @@ class Sent(Copying):
     def test_an_empty_table(self) -> None:
         self.server.lines = []
         self.copier().run()
-        self.assertTrue(
-            self.filter.sent.startswith(
-                frame(1, begin(1)) + frame(0, relation(STOCK)) + frame(1, commit(1, 2))
-            )
-        )
+        self.assertEqual(self.filter.loaded, table_frame(STOCK) + END + point_frame(POINT))
 
     def test_no_table(self) -> None:
         self.tables = []
         self.copier().run()
-        self.assertEqual(self.filter.sent, frame(1, begin(1)) + frame(1, commit(1, POINT)))
+        self.assertEqual(self.filter.loaded, point_frame(POINT))
         self.assertEqual(self.server.told("LOCK TABLE"), [])
 
     def test_mode(self) -> None:
@@ -318,13 +371,13 @@ class Linked(Copying):
         self.far = os.path.join(self.folder, "far")
         os.mkdir(self.far)
         os.symlink("far/shop.db", self.store)
-        real = FakeFilter.start
+        real = FakeFilter.launch
 
-        def start(fake: FakeFilter, check: Callable[[], None]) -> int:
+        def launch(fake: FakeFilter, *more: str) -> None:
             with open(fake.path + "-wal", "ab"):
-                return real(fake, check)
+                real(fake, *more)
 
-        self.patch(FakeFilter, "start", start)
+        self.patch(FakeFilter, "launch", launch)
 
     def test_the_file_is_where_it_leads(self) -> None:
         """So is the program's log; the connector has its own ones beside the link."""
@@ -339,15 +392,22 @@ class Linked(Copying):
         )
 
     def test_what_was_complete_gets_its_name_there(self) -> None:
-        """Cut off between the two renames."""
+        """An earlier version was cut off before its renames, or between them."""
+        for before in ((".copying-wal", ".copying"), ("-wal", ".copying")):
+            with self.subTest(before):
+                self.setUp()
+                self.check_named(before)
+
+    def check_named(self, before: Sequence[str]) -> None:
         copier = self.copier()
         self.slots = [["pgoutput", "t", "f", str(POINT)]]
         self.checkpoint.write(
             True, phase=COPIED, system="77", slot="pgsub", confirmed=POINT, position=POINT
         )
-        for suffix in (".copying", "-wal"):
+        for suffix in before:
             with open(f"{self.far}/shop.db{suffix}", "wb"):
                 pass
+        self.patch(FakeFilter, "start", lambda *_: POINT)
         copier.run()
         self.assertEqual(
             (self.filter.sent, sorted(os.listdir(self.far))), (b"", ["shop.db", "shop.db-wal"])
@@ -361,13 +421,12 @@ class Linked(Copying):
 
     def test_rows_that_come_by_another_name_stay(self) -> None:
         """As where the file's own name is a store, too, or another link's."""
-        with contextlib.closing(sqlite3.connect(part_of(self.store))) as base:
+        path = meant(self.store)
+        with contextlib.closing(sqlite3.connect(path)) as base:
             base.execute("BEGIN EXCLUSIVE")
-            with self.assertRaisesRegex(
-                Passing, "far/shop.db.copying: another program has it open"
-            ):
+            with self.assertRaisesRegex(Passing, "far/shop.db: another program has it open"):
                 self.copier().run()
-        self.assertEqual((os.path.exists(part_of(self.store)), self.server.commands), (True, []))
+        self.assertEqual((os.path.exists(path), self.server.commands), (True, []))
 
 
 class Order(Copying):
@@ -720,21 +779,19 @@ class Ends(Copying):
                     {'ALTER_REPLICATION_SLOT "pgsub" (FAILOVER false)'} if told else set(),
                 )
 
-    def test_a_slot_is_looked_at_while_a_filter_opens_its_store(self) -> None:
+    def test_a_slot_is_looked_at_while_a_filter_stores_the_last_rows(self) -> None:
         self.server.server_version = 180000
         self.patch(copy_slot, "LOOK", 0.0)
         self.server.answer("SELECT s.wal_status", [["reserved"]])
-        looks, start = list[int](), FakeFilter.start
+        looks, real = list[int](), FakeFilter.has_opened
 
-        def slow(fake: FakeFilter, check: Callable[[], None]) -> int:
-            before = len(self.server.told("ALTER_REPL"))
-            check()
-            looks.append(len(self.server.told("ALTER_REPL")) - before)
-            return start(fake, check)
+        def slow(fake: FakeFilter) -> bool:
+            looks.append(len(self.server.told("ALTER_REPL")))
+            return len(looks) > 3 and real(fake)
 
-        self.patch(FakeFilter, "start", slow)
+        self.patch(FakeFilter, "has_opened", slow)
         self.copier().run()
-        self.assertEqual(set(looks), {1})
+        self.assertEqual([it - looks[0] for it in looks], [0, 1, 2, 3])
 
     def test_how_often_depends_on_when_it_is_ended(self) -> None:
         for said, often, warned in (
@@ -797,14 +854,14 @@ class Ends(Copying):
             self.copier().run()
 
     def test_a_copy_that_was_complete(self) -> None:
-        """Cut off between the slot and the renaming."""
+        """Cut off before the slot was made one that standbys get."""
         copier = self.copier(failover=True)
         self.slots = [["pgoutput", "t", "f", str(POINT)]]
         self.checkpoint.write(
             True, phase=COPIED, system="77", slot="pgsub", confirmed=POINT, position=POINT
         )
         self.patch(FakeFilter, "start", lambda *_: POINT)
-        with open(self.store + ".copying", "wb"):
+        with open(self.store, "wb"):
             pass
         self.remembered.begin(Catalog(("pgsub", "pgsub_inserts"), 0, 0, {}, {}, {}, {}))
         copier.run()
@@ -832,6 +889,9 @@ class Kept(Copying):
         self.names.append(["16390", "public", "other"])
         self.columns += [["16390", "1", "id", "23", "-1"], ["16390", "2", "n", "23", "-1"]]
         self.server.answer("pg_relation_filenode", [["16385", "1"], ["16390", "2"]])
+        # how many rows of each table the store has
+        self.stored = collections.Counter({STOCK.oid: 2, OTHER.oid: 1})
+        self.patch(interrupted, "counted_rows", lambda *_: self.stored)
         real = FakeFilter.start
 
         def start(fake: FakeFilter, check: Callable[[], None]) -> int:
@@ -927,13 +987,7 @@ class Kept(Copying):
 
     def test_so_it_is_within_one_run(self) -> None:
         self.breaks(ServerError("lost", "57P01"))
-        real = FakeFilter.start
-
-        def start(fake: FakeFilter, check: Callable[[], None]) -> int:
-            real(fake, check)
-            return 2 if fake.sent else 0
-
-        self.patch(FakeFilter, "start", start)
+        self.position = 2
         self.copier(jobs=1).run()
         self.assertTrue(self.filter.sent.endswith(frame(2, begin(2)) + frame(2, commit(2, POINT))))
         self.assertIn("warning: lost: the copy goes on", self.said)
@@ -941,7 +995,7 @@ class Kept(Copying):
 
     def test_it_begins_anew_where_nothing_is_stored_whole(self) -> None:
         self.cut()
-        self.position = 1
+        self.position, self.stored[STOCK.oid] = 1, 1
 
         def dropped(_: str) -> list[Row]:
             self.position = 0
@@ -1001,25 +1055,50 @@ class Kept(Copying):
         self.assertEqual((self.slots, len(self.server.told('DROP PUBLICATION "pgsub"'))), ([], 1))
 
     def test_several_connections(self) -> None:
-        """Each part is one transaction, with the rows of one table."""
+        """One table after the other, however they are read."""
+        for small in (0, 1 << 20):
+            with self.subTest(small):
+                self.setUp()
+                self.patch(table_reader, "SMALL", small)
+                self.server.answer("pg_table_size", [["16390", "700"], ["16385", "700"]])
+                self.check_several()
+
+    def check_several(self) -> None:
         self.patch(table_reader, "PART", 300)
         self.patch(table_reader, "BLOCK", 1)
         self.server.lines = [b"%d\t%d\n" % (it, it * it) for it in range(200)]
         self.copier(jobs=2).run()
         self.assertGreater(self.server.opened, 4)
-        subscriber, sent, at = Subscriber(Store(":memory:")), self.filter.sent, 0
-        while at < len(sent):
-            size = int.from_bytes(sent[at + 1 : at + 5], "big") + 1
-            subscriber.take(sent[at + 5 : at + size])
-            at += size
-        self.assertEqual(
-            {oid: len(rows) for oid, rows in subscriber.store.rows().items()},
-            {16385: 200, 16390: 200},
+        text = b"".join(map(text_frame, self.server.lines))
+        one, two = (table_frame(it) + text + END for it in (STOCK, OTHER))
+        self.assertIn(
+            self.filter.loaded, [one + two + point_frame(POINT), two + one + point_frame(POINT)]
         )
-        self.assertEqual(
-            (subscriber.store.position, self.progress.copy.tables, self.server.opened),
-            (POINT, 2, self.server.closed),
-        )
+        self.assertEqual((self.progress.copy.tables, self.server.opened), (2, self.server.closed))
+
+    def test_a_file_of_another_copy(self) -> None:
+        """Somebody has put it there: it isn't taken for what was interrupted, nor removed."""
+        self.cut()
+        self.check_other()
+
+    def test_a_file_of_another_copy_without_a_slot(self) -> None:
+        self.cut()
+        self.slots = []
+        self.check_other()
+
+    def check_other(self) -> None:
+        self.position = POINT + 8
+        self.patch(files_module, "position_in", lambda _: POINT + 8)
+        with self.assertRaisesRegex(Unfit, "is at 0/1000030, and no part of the copy"):
+            self.copier().run()
+        self.assertTrue(os.path.exists(self.store))
+
+    def test_one_that_is_complete_and_has_lost_its_slot_goes(self) -> None:
+        self.cut()
+        self.slots = []
+        self.patch(files_module, "position_in", lambda _: POINT)
+        self.copier().run()
+        self.assertEqual((self.progress.copy.rows, self.checkpoint.known.phase), (4, COPIED))
 
 
 class Left(Copying):

@@ -28,6 +28,7 @@ from pgsub_connect.server.session import Subscription
 from pgsub_connect.status.files import status_fields
 from pgsub_connect.status.metrics import metrics_text
 from pgsub_connect.status.progress import Progress
+from pgsub_connect.store.checkpoint_lines import COPYING, SLOT, Known
 from pgsub_connect.stream.common import Common, Tolerance
 from pgsub_connect.stream.filter_end import FilterEnded
 from pgsub_connect.stream.statuses import Reached
@@ -398,6 +399,33 @@ class Refused(Quiet):
             self.feeding().check()
         os.rmdir(self.store + ".feed/readers")
         self.feeding().check()
+
+    def test_what_an_interrupted_copy_has_left_is_its_own(self) -> None:
+        """First rows, or an empty segment of one that was almost complete. That one can't begin
+        anew."""
+        feeding = self.feeding()
+        feeding.checkpoint.known = Known(phase=SLOT)
+        feeding.remembered.note_feed(feeding.folder)
+        os.makedirs(self.store + ".feed/base")
+        feeding.check()
+        feeding.rows_beside().prepare()
+        Path(self.store + ".feed", f"{0x1000028:016x}").touch()
+        feeding.check()
+        with self.assertRaisesRegex(Unfit, "an older copy has left: .*copy.db.feed. "):
+            feeding.rows_beside().prepare()
+        feeding.checkpoint.known = Known(phase=COPYING)
+        with self.assertRaisesRegex(Unfit, "an older copy has left: .*copy.db.feed. "):
+            feeding.check()
+
+    def test_what_a_filter_that_loads_is_told(self) -> None:
+        feeding = self.feeding()
+        feeding.checkpoint.known = Known(system="7", database="shop", slot="pgsub")
+        wanted = ["--feed", self.store + ".feed", "--feed-system", "7"]
+        wanted += ["--feed-database", "shop", "--feed-slot", "pgsub"]
+        self.assertEqual(feeding.rows_beside().filter_words(), wanted)
+        told = Subscription(), Tolerance(), mock.Mock(), Progress(), Remembered(self.store)
+        without = Feeding(FeedSettings(self.store), Common(*told))
+        self.assertEqual(without.rows_beside().filter_words(), ())
 
     def test_a_folder_that_cant_be_made(self) -> None:
         Path(self.store + ".feed").write_text("")

@@ -4,16 +4,19 @@ from __future__ import annotations
 
 import os
 import select
+import subprocess
 import time
 import tracemalloc
 import unittest
 from pathlib import Path
 from unittest import mock
 
+from pgsub_connect.copy.load import frame as load_frame
+from pgsub_connect.copy.load import point_frame, table_frame
 from pgsub_connect.errors import FilterFault
 from pgsub_connect.stream import filter as filter_module
-from pgsub_connect.stream.filter import Filter
-from pgsub_connect.stream.filter_end import MISSED, FilterEnded, Missing, missing_of
+from pgsub_connect.stream.filter import LOAD, Filter
+from pgsub_connect.stream.filter_end import BROKEN, MISSED, FilterEnded, Missing, missing_of
 from pgsub_connect.stream.filter_input import PIECE, ROOM
 from pgsub_connect.stream.messages import (
     COPY_DONE,
@@ -27,6 +30,7 @@ from pgsub_connect.stream.messages import (
 from pgsub_feed.errors import Stopped
 
 from .fake_server import Quiet
+from .test_copying import STOCK
 from .vectors import begin, commit, delete, insert, keepalive
 
 FAKE = os.path.join(os.path.dirname(os.path.abspath(__file__)), "fake_filter.py")
@@ -194,6 +198,55 @@ class Ends(Case):
     def test_no_program(self) -> None:
         with self.assertRaisesRegex(FilterFault, "No such file"):
             self.filter("/nonexistent/pgsub").start()
+
+
+class Loads(Case):
+    """A filter that reads tables before its first session, and stays."""
+
+    POINT = 0x1000028
+
+    def loaded(self, *words: str) -> Filter:
+        child = self.filter()
+        child.add_words(words)
+        child.launch(LOAD)
+        self.addCleanup(child.kill)
+        for it in (table_frame(STOCK), load_frame(b"t", b"1\t5\n"), load_frame(b"e")):
+            child.push_load(it)
+        return child
+
+    def test_it_confirms_nothing_before_its_end_and_follows_then(self) -> None:
+        child = self.loaded()
+        until = time.monotonic() + 60
+        while not os.path.exists(self.store) or Path(self.store).read_text() != "1":
+            child.serve(0.05)
+            self.assertLess(time.monotonic(), until)
+        self.assertFalse(child.has_opened())
+        child.push_load(point_frame(self.POINT))
+        while not child.has_opened():
+            child.serve(0.05)
+        self.assertEqual((child.confirmed(), child.in_session), (self.POINT, False))
+        child.push(framed(begin(self.POINT, 7), insert(1), commit(self.POINT, self.POINT + 8)))
+        while child.confirmed() != self.POINT + 8:
+            child.serve(0.05)
+
+    def test_a_cut(self) -> None:
+        child = self.loaded()
+        child.finish()
+        ended = self.end(child)
+        self.assertEqual((ended.status, ended.said), (BROKEN, "pgsub: load 9 CutInput"))
+        self.assertFalse(ended.is_rejection())
+
+    def test_a_watch_begins_with_the_next_one(self) -> None:
+        """It would take a load for a session."""
+        for stops in (True, False):
+            watch = ("--watch", "stop" if stops else "tell")
+            with mock.patch("subprocess.Popen", side_effect=subprocess.Popen) as run:
+                child = self.loaded(*watch, "--cache", "9")
+            words = run.call_args[0][0]
+            self.assertNotIn("--watch", words)
+            self.assertEqual(words[-5:], ["--cache", "9", "--proto", "2", LOAD])
+            self.assertEqual((child.is_to_stop(), tuple(child.words[-4:-2])), (stops, watch))
+            child.kill()
 
 
 class Misses(Case):

@@ -17,7 +17,6 @@ from unittest import mock
 
 from pgsub_connect.copy import table_reader, tables as tables_module
 from pgsub_connect.copy.copier import Copier
-from pgsub_connect.copy.messages import InsertHeads, inserts
 from pgsub_connect.copy.rows_beside import RowsBeside
 from pgsub_connect.drift.remembered import Remembered
 from pgsub_connect.errors import ServerError
@@ -27,7 +26,8 @@ from pgsub_connect.follow.process_beside import Beside, TablesSettings
 from pgsub_connect.server.catalog import Table
 from pgsub_connect.status.progress import Progress
 from pgsub_connect.store import copied_rows
-from pgsub_connect.store.copied_rows import DONE, Wanted, filled
+from pgsub_connect.store.checkpoint_lines import COPIED
+from pgsub_connect.store.copied_rows import DONE, Wanted, filled, rows_frame
 from pgsub_feed.errors import Stopped
 from pgsub_feed.interruption import never
 from pgsub_feed.relation import Column, Shape
@@ -82,7 +82,7 @@ class Case(Quiet):
 
 
 def frames(table: Table, *lines: bytes) -> bytes:
-    return inserts(list(lines), InsertHeads(table, 0))
+    return rows_frame(table.oid, len(table.columns), list(lines))
 
 
 class Filled(Case):
@@ -156,18 +156,31 @@ class Process(Case):
 
     def begin(self) -> None:
         self.it.begin(POINT)
-        self.it.take(frames(STOCK, b"1\t5\n"))
+        self.it.take(STOCK, [b"1\t5\n"])
 
     def test_to_the_end(self) -> None:
         self.begin()
         self.assertEqual(self.left()[1:], [])
-        self.it.take(frames(STOCK, b"2\t6\n"))
+        self.it.take(STOCK, [b"2\t6\n"])
         self.it.end()
         self.it.wait()
         self.assertEqual(self.read(STOCK), [(1, 5), (2, 6)])
         self.assertIn(f"tables: {self.rows} was made with the copy", self.said)
         self.it.abandon()
         self.assertEqual(self.left(), ["rows.db"])
+
+    def test_what_follows_may_alter_tables(self) -> None:
+        """The rows are as of the copy, and so are their columns."""
+        self.it.begin(POINT)
+        self.it.is_ready(never)
+        wider = dataclasses.replace(
+            STOCK.shape, columns=(*STOCK.shape.columns, Column("x", 23, -1, False))
+        )
+        self.remember(dataclasses.replace(STOCK, shape=wider))
+        self.it.take(STOCK, [b"1\t5\n"])
+        self.it.end()
+        self.it.wait()
+        self.assertEqual(self.read(STOCK), [(1, 5)])
 
     def test_an_end_that_is_asked_for_waits_for_what_has_come(self) -> None:
         self.begin()
@@ -183,7 +196,7 @@ class Process(Case):
             assert self.it.child
             if is_stopped:
                 os.kill(self.it.child.pid, signal.SIGSTOP)
-            block = frames(STOCK, *(b"%d\t0\n" % it for it in range(100000)))
+            block = [b"%d\t0\n" % it for it in range(100000)]
             writing = threading.Thread(target=self.write, args=(block,))
             writing.start()
             time.sleep(0.3)
@@ -192,9 +205,9 @@ class Process(Case):
             self.assertFalse(writing.is_alive())
             self.assertEqual(self.left(), [])
 
-    def write(self, block: bytes) -> None:
+    def write(self, block: list[bytes]) -> None:
         for _ in range(20):
-            self.it.take(block)
+            self.it.take(STOCK, block)
 
     def test_killed(self) -> None:
         """The copy goes on without it, and the tables are made from the store."""
@@ -207,7 +220,7 @@ class Process(Case):
         self.it.child.kill()
         self.it.child.wait()
         for _ in range(5):
-            self.it.take(frames(STOCK, *(b"%d\t0\n" % it for it in range(100000))))
+            self.it.take(STOCK, [b"%d\t0\n" % it for it in range(100000)])
         self.it.end()
         self.it.wait()
         self.assertIn(f"tables: {self.rows} is made from the store", self.said)
@@ -259,8 +272,8 @@ class Noting(RowsBeside):
     def begin(self, point: int) -> None:
         self.told.append(point)
 
-    def take(self, frames: bytes) -> None:
-        self.told.append(frames)
+    def take(self, table: Table, lines: list[bytes]) -> None:
+        self.told.append((table.oid, lines))
 
     def end(self) -> None:
         self.told.append("end")
@@ -278,14 +291,13 @@ class Told(Copying):
 
     def test_all_rows(self) -> None:
         self.copier().run()
-        rows = inserts(self.server.lines, InsertHeads(STOCK, 0))
-        self.assertEqual(self.noting.told, [POINT, rows, "end"])
+        self.assertEqual(self.noting.told, [POINT, (STOCK.oid, self.server.lines), "end"])
 
-    def test_the_end_comes_once_the_store_has_its_name(self) -> None:
-        there: list[bool] = []
-        self.patch(Noting, "end", lambda _: there.append(os.path.exists(self.store)))
+    def test_the_end_comes_once_the_store_is_complete(self) -> None:
+        phases: list[str] = []
+        self.patch(Noting, "end", lambda _: phases.append(self.checkpoint.known.phase))
         self.copier().run()
-        self.assertEqual(there, [True])
+        self.assertEqual(phases, [COPIED])
 
     def test_what_ends_the_copy(self) -> None:
         """It is told before the readers are waited for."""
@@ -299,7 +311,7 @@ class Told(Copying):
         self.server.answer("COPY (", lambda _: self.fails(left))
         self.copier().run()
         self.assertEqual(
-            [it for it in self.noting.told if not isinstance(it, bytes)],
+            [it for it in self.noting.told if not isinstance(it, tuple)],
             [POINT, "abandon", POINT, "end"],
         )
 

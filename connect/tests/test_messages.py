@@ -18,10 +18,10 @@ from pgsub_connect.copy.messages import (
     frame,
     inserts,
     relation,
-    unescaped,
 )
 from pgsub_connect.errors import WrongAnswer
 from pgsub_connect.server.catalog import Table
+from pgsub_connect.server.copied_text import tuples, unescaped
 from pgsub_feed.relation import Column, Shape
 
 from .drawn import ANY
@@ -74,6 +74,8 @@ class Widths(unittest.TestCase):
             with self.assertRaisesRegex(WrongAnswer, "another width than 2 columns") as raised:
                 inserts([line], InsertHeads(table_of(2), 0))
             self.assertTrue(raised.exception.is_lasting())
+            with self.assertRaisesRegex(WrongAnswer, "another width than 2 columns"):
+                tuples(line, 2)
 
 
 class Bytes(unittest.TestCase):

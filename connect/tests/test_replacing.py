@@ -9,9 +9,9 @@ import unittest
 from collections.abc import Iterator
 
 from pgsub_connect.add.replacement import Leaving, Rows, payload_of
-from pgsub_connect.copy.messages import NULL
 from pgsub_connect.errors import ServerError
 from pgsub_connect.server.catalog import Table
+from pgsub_connect.server.copied_text import NULL
 from pgsub_connect.stream.messages import final_lsn
 from pgsub_feed.reader.commits import XID
 from pgsub_feed.relation import Column, Shape

@@ -283,7 +283,7 @@ class Words(Quiet):
 
     def filter_words(self, *words: str) -> list[str]:
         options = self.settled("--max-buffered", "5000", "--pgsub", "/bin/pgsub", *words)
-        return follow.make_filter(options, mock.Mock(file=3), "/nonexistent/s").words
+        return follow.make_filter(options, mock.Mock(file=3)).words
 
     def test_words_of_the_filter(self) -> None:
         words = [

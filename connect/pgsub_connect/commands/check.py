@@ -3,7 +3,6 @@
 import argparse
 import dataclasses
 import json
-import os
 import sys
 
 from pgsub_feed.interruption import Check, never
@@ -15,6 +14,7 @@ from ..preconditions.judged import results
 from ..preconditions.server import ERROR, Purpose
 from ..server.preflight import all_facts
 from ..server.transport import OWN
+from ..store.completeness import is_whole
 from .arguments.publishing import CopyOptions, add_copying, check_publishing
 from .arguments.server import StoreOptions, settled_store
 from .arguments.words import each
@@ -38,7 +38,7 @@ class Options(StoreOptions, CopyOptions):
     json: bool = option("--json", "print a JSON array", False)
 
     def purpose(self) -> Purpose:
-        has_store, copies = bool(self.store and os.path.exists(self.store)), not self.no_copy
+        has_store, copies = bool(self.store and is_whole(self.store)), not self.no_copy
         more = self.failover, self.keyless, self.all_tables
         # (where nothing is said of a start without a store, it is one with --create)
         return Purpose(self.slot, has_store, bool(self.create) or copies, copies, *more)

@@ -10,6 +10,7 @@ import os
 import signal
 
 from pgsub_feed.errors import Stopped, Unfit
+from pgsub_feed.files import meant
 from pgsub_feed.interruption import Check
 from pgsub_feed.options import add_fields, option
 from pgsub_feed.program import Worker, stop_by_signals
@@ -33,8 +34,8 @@ from ..status.notify import notifier_of
 from ..status.progress import Progress
 from ..store.checkpoint import Checkpoint
 from ..store.checkpoint_lines import FOLLOWING, INTERRUPTED
+from ..store.completeness import is_whole
 from ..store.placing import check_meant
-from ..store.snapshot import part_of
 from ..stream.common import Common, Tolerance
 from ..stream.filter import Filter
 from .arguments import words
@@ -134,9 +135,7 @@ def settled(options: Options) -> Options:
     # (the program is told the whole path of a feed)
     feed = os.path.abspath(options.feed) if options.feed else ""
     told = [("--store", options.store), ("--pgsub", options.pgsub), ("--feed", feed)]
-    told = [*each("--table", options.table), *told]
-    if not os.path.exists(options.store):
-        told.append(("--store", part_of(options.store)))
+    told = [*each("--table", options.table), *told, ("--store", meant(options.store))]
     return settled_sizes(settled_server(options, options.store, options.keyless, told))
 
 
@@ -233,10 +232,9 @@ def made(options: Options, checkpoint: Checkpoint) -> Parts:
     common = Common(subscription, tolerance, checkpoint, progress, remembered)
     feeding = Feeding(options.feed_settings(store, mode), common)
     feeding.check()
-    part, child = (make_filter(options, checkpoint, it) for it in (part_of(store), store))
-    # (the rows of a copy are no server's session)
+    child = make_filter(options, checkpoint)
     child.add_words(["--watch", "stop" if tolerance.stops else "tell"])
-    told = subscription, checkpoint, part, progress, remembered
+    told = subscription, checkpoint, child, progress, remembered
     copier = Copier(options.copy_settings(), *told, feeding.rows_beside())
     recording, requests = recording_of(options), RequestSocket(store, mode)
     snapshots = Snapshots(store, requests, options.snapshot, options.snapshot_every, mode)
@@ -259,8 +257,8 @@ def recording_of(options: Options) -> Aside | None:
     return Aside(Recording(options.record, True, options.bytes, options.mode))
 
 
-def make_filter(options: Options, checkpoint: Checkpoint, path: str) -> Filter:
-    words = [options.pgsub, "follow", "--store", path]
+def make_filter(options: Options, checkpoint: Checkpoint) -> Filter:
+    words = [options.pgsub, "follow", "--store", meant(options.store)]
     words += ["--max-buffered", str(options.max_buffered), "--max-frame", str(options.max_frame)]
     words += ["--cache", str(options.cache)] if options.cache else []
     return Filter(words, (checkpoint.file,), options.proto, options.mode)
@@ -269,7 +267,7 @@ def make_filter(options: Options, checkpoint: Checkpoint, path: str) -> Filter:
 def follow_with(options: Options, parts: Parts) -> None:
     """Makes the copy where there is none, and follows."""
     follower = parts.follower
-    if not os.path.exists(options.store):
+    if not is_whole(options.store):
         begin(options, parts)
         follower.start.note_connected(parts.copier.was_connected)
     elif options.table or options.all_tables:
@@ -284,6 +282,10 @@ def begin(options: Options, parts: Parts) -> None:
     """What a start does where there is no store."""
     subscription, tolerance, checkpoint, _, remembered = parts.common
     is_interrupted = checkpoint.known.phase in INTERRUPTED
+    if options.no_copy and os.path.exists(options.store):
+        raise Unfit(
+            f"{options.store} lacks rows, since its copy was interrupted: leave --no-copy out to go on with it, or `pgsub-connect drop` it"
+        )
     if (options.create or is_interrupted) and not options.no_copy:
         return parts.copier.run()
     if checkpoint.known.phase == FOLLOWING and not tolerance.accepts("gap"):

@@ -1,16 +1,16 @@
-"""The initial copy: the rows that were there before the slot, as transactions that come before all
-that the slot sends.
+"""The initial copy: the rows that were there before the slot.
 
-The rows are those of the snapshot that a slot exports (`copy.copy_slot`), each part of them a
-transaction (`copy.sender`). The last one ends at the slot's consistent point P, so a store is at
-that LSN exactly if no more rows come in this way. The filter works on `STORE.copying`, which gets
-its own name then (`copy.files`). What a fault leaves, by the checkpoint's phase:
+They are those of the snapshot that a slot exports (`copy.copy_slot`), and the filter loads them as
+COPY's own text before its first session (`copy.load`, `copy.sender`). Its load ends at the slot's
+consistent point P, so a store is at that LSN exactly if no more rows come in this way; before, it is
+at a position that is none of a server's. The filter stays, and follows. What a fault leaves, by the
+checkpoint's phase:
 
 | Phase | The lasting slot | How it goes on |
 |---|---|---|
 | `copying` | isn't there | begins anew |
-| `slot` | is there at P, or isn't | the tables whose last part is stored are kept, and follow from the slot; the others are added one by one |
-| `copied` | is there at P | the file gets its name |
+| `slot` | is there at P, or isn't | the tables are kept of which the store has as many rows as were read, and follow from the slot; the others are added one by one |
+| `copied` | is there at P | the store is complete |
 
 It begins anew, and the slot is dropped, where no table is stored whole, or one that isn't is too
 large to be added by itself. A table that was altered, truncated or locked beside the slot is added
@@ -36,8 +36,8 @@ from ..server import transport
 from ..server.catalog import Table
 from ..server.connection import Connection
 from ..server.publication_setup import Wanted
-from ..server.publications import estimated_rows, sizes_of, stored_in
-from ..server.session import Server, Subscription, identify, is_lost, settle, slot_position
+from ..server.publications import estimated_rows, stored_in
+from ..server.session import Server, Subscription, identify, settle, slot_position
 from ..server.waits import Waiting, lock_text
 from ..status.progress import Progress
 from ..store.checkpoint import Checkpoint
@@ -47,14 +47,15 @@ from ..stream.filter_end import FilterEnded
 from ..stream.memory_limit import BufferLimits, limit_text
 from .copy_slot import CopySlot, is_left_open
 from .files import CopyFiles
+from .interrupted import Interrupted
 from .rows_beside import RowsBeside
 from .sender import Sender
 from .slots import drop_slot, maker_of, set_failover
-from .table_reader import LOCK_TIMEOUT, Item, Items, Left, Part, Readers
+from .table_reader import LOCK_TIMEOUT, Item, Items, Left, Part, Readers, Reading
 from .tables import CopiedTables
 from .tries import CHANGED, Tries
 
-# how often it is noted which tables are stored whole, in seconds
+# how often it is noted how many rows tables have, in seconds
 NOTED = 1.0
 
 
@@ -92,18 +93,20 @@ class Copier(Worker):
         self.files = CopyFiles(settings.store, settings.mode)
         self.slot = CopySlot(subscription, self.check_stop)
         self.sender = Sender(child, self.slot)
-        self.tables = CopiedTables(subscription, remembered)
+        self.tables = tables = CopiedTables(subscription, remembered)
+        most = settings.limits.max_buffered
+        self.interrupted = Interrupted(self.files, tables, self.sender, most)
         self.maker = maker_of(
             subscription, settings.wanted, self.check_stop, require_reading, remembered
         )
-        # when it was noted last which tables are stored whole
-        self.noted = 0.0
+        # how many rows of a table were sent, and when it was noted last how many tables have
+        self.rows, self.noted = 0, 0.0
         self.meter = Meter("copying")
 
     def run(self) -> None:
         """Copies until it is done, anew where the server or the filter is lost. Where no copy comes
         of it, what was made goes."""
-        self.files.take(self.checkpoint.known.phase in (COPYING, SLOT, COPIED))
+        self.files.take(self.checkpoint.known.phase)
         tries = Tries()
         try:
             while not self.attempted(tries):
@@ -123,6 +126,8 @@ class Copier(Worker):
                 and error.is_lasting()
             )
             if self.remembered.copied and not is_lasting:
+                with contextlib.suppress(FileError, Passing):
+                    self.remembered.save()
                 log.info(
                     "the slot stays, and the next start goes on with what was copied; `pgsub-connect drop` ends it"
                 )
@@ -135,10 +140,11 @@ class Copier(Worker):
 
     def attempted(self, tries: Tries) -> bool:
         """One attempt. Returns whether it made the copy, and raises where another one makes no
-        sense."""
+        sense. The filter stays where it has loaded all rows."""
+        is_made = False
         try:
             self.attempt()
-            return True
+            is_made = True
         except FilterEnded as ended:
             if text := limit_text(ended, self.settings.limits, (0, 0), self.sender.longest):
                 log.error(text)
@@ -157,9 +163,10 @@ class Copier(Worker):
                 tries.note(error.sqlstate, error)
             self.note(str(error))
         finally:
-            self.filter.kill()
+            if not is_made:
+                self.filter.kill()
             self.slot.close()
-        return False
+        return is_made
 
     def note(self, text: str) -> None:
         log.warning(f"{text}: the copy {'goes on' if self.remembered.copied else 'begins anew'}")
@@ -203,7 +210,7 @@ class Copier(Worker):
         known, slot = self.checkpoint.known, self.subscription.slot
         is_ours = (known.system, known.slot, known.confirmed) == (server.system, slot, slot_at)
         if not is_ours or not (
-            known.phase == SLOT or known.phase == COPIED and self.is_complete(slot_at)
+            known.phase == SLOT or known.phase == COPIED and self.interrupted.is_complete(slot_at)
         ):
             raise Unfit(
                 f"the slot {slot} is there already, and there is no store {self.settings.store}: drop the slot, or name"
@@ -237,7 +244,7 @@ class Copier(Worker):
         """Removes what an earlier run left."""
         self.progress.copy.begin()
         self.tables.clear()
-        self.files.clear()
+        self.files.clear(self.checkpoint.known.position)
         self.remembered.begin_anew()
 
     def copy(self, plain: Connection) -> None:
@@ -265,9 +272,11 @@ class Copier(Worker):
         self.make_lasting(temporary, point)
         log.info(f"copying {counted(len(tables), 'table')} as of {lsn_text(point)}")
         read = [it for it in tables if it.oid not in self.tables.later]
+        settings, sizes = self.settings, self.tables.sizes
+        reading = Reading(settings.jobs, snapshot, read, sizes, files, settings.limits.max_frame)
         # (from here on another thread asks the connection)
         with plain.checked_by(self.check_stop), contextlib.closing(
-            Readers(subscription, self.settings.jobs, snapshot, read, files, plain, beside)
+            Readers(subscription, reading, plain, beside)
         ) as readers:
             self.send(readers, point)
         if self.tables.forget_gone(plain):
@@ -289,10 +298,7 @@ class Copier(Worker):
 
     def send(self, readers: Readers, point: int) -> None:
         """Sends all rows to a filter on a new file."""
-        if self.filter.start(self.slot.check) != 0:
-            raise FileError(f"{self.files.part}: not a new store")
-        self.files.set_mode()
-        self.sender.begin()
+        self.sender.begin(self.beside.filter_words())
         self.beside.begin(point)
         readers.begin()
         try:
@@ -311,17 +317,20 @@ class Copier(Worker):
         self.sender.wait_for(items.has_news, items.reads)
         while not (item := items.take()) and items.writers:
             self.sender.wait_for(items.has_news, items.reads)
+        assert item or items.is_empty()
         return item
 
     def send_part(self, part: Part) -> None:
-        """Sends some rows. The last ones of a table tell that it is stored whole, once they are."""
+        """Sends some rows. Behind the last ones of a table it is noted how many it has: so a next
+        start knows whether it is stored whole."""
         self.progress.copy.begin_part(part.table.text())
-        end = self.sender.send_part(part)
+        self.sender.send_part(part)
         copy = self.progress.copy
         copy.note_part(part.rows, part.is_last)
         self.meter.note(copy.rows, copy.total_rows, part.table.text())
+        self.rows = part.rows if part.is_first else self.rows + part.rows
         if part.is_last:
-            self.remembered.note_copied(part.table.oid, end)
+            self.remembered.note_copied(part.table.oid, self.rows)
             if time.monotonic() - self.noted > NOTED:
                 self.remembered.save()
                 self.noted = time.monotonic()
@@ -329,70 +338,41 @@ class Copier(Worker):
     def end_copy(self, point: int) -> None:
         """Brings the store to the slot's consistent point, from where all tables follow; the others
         are noted before, to be added."""
-        self.tables.want_later(point)
-        self.progress.copy.end()
-        self.sender.end(point)
+        self.end_tables(point)
+        if self.beside.is_ready(self.slot.check):
+            self.sender.end(point)
+        else:
+            self.sender.cut()
+            self.interrupted.bring(point)
         self.note_complete(point)
 
+    def end_tables(self, point: int) -> None:
+        """Notes all that a next start has to know once the store is at that point."""
+        self.tables.want_later(point)
+        self.remembered.save()
+        self.progress.copy.end()
+
     def note_complete(self, point: int) -> None:
+        self.files.keep()
         self.checkpoint.write(True, phase=COPIED, confirmed=point, position=point)
 
     def goes_on(self, replication: Connection, point: int) -> bool:
         """Goes on with the tables that an earlier attempt has stored whole. Returns false where
         nothing comes of them."""
-        if not self.remembered.copied or not self.remembered.catalog or not self.files.is_there():
+        left = self.interrupted
+        if not left.is_of_use(replication):
             return False
-        slot = self.subscription.slot
-        if is_lost(replication, slot):
-            log.info(f"the slot {slot} of an interrupted copy is lost: the copy begins anew")
-            return False
-        position = self.filter.start(self.slot.check)
-        whole = {oid for oid, end in self.remembered.copied.items() if end <= position}
-        missing, large = self.missing(whole)
-        if not whole or large or position > point:
-            log.info(
-                f"{large[0]} is too large to be added by itself: the copy begins anew"
-                if large
-                else "the copy begins anew"
-            )
-            self.filter.kill()
-            return False
-        log.info(
-            f"an interrupted copy goes on: {counted(len(whole), 'table')} stored, {counted(len(missing), 'table')} to be added one by one"
-        )
-        if position == point:
-            self.sender.finish()
-            self.note_complete(point)
-        else:
+        if (position := left.position()) != point:
+            self.files.check_own(position, point)
+            if (missing := left.missing()) is None:
+                return False
             self.tables.leave_cut(missing, point)
-            self.sender.begin(position)
-            self.end_copy(point)
+            self.end_tables(point)
+            left.bring(point)
+        self.note_complete(point)
         return True
 
-    def missing(self, whole: set[int]) -> tuple[list[Table], list[str]]:
-        """The published tables but for these, and the names of those that are too large to be added
-        by themselves."""
-        with contextlib.closing(self.slot.connect_plain()) as plain:
-            settle(plain)
-            missing = [it for it in self.tables.published(plain) if it.oid not in whole]
-            sizes, most = sizes_of(plain, missing), self.settings.limits.max_buffered // 2
-        return missing, [it.text() for it in missing if sizes.get(it.oid, 0) > most]
-
-    def is_complete(self, point: int) -> bool:
-        """Whether the file of an earlier run has all rows."""
-        if not self.files.is_there():
-            return False
-        if self.files.is_renamed_in_part():
-            return True
-        is_at_point = self.filter.start(self.slot.check) == point
-        try:
-            self.sender.finish()
-        except FilterEnded:
-            return False
-        return is_at_point
-
     def keep(self) -> None:
-        """The copy is there, under its own name."""
+        """The copy is there."""
         self.remembered.end_copy()
-        self.files.keep()
         self.beside.end()

@@ -1,4 +1,4 @@
-"""The files of an initial copy: under names of their own, until all rows are in them."""
+"""The files of an initial copy: the store's own. That it isn't complete, its checkpoint says."""
 
 import contextlib
 import os
@@ -7,58 +7,70 @@ from collections.abc import Iterator
 from pgsub_feed.errors import FileError, Unfit
 from pgsub_feed.files import LOG, meant, sync_folder
 from pgsub_feed.ownership import set_mode
+from pgsub_feed.texts import lsn_text
 
 from ..store.at_rest import hold
-from ..store.snapshot import COPYING
+from ..store.checkpoint_lines import COPIED, COPYING, SLOT
+from ..store.completeness import MOST_PARTS
+from ..store.snapshot import EARLIER, position_in
 
 
 class CopyFiles:
-    """The file `part` with its log, which get the names of the store's at the end. Where a link has
-    the store's name, both are where it leads."""
+    """A store's file and its log. Where a link has its name, both are where it leads."""
 
     def __init__(self, store: str, mode: int) -> None:
         self.store, self.mode = meant(store), mode
-        self.part = self.store + COPYING
+        # where an earlier version of this program has kept a copy that wasn't complete
+        self.earlier = self.store + EARLIER
 
-    def take(self, has_begun: bool) -> None:
+    def take(self, phase: str) -> None:
         """Checks, before a copy begins or goes on, that nothing of another one is in the way."""
         log_path = self.store + LOG
-        if os.path.exists(log_path) and not has_begun:
+        if os.path.exists(log_path) and phase not in (COPYING, SLOT, COPIED):
             raise Unfit(f"{log_path} is the log of a store that is gone: remove it to begin anew")
-        if os.path.exists(self.part):
-            # (the checkpoint of another name of this store doesn't keep its connector away)
-            os.close(hold(self.part))
+        for path in (self.store, self.earlier):
+            if os.path.exists(path):
+                # (the checkpoint of another name of this store doesn't keep its connector away)
+                os.close(hold(path))
+        if phase == COPIED and os.path.exists(self.earlier):
+            self.rename()
 
-    def is_there(self) -> bool:
-        return os.path.exists(self.part)
-
-    def is_renamed_in_part(self) -> bool:
-        """Whether a run that was complete has ended between the two renames of `keep`."""
-        return not os.path.exists(self.part + LOG) and os.path.exists(self.store + LOG)
-
-    def clear(self) -> None:
-        """Removes what an earlier run left."""
-        with told_of(self.part):
-            for it in (self.part, self.part + LOG, self.store + LOG):
-                with contextlib.suppress(FileNotFoundError):
-                    os.unlink(it)
-
-    def set_mode(self) -> None:
-        """Gives the files of the rows the mode that was asked for, whatever the filter made them
-        with."""
-        with told_of(self.part):
-            for it in (self.part, self.part + LOG):
-                with contextlib.suppress(FileNotFoundError):
-                    set_mode(it, self.mode)
-
-    def keep(self) -> None:
-        """Gives the files their own names, that of the store last."""
-        self.set_mode()
+    def rename(self) -> None:
+        """Gives a copy that an earlier version has completed its own name."""
         with told_of(self.store):
             with contextlib.suppress(FileNotFoundError):
-                os.rename(self.part + LOG, self.store + LOG)
-            os.rename(self.part, self.store)
-            sync_folder(self.part)
+                os.rename(self.earlier + LOG, self.store + LOG)
+            os.rename(self.earlier, self.store)
+            sync_folder(self.store)
+
+    def is_there(self) -> bool:
+        return os.path.exists(self.store)
+
+    def check_own(self, position: int, point: int) -> None:
+        """Rejects a file at a position that a copy up to this point doesn't leave."""
+        if MOST_PARTS < position != point:
+            raise Unfit(
+                f"{self.store} is at {lsn_text(position)}, and no part of the copy that was interrupted here: move it away to go on"
+            )
+
+    def clear(self, point: int) -> None:
+        """Removes what an earlier run left, of a copy up to this point, if any."""
+        if self.is_there():
+            self.check_own(position_in(self.store) or 0, point)
+        with told_of(self.store):
+            for it in (self.store, self.earlier):
+                for path in (it, it + LOG):
+                    with contextlib.suppress(FileNotFoundError):
+                        os.unlink(path)
+
+    def keep(self) -> None:
+        """Gives the files the mode that was asked for, whatever the filter made them with, and has
+        the disk keep their names."""
+        with told_of(self.store):
+            for it in (self.store, self.store + LOG):
+                with contextlib.suppress(FileNotFoundError):
+                    set_mode(it, self.mode)
+            sync_folder(self.store)
 
 
 @contextlib.contextmanager

@@ -1,23 +1,11 @@
 """The messages of the connector's own transactions, and how rows in COPY's text format become
-Inserts.
+Inserts."""
 
-Lines are encoded a block at a time and column by column, since a call for each value costs more
-than all else. Within a line only the server's own tabs and newlines are tabs and newlines: those of
-values come as `\\t` and `\\n`.
-"""
-
-import re
 import struct
 from collections.abc import Sequence
 
-from ..errors import WrongAnswer
 from ..server.catalog import Table
-
-NULL = b"\\N"
-ESCAPES = {b"\\b": b"\b", b"\\f": b"\f", b"\\n": b"\n", b"\\r": b"\r", b"\\t": b"\t", b"\\v": b"\v"}
-OTHER = re.compile(rb"\\(.)", re.S)
-# the heads of cells up to this length are kept
-KEPT = 1 << 12
+from ..server.copied_text import KEPT, NULL, put_cells
 
 
 def frame(lsn: int, body: bytes) -> bytes:
@@ -76,16 +64,6 @@ def delete(oid: int, kind: bytes, row: Sequence[bytes | None]) -> bytes:
     return struct.pack(">cIc", b"D", oid, kind) + cells(row)
 
 
-class CellHeads(dict[int, bytes]):
-    """What comes before a value, by the value's length."""
-
-    def __missing__(self, length: int) -> bytes:
-        head = struct.pack(">cI", b"t", length)
-        if length < KEPT:
-            self[length] = head
-        return head
-
-
 class InsertHeads(dict[int, bytes]):
     """What comes before the cells of a row in a transaction, by the length of all cells."""
 
@@ -102,21 +80,6 @@ class InsertHeads(dict[int, bytes]):
         return head
 
 
-CELL_HEADS = CellHeads()
-
-
-def unescaped(text: bytes) -> bytes:
-    """The value of a text that isn't null. An escaped backslash splits it into pieces in which each
-    other escape stands alone."""
-    pieces = text.split(b"\\\\")
-    for index, piece in enumerate(pieces):
-        if b"\\" in piece:
-            for escape, character in ESCAPES.items():
-                piece = piece.replace(escape, character)
-            pieces[index] = OTHER.sub(rb"\1", piece) if b"\\" in piece else piece
-    return b"\\".join(pieces)
-
-
 def cells_length(line: bytes, width: int) -> int:
     """How long the cells of a line are. An escape is a byte longer than what it stands for; a null
     is one byte, without a head.
@@ -128,35 +91,16 @@ def cells_length(line: bytes, width: int) -> int:
     return len(line) + 4 * width - escapes - 5 * nulls
 
 
-def encoded(column: list[bytes]) -> tuple[list[bytes], list[bytes]]:
-    """The heads and the values of a column's texts."""
-    if b"\\" not in b"".join(column):
-        return list(map(CELL_HEADS.__getitem__, map(len, column))), column
-    values = [
-        text if b"\\" not in text else None if text == NULL else unescaped(text) for text in column
-    ]
-    heads = [b"n" if value is None else CELL_HEADS[len(value)] for value in values]
-    return heads, [value or b"" for value in values]
-
-
 def inserts(lines: list[bytes], heads: InsertHeads) -> bytes:
     """The frames of the Inserts of lines in COPY's text format."""
     width = heads.width
     if not width:
         return heads[0] * len(lines)
-    block = b"".join(lines)
-    texts = block[:-1].replace(b"\n", b"\t").split(b"\t")
-    if len(texts) != width * len(lines):
-        raise WrongAnswer(f"the server copied rows of another width than {width} columns")
     step, extra = 2 * width + 1, 4 * width
     parts = [b""] * (len(lines) * step)
-    if b"\\" in block:
-        parts[::step] = [
-            heads[len(line) + extra if b"\\" not in line else cells_length(line, width)]
-            for line in lines
-        ]
-    else:
-        parts[::step] = [heads[len(line) + extra] for line in lines]
-    for index in range(width):
-        parts[2 * index + 1 :: step], parts[2 * index + 2 :: step] = encoded(texts[index::width])
+    parts[::step] = [
+        heads[len(line) + extra if b"\\" not in line else cells_length(line, width)]
+        for line in lines
+    ]
+    put_cells(b"".join(lines), width, parts)
     return b"".join(parts)

@@ -1,11 +1,13 @@
-"""Passes the rows of a copy on to the filter, each part of them as a transaction: their LSNs are 1,
-2, 3 .., and the last one, which is empty, ends at the slot's consistent point."""
+"""Passes the rows of a copy on to the filter as a load, whose end brings the store to the slot's
+consistent point. What an interrupted load has left is brought there by an empty transaction."""
 
-from collections.abc import Callable
+from collections.abc import Callable, Sequence
 
-from ..stream.filter import Filter
-from ..stream.filter_end import FilterEnded
+from ..stream.filter import LOAD, Filter
+from ..stream.filter_end import BROKEN, FilterEnded
 from .copy_slot import CopySlot
+from .load import END_OF_TABLE, Frame, point_frame, table_frame
+from .load import frame as load_frame
 from .messages import begin, commit, frame
 from .table_reader import Part
 
@@ -13,45 +15,56 @@ from .table_reader import Part
 class Sender:
     """Sends to a filter, and serves it, while the slot is looked at.
 
-    `lsn`: that of the last transaction; `longest`: the length of the longest row so far.
+    `longest`: the length of the longest row so far.
     """
 
     def __init__(self, child: Filter, slot: CopySlot) -> None:
         self.filter, self.slot = child, slot
-        self.lsn = self.longest = 0
+        self.longest = 0
 
-    def begin(self, position: int = 0) -> None:
-        """Goes on behind a store's position. (A part that has the LSN n ends at n + 1.)"""
-        self.lsn = max(position - 1, 0)
+    def begin(self, words: Sequence[str]) -> None:
+        """Starts a filter that loads. It confirms nothing before the end of that."""
+        self.filter.launch(LOAD, *words)
 
-    def send_part(self, part: Part) -> int:
-        """Sends some rows as a transaction, and returns where it ends."""
+    def send_part(self, part: Part) -> None:
+        """Sends some rows of a table, of which no other one comes before its last rows."""
         self.longest = max(self.longest, part.longest)
-        self.begin_transaction()
+        if part.is_first:
+            self.send(table_frame(part.table))
         for frames in part.frames:
             self.send(frames)
-        return self.end_transaction(self.lsn + 1)
+        if part.is_last:
+            self.send(load_frame(END_OF_TABLE))
 
     def end(self, point: int) -> None:
-        """Brings the store to the slot's consistent point, and ends the filter."""
-        self.begin_transaction()
-        self.end_transaction(point)
-        self.wait_for(lambda: self.filter.confirmed() == point)
-        self.finish()
+        """Brings the store to the slot's consistent point. The filter stays, and follows, unless it
+        is to stop by what it watches: that begins with the next one."""
+        self.send(point_frame(point))
+        self.wait_for(lambda: self.filter.has_opened() and self.filter.confirmed() == point)
+        if self.filter.is_to_stop():
+            self.finish()
 
-    def begin_transaction(self) -> None:
-        self.lsn += 1
-        self.send(frame(self.lsn, begin(self.lsn)))
-
-    def end_transaction(self, end: int) -> int:
-        self.send(frame(self.lsn, commit(self.lsn, end)))
-        return end
-
-    def send(self, frames: bytes) -> None:
+    def send(self, frames: Frame) -> None:
         """Sends frames to the filter, and waits while it has enough to do."""
-        self.filter.push(frames)
+        self.filter.push_load(frames)
         self.slot.check_all()
         self.wait_for(self.filter.has_room)
+
+    def cut(self) -> None:
+        """Ends a load before its point: the store keeps what has come of it."""
+        try:
+            self.finish()
+        except FilterEnded as ended:
+            if ended.status != BROKEN:
+                raise
+
+    def bring(self, position: int, point: int) -> None:
+        """Brings a store that a load has left to the slot's consistent point, and ends the
+        filter."""
+        lsn = max(position, 1)
+        self.filter.push(frame(lsn, begin(lsn)) + frame(lsn, commit(lsn, point)))
+        self.wait_for(lambda: self.filter.confirmed() == point)
+        self.finish()
 
     def wait_for(self, condition: Callable[[], bool], *reads: int) -> None:
         """Serves the filter until something holds. `reads`: what tells by something to read that it

@@ -6,8 +6,9 @@ table that somebody else has locked comes later, after those that aren't. Under 
 to be what it was before the snapshot, in its name, columns and files: one that was truncated or
 written anew reads empty in an older snapshot. Any other is left out, and told.
 
-The rows come in parts of some megabytes, as the frames of a transaction without Begin and Commit.
-Each connection has a thread, which waits once a few of its parts weren't taken.
+The rows come in parts of a megabyte, table after table: beside a large one others are read that
+are small, whole, and wait then. Each connection has a thread, which waits once a few parts weren't
+taken.
 """
 
 from __future__ import annotations
@@ -18,7 +19,7 @@ import dataclasses
 import os
 import threading
 import time
-from collections.abc import Iterator
+from collections.abc import Iterator, Mapping
 
 from pgsub_feed import log
 from pgsub_feed.texts import literal
@@ -28,12 +29,14 @@ from ..server.catalog import Table
 from ..server.connection import Connection
 from ..server.publications import are_so_named, stored_in
 from ..server.session import Subscription, settle
-from .messages import InsertHeads, frame, inserts, relation
+from .load import Frame, text_frames
 from .rows_beside import RowsBeside
 
-# How many bytes a part has about, how many are encoded at a time, and how many parts of a
-# connection wait at most.
-PART, BLOCK, AHEAD = 4 << 20, 1 << 17, 2
+# How many bytes a part has about, how many are read at a time, how many parts of the table that is
+# taken wait at most, and how many of others by connection.
+PART, BLOCK, AHEAD = 1 << 20, 1 << 17, 4
+# How large a table is at the server that is read beside others, in bytes.
+SMALL = 4 << 20
 # For how long a lock of somebody else is waited for, and how often it is tried, in seconds.
 PATIENCE, LOOK = 60.0, 0.1
 LOCK_TIMEOUT, DENIED, NO_SNAPSHOT = "55P03", "42501", "22023"
@@ -43,21 +46,23 @@ GONE = ("42P01", "42703", "42704")
 
 @dataclasses.dataclass
 class Part:
-    """Some rows of a table, the first ones behind its Relation message. `is_last`: no others
-    follow."""
+    """Some rows of a table, as the frames of a load. `is_first`, `is_last`: no others come before
+    them, or follow."""
 
     table: Table
-    frames: list[bytes] = dataclasses.field(default_factory=list)
+    is_first: bool
+    frames: list[Frame] = dataclasses.field(default_factory=list)
     rows: int = 0
     longest: int = 0
     size: int = 0
     is_last: bool = False
 
-    def add(self, frames: bytes, lines: list[bytes]) -> None:
-        self.frames.append(frames)
+    def add(self, lines: list[bytes], most: int) -> None:
+        self.frames += text_frames(lines, most)
         self.rows += len(lines)
-        self.longest = max(self.longest, len(max(lines, key=len)))
-        self.size += len(frames)
+        lengths = [*map(len, lines)]
+        self.longest = max(self.longest, max(lengths))
+        self.size += sum(lengths)
 
     def end(self) -> None:
         self.is_last = True
@@ -79,11 +84,15 @@ class Ended(Exception):
 
 
 class Items:
-    """What the connections have read and nobody has taken yet, at most so many. `reads`: the end of a pipe that can be read whenever there is news."""
+    """What the connections have read and nobody has taken yet: of the table that is taken now so
+    many parts at most, and of all others together so many. `reads`: the end of a pipe that can be
+    read whenever there is news."""
 
     def __init__(self, most: int) -> None:
         self.most, self.lock = most, threading.Condition()
-        self.items: collections.deque[Item] = collections.deque()
+        self.left: collections.deque[Left] = collections.deque()
+        # by the OID of a table its parts; the first table is the one that is taken
+        self.parts: dict[int, collections.deque[Part]] = {}
         self.failure: BaseException | None = None
         self.has_ended, self.writers = False, 0
         self.reads, self.wakes = os.pipe()
@@ -99,18 +108,31 @@ class Items:
         """Whether something can be taken, or all is over."""
         with contextlib.suppress(BlockingIOError):
             os.read(self.reads, 1 << 12)
-        return bool(self.items or self.failure or not self.writers)
+        with self.lock:
+            return bool(self.left or self.first() or self.failure or not self.writers)
+
+    def first(self) -> collections.deque[Part]:
+        """The parts of the table that is taken."""
+        return next(iter(self.parts.values()), collections.deque())
 
     def take(self) -> Item | None:
-        """What came next, None where there is nothing now. Raises what a thread ended with."""
+        """What comes next, None where there is nothing now. Raises what a thread ended with."""
         with self.lock:
             if self.failure:
                 raise self.failure
-            if not self.items:
+            if self.left:
+                return self.left.popleft()
+            if not (first := self.first()):
                 return None
-            item = self.items.popleft()
+            part = first.popleft()
+            if part.is_last:
+                del self.parts[part.table.oid]
             self.lock.notify_all()
-            return item
+            return part
+
+    def is_empty(self) -> bool:
+        """Whether all was taken that has come."""
+        return not (self.left or self.parts)
 
     def end(self) -> None:
         """Nothing more is taken: each thread ends."""
@@ -136,49 +158,72 @@ class Items:
         finally:
             with self.lock:
                 self.writers -= 1
+                self.lock.notify_all()
             self.wake()
 
     def check(self) -> None:
         if self.has_ended:
             raise Ended
 
-    def put(self, item: Item) -> None:
+    def leave(self, left: Left) -> None:
+        """Adds a table that isn't read."""
+        with self.lock:
+            self.left.append(left)
+        self.wake()
+
+    def put(self, part: Part) -> None:
         """Adds one, once there is room."""
         with self.lock:
-            while len(self.items) >= self.most and not self.has_ended:
+            while not self.has_room(part.table.oid) and not self.has_ended:
                 self.lock.wait()
             self.check()
-            self.items.append(item)
+            self.parts.setdefault(part.table.oid, collections.deque()).append(part)
         self.wake()
+
+    def has_room(self, oid: int) -> bool:
+        """Whether one more part of a table may wait."""
+        first, *others = self.parts or (oid,)
+        if first == oid:
+            return len(self.parts.get(oid, ())) < AHEAD
+        return sum(len(self.parts[it]) for it in others) < self.most
 
     def wake(self) -> None:
         os.write(self.wakes, b"x")
 
 
+@dataclasses.dataclass(frozen=True)
+class Reading:
+    """What is read, and how: by so many connections, under a snapshot. `sizes`: how large tables
+    are at the server, by OID; `stored`: the files of all tables before the snapshot; `most`: how
+    long the payload of a frame may be."""
+
+    jobs: int
+    snapshot: str
+    tables: list[Table]
+    sizes: Mapping[int, int]
+    stored: Mapping[int, str | None]
+    most: int
+
+
 class Readers:
-    """The connections, from `begin` to `close`. `stored`: the files of all tables before the
-    snapshot; `looker`: sees what is there now; `beside`: gets all rows, too."""
+    """The connections, from `begin` to `close`. `looker`: sees what is there now; `beside`: gets
+    all rows, too."""
 
     def __init__(
-        self,
-        subscription: Subscription,
-        jobs: int,
-        snapshot: str,
-        tables: list[Table],
-        stored: dict[int, str | None],
-        looker: Connection,
-        beside: RowsBeside,
+        self, subscription: Subscription, reading: Reading, looker: Connection, beside: RowsBeside
     ) -> None:
-        self.subscription, self.snapshot, self.beside = subscription, snapshot, beside
-        self.stored, self.looker, self.looking = stored, looker, threading.Lock()
-        self.left = collections.deque(tables)
+        self.subscription, self.reading, self.beside = subscription, reading, beside
+        self.looker, self.looking = looker, threading.Lock()
+        self.left = list(reading.tables)
+        # the large table that is read now
+        self.large: Table | None = None
         # by the OID of a table: when it was tried last, and since when it is known to be locked by
         # somebody else
         self.tried: dict[int, float] = {}
         self.locked: dict[int, float] = {}
         self.threads = [
             threading.Thread(target=self.work, daemon=True)
-            for _ in range(max(1, min(jobs, len(tables))))
+            for _ in range(max(1, min(reading.jobs, len(self.left))))
         ]
         self.items = Items(AHEAD * len(self.threads))
 
@@ -205,30 +250,57 @@ class Readers:
             settle(connection)
             connection.run("SET row_security = off")
             while table := self.next_table():
-                for item in self.read(connection, table):
-                    self.items.put(item)
+                self.read(connection, table)
+                self.note_read(table)
 
     def next_table(self) -> Table | None:
+        """The next table, None after the last. Of large ones one is read at a time."""
         with self.items.lock:
-            return self.left.popleft() if self.left and not self.items.has_ended else None
+            while self.left and not self.items.has_ended:
+                for table in self.left:
+                    if self.large is None or not self.is_large(table):
+                        self.left.remove(table)
+                        self.large = table if self.is_large(table) else self.large
+                        return table
+                self.items.lock.wait()
+        return None
 
-    def read(self, connection: Connection, table: Table) -> Iterator[Item]:
-        """The parts of a table; nothing where it is locked by somebody else, and comes later."""
+    def is_large(self, table: Table) -> bool:
+        return self.reading.sizes.get(table.oid, 0) > SMALL
+
+    def note_read(self, table: Table) -> None:
+        with self.items.lock:
+            self.large = None if table is self.large else self.large
+            self.items.lock.notify_all()
+
+    def read(self, connection: Connection, table: Table) -> None:
+        """Reads a table; not one that is locked by somebody else, which comes later."""
         self.rest(self.tried.get(table.oid, 0.0) + LOOK)
         self.tried[table.oid] = time.monotonic()
         connection.run("BEGIN ISOLATION LEVEL REPEATABLE READ READ ONLY")
-        take_snapshot(connection, self.snapshot)
+        take_snapshot(connection, self.reading.snapshot)
         why = self.lock_table(connection, table)
         if why is None:
-            yield from parts_of(connection, table, self.beside)
-            connection.run("COMMIT")
+            self.pass_on(connection, table)
             return
         connection.run("ROLLBACK")
         if why:
-            yield Left(table, why)
+            self.items.leave(Left(table, why))
             return
         with self.items.lock:
             self.left.append(table)
+
+    def pass_on(self, connection: Connection, table: Table) -> None:
+        """Passes a table on part by part; a small one once it is read, and not locked any more."""
+        waiting, is_large = list[Part](), self.is_large(table)
+        for part in parts_of(connection, table, self.reading.most, self.beside):
+            waiting.append(part)
+            if is_large or len(waiting) > AHEAD:
+                while waiting:
+                    self.items.put(waiting.pop(0))
+        connection.run("COMMIT")
+        for part in waiting:
+            self.items.put(part)
 
     def rest(self, until: float) -> None:
         while (left := until - time.monotonic()) > 0:
@@ -263,20 +335,20 @@ class Readers:
         files = stored_in(connection, [table])
         with self.looking:
             named = are_so_named(self.looker, [table])
-        return named and all(self.stored.get(oid, missing) == node for oid, node in files.items())
+        return named and all(
+            self.reading.stored.get(oid, missing) == node for oid, node in files.items()
+        )
 
 
-def parts_of(connection: Connection, table: Table, beside: RowsBeside) -> Iterator[Part]:
-    """All rows of a table, in parts. An LSN that is 0 in XLogData says nothing."""
-    heads = InsertHeads(table, 0)
-    part = Part(table, [frame(0, relation(table))])
+def parts_of(connection: Connection, table: Table, most: int, beside: RowsBeside) -> Iterator[Part]:
+    """All rows of a table, in parts, of which frames have payloads of so many bytes at most."""
+    part = Part(table, is_first=True)
     for lines in connection.copied_blocks(table.query(), BLOCK):
         if part.size >= PART:
             yield part
-            part = Part(table, longest=part.longest)
-        frames = inserts(lines, heads)
-        beside.take(frames)
-        part.add(frames, lines)
+            part = Part(table, is_first=False, longest=part.longest)
+        beside.take(table, lines)
+        part.add(lines, most)
     part.end()
     yield part
 

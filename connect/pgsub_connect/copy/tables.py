@@ -22,11 +22,13 @@ DROPPED = "was dropped, or left the publication,"
 
 
 class CopiedTables:
-    """`later`: the tables that are to be added by themselves, and why."""
+    """`later`: the tables that are to be added by themselves, and why; `sizes`: how large tables are
+    at the server, by OID."""
 
     def __init__(self, subscription: Subscription, remembered: Remembered) -> None:
         self.subscription, self.remembered = subscription, remembered
         self.later: dict[int, str] = {}
+        self.sizes: dict[int, int] = {}
 
     def clear(self) -> None:
         self.later = {}
@@ -54,7 +56,7 @@ class CopiedTables:
                 altered_tables(before, after), "it was altered while the slot was made"
             ),
         }
-        sizes = sizes_of(plain, tables)
+        self.sizes = sizes = sizes_of(plain, tables)
         self.remembered.begin_copy(after, point)
         self.name_new(late, point)
         return sorted(self.still_published(tables, now), key=lambda it: -sizes.get(it.oid, 0))

@@ -60,9 +60,9 @@ class Remembered(Baseline):
         self.outstanding.partial.update(oids)
         self.want(self.outstanding.partial)
 
-    def note_copied(self, oid: int, end: int) -> None:
-        """Notes that a table is stored whole from this position on."""
-        self.outstanding.copied[oid] = end
+    def note_copied(self, oid: int, rows: int) -> None:
+        """Notes how many rows of a table were read: it is stored whole where it has them."""
+        self.outstanding.copied[oid] = rows
 
     def end_copy(self) -> None:
         """Notes durably that all rows are there."""

@@ -26,7 +26,7 @@ from collections.abc import Callable
 
 from pgsub_feed import log
 from pgsub_feed.errors import Damaged, FileError, Unfit
-from pgsub_feed.interruption import Check
+from pgsub_feed.interruption import Check, never
 from pgsub_feed.reader.base import remove_begun
 from pgsub_feed.reader.positions import make_folder
 from pgsub_feed.reader.segments import Reader, read_confirmed, segments
@@ -37,7 +37,8 @@ from ..errors import Unread
 from ..server.connection import Connection
 from ..server.session import identify, settle
 from ..store.at_rest import has_log
-from ..store.checkpoint_lines import COPIED, FOLLOWING
+from ..store.checkpoint_lines import COPIED, FOLLOWING, INTERRUPTED
+from ..store.completeness import is_whole
 from ..store.snapshot import position_in
 from ..stream.common import Common
 from ..stream.filter import Filter
@@ -112,17 +113,17 @@ class Feeding:
         it = self.settings
         return BaseRows(self.folder, it.store, it.mode, self.checkpoint)
 
-    def rows_beside(self) -> Several:
+    def rows_beside(self, check: Check = never) -> Several:
         """What gets the rows of an initial copy."""
         parts = (self.first_rows, self.base) if self.base else (self.first_rows,)
-        return Several(parts, self.note_begun)
+        return Several(parts, self.note_begun, lambda: self.words(check) if self.folder else ())
 
     def check(self) -> None:
         """Rejects a folder that can't have the store's feed, before anything is made; and makes the
         folder."""
         if self.settings.tables:
             check_tables(self.settings.tables)
-        if os.path.exists(self.settings.store):
+        if is_whole(self.settings.store):
             self.check_followed()
         else:
             self.check_new()
@@ -143,13 +144,21 @@ class Feeding:
             " --without-feed, which ends that feed for good"
         )
 
+    def goes_on(self) -> bool:
+        """Whether what is in the folder is of a copy that was interrupted, as it was to end: first
+        rows, or a segment that has no commit yet."""
+        return self.checkpoint.known.phase in INTERRUPTED and self.folder == self.remembered.feed
+
     def check_new(self) -> None:
         """Rejects what an older copy has left: the feed of a new store has nothing of an older
         one's, nor have its readers and tables."""
-        tables = self.settings.tables.path if self.settings.tables else ""
         if self.folder:
             remove_begun(self.folder)
-        has_feed = os.path.isdir(self.folder) and os.listdir(self.folder)
+        has_feed = os.path.isdir(self.folder) and bool(os.listdir(self.folder))
+        self.check_left(has_feed and not self.goes_on())
+
+    def check_left(self, has_feed: bool) -> None:
+        tables = self.settings.tables.path if self.settings.tables else ""
         left = [self.folder] if has_feed else []
         if left := left + [tables] if os.path.lexists(tables) else left:
             raise Unfit(
@@ -165,16 +174,17 @@ class Feeding:
 
     def note_begun(self) -> None:
         """Notes durably which feed, first rows and tables the store is to have: so the next start of
-        a copy that is cut off knows them."""
+        a copy that is cut off knows them. (One that begins anew may have been almost complete.)"""
         tables = self.settings.tables
+        self.check_left(has_segments(self.folder))
         self.checkpoint.note_tables(os.path.abspath(tables.path) if tables else "")
         self.remembered.note_feed(self.folder, self.settings.has_base)
 
     def begin(
         self, child: Filter, reached: Callable[[], Reached], check: Check, wake: Callable[[], None]
     ) -> None:
-        """Notes folder and tables with the copy, and tells the filter of it. `wake` has the main loop
-        look what the tables have said."""
+        """Notes folder and tables with the copy, and tells the filter of it, unless it runs: then it
+        has loaded the copy, and knows. `wake` has the main loop look what the tables have said."""
         tables = self.settings.tables
         self.checkpoint.note_tables(os.path.abspath(tables.path) if tables else "")
         if not self.folder:
@@ -189,7 +199,8 @@ class Feeding:
             log.warning(
                 f"the feed {self.folder} has no segment any more, or is another one: a new one begins"
             )
-        self.check_position(child, check)
+        if not child.is_running():
+            self.check_position(child, check)
         if self.base and not has_segments(self.folder):
             # (readers find them once there is a segment)
             self.base.complete(self.checkpoint.known.phase == COPIED, check)

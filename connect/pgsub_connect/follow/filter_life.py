@@ -43,12 +43,19 @@ class FilterLife:
         self.confirming, self.noting, self.misses = confirming, confirming.noting, confirming.misses
         self.watch, self.form, self.ending, self.feeding = watch, form, ending, feeding
         self.kills = Kills()
+        # whether a filter has begun here; one that runs before that has loaded the first rows
+        self.has_begun = False
 
     def start(self) -> None:
-        if self.filter.is_running():
-            return
-        self.progress.enter("opening the store")
-        position = self.open_store()
+        if not self.filter.is_running():
+            self.progress.enter("opening the store")
+            self.begin(self.open_store())
+        elif not self.has_begun:
+            self.begin(self.filter.confirmed())
+
+    def begin(self, position: int) -> None:
+        """A filter has opened its store, which is at this position."""
+        self.has_begun = True
         self.confirming.begin_store(position)
         if self.feeding:
             self.feeding.note_opened()

@@ -23,9 +23,10 @@ from pgsub_feed.interruption import Check
 from pgsub_feed.reader.base import has_base, remove_begun
 
 from ..copy.rows_beside import RowsBeside
+from ..server.catalog import Table
 from ..store import base_files
 from ..store.checkpoint import Checkpoint
-from ..store.copied_rows import DONE, Wanted
+from ..store.copied_rows import DONE, Wanted, rows_frame
 from .process_beside import START, TablesSettings, environment
 
 CODE = f"{START}from pgsub_connect.store.%s import run; run()"
@@ -73,8 +74,12 @@ class FromCopy(RowsBeside):
         with contextlib.suppress(OSError):
             fcntl.fcntl(child.stdin, fcntl.F_SETPIPE_SZ, ROOM)
 
-    def take(self, frames: bytes) -> None:
-        left = memoryview(frames)
+    def take(self, table: Table, lines: list[bytes]) -> None:
+        if self.child:
+            self.write(rows_frame(table.oid, len(table.columns), lines))
+
+    def write(self, frame: bytes) -> None:
+        left = memoryview(frame)
         with self.writing:
             while left and self.child and self.child.stdin and not self.child.stdin.closed:
                 try:
@@ -84,7 +89,7 @@ class FromCopy(RowsBeside):
                     self.child.stdin.close()
 
     def end(self) -> None:
-        self.take(DONE)
+        self.write(DONE)
         with self.writing:
             if self.child and self.child.stdin:
                 self.child.stdin.close()
@@ -124,8 +129,22 @@ class FirstRows(FromCopy):
         it = self.settings
         return Wanted(it.path, it.store, it.feed, it.numeric, it.mode, point).words()
 
+    def is_ready(self, check: Check) -> bool:
+        """(It has begun before anything follows, by which tables may be altered.)"""
+        until = time.monotonic() + PATIENCE
+        while (child := self.child) and child.poll() is None and time.monotonic() < until:
+            if os.path.exists(self.begun(child.pid)):
+                break
+            check()
+            time.sleep(STEP)
+        return True
+
+    def begun(self, child: int) -> str:
+        """The file that a process makes."""
+        return f"{meant(self.name)}.pgsub-{child}"
+
     def forget(self, child: int) -> None:
-        remove_files(f"{meant(self.name)}.pgsub-{child}")
+        remove_files(self.begun(child))
 
     def wait(self) -> None:
         if child := self.child:
@@ -153,8 +172,16 @@ class BaseRows(FromCopy):
             self.is_whole(self.child)
         remove_begun(self.name)
 
+    def is_ready(self, check: Check) -> bool:
+        self.end()
+        while self.child and self.child.poll() is None:
+            check()
+            time.sleep(STEP)
+        self.wait()
+        return has_base(self.name)
+
     def complete(self, is_copied: bool, check: Check) -> None:
-        """Has them be there, before anything follows. `is_copied`: the store has what was copied and
+        """Has them be there, before the feed begins. `is_copied`: the store has what was copied and
         nothing else, and nobody has it open."""
         self.wait()
         if is_copied and not has_base(self.name):

@@ -18,7 +18,8 @@ from pgsub_feed.ownership import real
 from pgsub_feed.tables.sqlite_files import FULL
 
 from .checkpoint import has_name
-from .snapshot import NEW, fold, part_of
+from .completeness import is_being_copied
+from .snapshot import NEW, fold
 from .socket_file import SUFFIX, Asking
 
 # Where SQLite, and so the program, locks a file: the bytes of its readers.
@@ -81,15 +82,14 @@ def failed(error: sqlite3.Error, told: str) -> FileError | Passing:
 
 
 def check_there(store: str) -> None:
-    if os.path.isfile(store):
-        return
-    if os.path.exists(store):
-        raise FileError(f"{store}: not a file")
-    if os.path.exists(part_of(store)):
+    if is_being_copied(store):
         raise Passing(
             f"there is no store {store} yet: its first rows are being copied, or their copy was interrupted"
         )
-    raise FileError(f"there is no store {store}")
+    if not os.path.exists(store):
+        raise FileError(f"there is no store {store}")
+    if not os.path.isfile(store):
+        raise FileError(f"{store}: not a file")
 
 
 def has_log(store: str) -> bool:

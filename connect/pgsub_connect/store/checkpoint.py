@@ -11,7 +11,7 @@ What is known of the store:
 
 | Field | Means |
 |---|---|
-| `phase` | `new`: nothing yet; `copying`: a copy begins; `slot`: its slot is made, and rows are read; `copied`: they are in `STORE.copying`; `following` |
+| `phase` | `new`: nothing yet; `copying`: a copy begins; `slot`: its slot is made, and rows are read; `copied`: all are stored; `following` |
 | `system`, `database`, `slot` | whose changes the store holds |
 | `timeline` | the server's timeline in the last session; 0 where it isn't known |
 | `started` | when the server of the last session was started, in microseconds since 1970; 0 where it isn't known |

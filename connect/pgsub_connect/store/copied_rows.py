@@ -1,8 +1,9 @@
 """A new file of tables from the rows of an initial copy, by a process that gets them while they are
 read: without it the tables would be made from the store once that is complete.
 
-It gets the frames of Inserts that the program gets, too, and a CopyDone at the end. Without that
-nothing is left of the file.
+It gets the rows that the program gets, too, in frames of whole lines of COPY's text, each with the
+OID of its table and how many columns that has; and a CopyDone at the end. Without that nothing is
+left of the file.
 """
 
 from __future__ import annotations
@@ -10,6 +11,7 @@ from __future__ import annotations
 import contextlib
 import os
 import sqlite3
+import struct
 import sys
 from collections.abc import Callable, Iterator
 from typing import BinaryIO, NamedTuple
@@ -25,11 +27,11 @@ from pgsub_feed.tables.values import Malformed
 from pgsub_feed.texts import lsn_text, parse_lsn
 
 from ..drift.remembered import Remembered
+from ..server.copied_text import tuples
 from .export import Export
 
-# The head of a frame: a letter and a length, which counts itself. Behind that the letter of XLogData
-# and three numbers of eight bytes, that of an Insert, an OID, a letter and the row.
-HEAD, OID, ROW = 5, 26, 31
+# The head of a frame: a letter and a length, which counts itself; the OID and how many columns.
+HEAD = struct.Struct(">cIIH")
 DONE = b"c\x00\x00\x00\x04"
 # How much is read at once, in bytes.
 READ = 1 << 20
@@ -55,22 +57,32 @@ def wanted_of(words: list[str]) -> Wanted:
     return Wanted(into, store, feed, form, int(mode, 8), parse_lsn(point))
 
 
+def rows_frame(oid: int, width: int, lines: list[bytes]) -> bytes:
+    size = HEAD.size - 1 + sum(map(len, lines))
+    return b"".join((HEAD.pack(b"d", size, oid, width), *lines))
+
+
 def rows_of(source: BinaryIO) -> Iterator[tuple[int, bytes, int]]:
     """The rows, each once, with the OIDs of their tables."""
-    while (head := source.read(HEAD))[:1] == b"d":
-        message = source.read(int.from_bytes(head[1:], "big") - 4)
-        yield int.from_bytes(message[OID : OID + 4], "big"), message[ROW:], 1
+    while len(head := source.read(len(DONE))) == len(DONE) and head != DONE:
+        size = int.from_bytes(head[1:], "big") - 4
+        if len(frame := head + source.read(size)) != len(head) + size:
+            break
+        _, _, oid, width = HEAD.unpack_from(frame)
+        for row in tuples(frame[HEAD.size :], width):
+            yield oid, row, 1
     if head != DONE:
         raise Stopped
 
 
 def fill(wanted: Wanted, source: BinaryIO, check: Check) -> None:
-    """Makes the file."""
+    """Makes the file. Once it is begun, whatever is remembered of tables later makes no difference."""
     check_sqlite()
+    remembered = Remembered(wanted.store)
     with placed(wanted.into, wanted.mode) as new, contextlib.closing(
         sqlite3.connect(new, isolation_level=None)
     ) as db:
-        remembered, export = Remembered(wanted.store), Export(db, wanted.form, check)
+        export = Export(db, wanted.form, check)
         export.run(remembered, wanted.point, {}, rows_of(source))
         prepare(db, os.path.abspath(wanted.feed), (), True)
 

@@ -9,11 +9,11 @@ from pgsub_feed.errors import FileError, UsageError
 from pgsub_feed.files import OF_FILE, meant
 from pgsub_feed.ownership import real
 
-from .snapshot import COPYING, NEW
+from .snapshot import EARLIER, NEW
 from .socket_file import SUFFIX
 
-# What follows a store's name in those of an initial copy's files.
-OF_COPY = (*(COPYING + it for it in OF_FILE), COPYING + NEW)
+# What follows a store's name in those of an initial copy's files of earlier versions of this program.
+OF_COPY = (*(EARLIER + it for it in OF_FILE), EARLIER + NEW)
 # What follows it in those of all its own files, the checkpoint last: as long as it is there, a
 # start tells what is missing. (`.request` is one of earlier versions of this program.)
 OF_STORE = (

@@ -5,16 +5,9 @@ import os
 import sqlite3
 import urllib.parse
 
-from pgsub_feed.files import meant
-
-# What a file that is being made has behind its name, and the one of an initial copy.
-NEW, COPYING = ".pgsub-new", ".copying"
-
-
-def part_of(store: str) -> str:
-    """The file of an initial copy that isn't complete: beside the one whose name it gets, so in the
-    same file system."""
-    return meant(store) + COPYING
+# What a file that is being made has behind its name, and what one of an initial copy that wasn't
+# complete had by earlier versions of this program.
+NEW, EARLIER = ".pgsub-new", ".copying"
 
 
 def fold(path: str) -> None:

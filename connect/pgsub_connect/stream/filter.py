@@ -8,6 +8,7 @@ import signal
 import subprocess
 from collections.abc import Sequence
 
+from pgsub_feed import log
 from pgsub_feed.errors import Passing
 from pgsub_feed.interruption import Check, never
 
@@ -22,8 +23,16 @@ from .messages import COPY_DONE, HEADERS, STATUS, STATUS_HEAD, flushed, without_
 # For how long one that opens its store is waited for, until it is looked whether the end was asked
 # for, in seconds.
 LOOK = 0.5
+# What has it read tables before its first session, and what has it watch its server.
+LOAD, WATCH = "--load", "--watch"
 # What a filter needs of the environment: not the passwords of a server.
 KEPT = ("PATH", "LANG", "LC_ALL", "LC_MESSAGES", "TMPDIR", "TZ", "HOME")
+
+
+def without(words: Sequence[str], option: str) -> list[str]:
+    """The words without an option and its value."""
+    at = words.index(option) if option in words else len(words)
+    return [*words[:at], *words[at + 2 :]]
 
 
 class Filter:
@@ -71,14 +80,26 @@ class Filter:
     def add_words(self, words: Sequence[str]) -> None:
         self.words += words
 
-    def launch(self) -> None:
-        """Starts the filter. Its first status comes once it has opened its store."""
+    def is_to_stop(self) -> bool:
+        """Whether it is to end where its server breaks a rule."""
+        return WATCH in self.words and self.words[self.words.index(WATCH) + 1] == "stop"
+
+    def launch(self, *more: str) -> None:
+        """Starts the filter, once with more words. Its first status comes once it has opened its
+        store, and has read what is to come before its first session."""
         version.check_program(self.words[0])
+        words = self.words
+        if LOAD in more and WATCH in words:
+            # (it would take a load for a session)
+            log.info(
+                "the server isn't watched by the filter that makes the copy, but by the next one"
+            )
+            words = without(words, WATCH)
         try:
             # (a session of its own: an interrupt at the terminal is for the connector, which ends
             # the filter in its own time)
             self.child = subprocess.Popen(
-                [*self.words, "--proto", str(self.proto)],
+                [*words, "--proto", str(self.proto), *more],
                 stdin=subprocess.PIPE,
                 stdout=subprocess.PIPE,
                 stderr=subprocess.PIPE,
@@ -121,8 +142,16 @@ class Filter:
             read = int(file.readline().split()[1])
         return read, os.path.getsize(self.words[self.words.index("--store") + 1])
 
+    def has_opened(self) -> bool:
+        """Whether its first status has come."""
+        return bool(self.status)
+
     def confirmed(self) -> int:
         return flushed(self.status)
+
+    def push_load(self, piece: bytes | memoryview) -> None:
+        """Gives the filter bytes that come before its first session."""
+        self.input.push(piece)
 
     def push(self, piece: bytes) -> None:
         """Gives the filter bytes of the session, at once as far as the pipe takes them. A frame may

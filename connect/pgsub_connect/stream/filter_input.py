@@ -30,7 +30,7 @@ class FilterInput:
     def waits(self) -> bool:
         return self.takes and self.waiting > 0
 
-    def push(self, piece: bytes) -> None:
+    def push(self, piece: bytes | memoryview) -> None:
         """Gives it bytes, at once as far as the pipe takes them."""
         done = self.written_of(piece) if self.takes and not self.waiting else 0
         if done < len(piece):

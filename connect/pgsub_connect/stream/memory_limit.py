@@ -4,7 +4,7 @@ import contextlib
 import dataclasses
 import os
 
-from .filter_end import FRAME_TOO_LARGE, SPOOL_FULL, FilterEnded
+from .filter_end import FRAME_TOO_LARGE, REJECTED, SPOOL_FULL, FilterEnded
 
 # The longest frame that PostgreSQL can send, with its length.
 LONGEST_FRAME = 2147483643
@@ -61,6 +61,8 @@ def default_buffered() -> int:
     return MOST if known is None else max(LEAST, min(MOST, known // 2))
 
 
+# How the filter's line ends on a row of a load that is too long.
+LINE_TOO_LONG = ": 6 TooLong"
 # Below so many bytes no transaction is why a filter is killed.
 SMALL = 1 << 20
 
@@ -98,12 +100,14 @@ def limit_text(
     """What is said where a limit ended the filter, "" where none did.
 
     `transaction` is the xid of the largest one that isn't stored, and how many bytes of it were
-    passed on, and `longest` the length of the longest message.
+    passed on, and `longest` the length of the longest message, or of the longest row of a load.
     """
     if ended.status == SPOOL_FULL:
         return full_text(limits, *transaction)
     if ended.status == FRAME_TOO_LARGE:
         return frame_text(limits, longest)
+    if ended.status == REJECTED and ended.said.endswith(LINE_TOO_LONG):
+        return frame_text(limits, longest, "row")
     return ""
 
 
@@ -116,10 +120,10 @@ def full_text(limits: BufferLimits, xid: int, size: int) -> str:
     return f"{which} {allowed}: give --max-buffered {wanted} at least, and memory for it; {more}"
 
 
-def frame_text(limits: BufferLimits, longest: int) -> str:
+def frame_text(limits: BufferLimits, longest: int, what: str = "message") -> str:
     """A frame is four bytes longer than its message."""
     is_known = longest + 4 > limits.max_frame
-    which = f"a message had {longest} bytes, and" if is_known else "a message had more than the"
+    which = f"a {what} had {longest} bytes, and" if is_known else f"a {what} had more than the"
     text = f"{which} {limits.max_frame} are accepted"
     wanted = min(2 * max(limits.max_frame, longest + 4), LONGEST_FRAME)
     if wanted <= limits.max_frame:

@@ -17,10 +17,10 @@ from pgsub_feed.relation import Relation
 from pgsub_feed.tables.printed import fields_in, text_of
 from pgsub_feed.texts import lsn_text
 
-from ..copy.messages import unescaped
 from ..copy.source import Source
 from ..errors import understood
 from ..server.catalog import Table
+from ..server.copied_text import unescaped
 from ..server.publications import estimated_rows
 from ..store.file import check_store, opened, read_position, read_relations
 from .digests import Plan, Queries, Summing, Sums, chunks_for, fields_of

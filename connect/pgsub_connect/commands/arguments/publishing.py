@@ -47,7 +47,9 @@ class CopyOptions(PublishingOptions):
     no_copy: bool = option(
         "--no-copy", "begin a new store where the slot is, without the rows from before", False
     )
-    jobs: int = option("--jobs N", "read N tables at a time (default: 2)", 2, type=within(1, 64))
+    jobs: int = option(
+        "--jobs N", "read N tables at a time, of large ones one (default: 2)", 2, type=within(1, 64)
+    )
 
 
 def add_copying(parser: argparse.ArgumentParser) -> None:

@@ -17,6 +17,7 @@ from ...server.publication_setup import check_lengths, inserts_of
 from ...server.session import Subscription
 from ...store.checkpoint import read_known
 from ...store.checkpoint_lines import COPYING, INTERRUPTED, Known
+from ...store.completeness import is_whole
 from .words import check_texts, each, mode_option, seconds, use_mode
 
 
@@ -87,7 +88,7 @@ def has_begun(store: str) -> bool:
     """Whether a store is there, or its copy was interrupted and goes on."""
     if not store:
         return False
-    return os.path.exists(store) or read_known(store + ".connector").phase in INTERRUPTED
+    return is_whole(store) or read_known(store + ".connector").phase in INTERRUPTED
 
 
 def slot_of(store: str, given: str) -> str:

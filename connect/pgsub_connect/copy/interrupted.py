@@ -1,0 +1,90 @@
+"""What an interrupted copy has left: a store at a position that is none of a server's, in which some
+tables are whole. It goes on with these."""
+
+from __future__ import annotations
+
+import contextlib
+
+from pgsub_feed import log
+from pgsub_feed.texts import counted
+
+from ..server.catalog import Table
+from ..server.connection import Connection
+from ..server.publications import sizes_of
+from ..server.session import is_lost, settle
+from ..store.copied_counts import counted_rows
+from ..stream.filter_end import FilterEnded
+from .files import CopyFiles
+from .sender import Sender
+from .tables import CopiedTables
+
+
+class Interrupted:
+    """It. `most`: how large a table may be at the server that is added by itself."""
+
+    def __init__(
+        self, files: CopyFiles, tables: CopiedTables, sender: Sender, most_buffered: int
+    ) -> None:
+        self.files, self.tables, self.sender = files, tables, sender
+        self.filter, self.slot, self.most = sender.filter, sender.slot, most_buffered // 2
+        self.subscription, self.remembered = tables.subscription, tables.remembered
+
+    def is_of_use(self, replication: Connection) -> bool:
+        """Whether something may come of it."""
+        remembered, slot = self.remembered, self.subscription.slot
+        if not remembered.copied or not remembered.catalog or not self.files.is_there():
+            return False
+        if is_lost(replication, slot):
+            log.info(f"the slot {slot} of an interrupted copy is lost: the copy begins anew")
+            return False
+        return True
+
+    def position(self) -> int:
+        """Where the store is. Its log goes into its file."""
+        position = self.filter.start(self.slot.check)
+        self.sender.finish()
+        return position
+
+    def missing(self) -> list[Table] | None:
+        """The published tables that aren't stored whole, None where nothing comes of the others."""
+        whole = self.whole()
+        missing, large = self.without(whole)
+        if not whole or large:
+            log.info(
+                f"{large[0]} is too large to be added by itself: the copy begins anew"
+                if large
+                else "the copy begins anew"
+            )
+            return None
+        log.info(
+            f"an interrupted copy goes on: {counted(len(whole), 'table')} stored, {counted(len(missing), 'table')} to be added one by one"
+        )
+        return missing
+
+    def whole(self) -> set[int]:
+        """The tables of which it has stored all rows that it has read. (It has stored them in their
+        order.)"""
+        stored = counted_rows(self.files.store, self.slot.check)
+        return {oid for oid, rows in self.remembered.copied.items() if stored[oid] == rows}
+
+    def without(self, whole: set[int]) -> tuple[list[Table], list[str]]:
+        """The published tables but for these, and the names of those that are too large to be added
+        by themselves."""
+        with contextlib.closing(self.slot.connect_plain()) as plain:
+            settle(plain)
+            missing = [it for it in self.tables.published(plain) if it.oid not in whole]
+            sizes = sizes_of(plain, missing)
+        return missing, [it.text() for it in missing if sizes.get(it.oid, 0) > self.most]
+
+    def bring(self, point: int) -> None:
+        """Brings it to the slot's consistent point."""
+        self.sender.bring(self.filter.start(self.slot.check), point)
+
+    def is_complete(self, point: int) -> bool:
+        """Whether it has all rows."""
+        if not self.files.is_there():
+            return False
+        try:
+            return self.position() == point
+        except FilterEnded:
+            return False
