@@ -268,4 +268,5 @@ def is_adding(store: Path) -> bool:
         remembered, (known, _) = remembered_of(store), checkpoint_of(store)
     except FileNotFoundError:
         return True
-    return not store.exists() or bool(remembered.get("wanted") or known.get("adding"))
+    is_copied = store.exists() and known.get("phase") not in ("copying", "slot")
+    return not is_copied or bool(remembered.get("wanted") or known.get("adding"))

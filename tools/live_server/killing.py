@@ -194,11 +194,9 @@ class Run:
         return f"{count} rows at {position}, caught up in {waited:.1f} s, a sound file after {self.looks} kills{fed}"
 
     def check_left(self) -> None:
-        """Fails where a copy has left a slot or a file, or changes found no row."""
+        """Fails where a copy has left a slot, or changes found no row."""
         slots = "SELECT string_agg(slot_name, ' ') FROM pg_replication_slots"
         wait_until(lambda: self.cluster.value(slots) == SLOT, "dropping the temporary slots", 60)
-        if left := [it.name for it in self.store.parent.glob(f"{self.store.name}.copying*")]:
-            raise Failed(f"left: {left}")
         if missed := checkpoint_of(self.store)[1].get("count"):
             raise Failed(f"{missed} changes found no row: {checkpoint_of(self.store)}")
 

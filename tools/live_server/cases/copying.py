@@ -2,21 +2,37 @@
 
 from __future__ import annotations
 
+import collections
+import contextlib
+import fcntl
 import functools
 import itertools
 import os
+import random
 import signal
+import subprocess
 import threading
 import time
+from pathlib import Path
 
 from ..child import Child
 from ..errors import Failed
 from ..feeds import compare_tables, reading
 from ..follower import children_of, is_adding, kill_all, wait_until
-from ..place import SERVER, Place
+from ..place import PASSING, SERVER, Place
 from .basing import equal
 from .case import Case
 from .common import feed_of, now_in_tables, rows_file
+
+
+def is_followed(store: Path) -> bool:
+    """Whether a connector or its filter has the store."""
+    with contextlib.suppress(FileNotFoundError), open(f"{store}.connector", "rb") as file:
+        try:
+            fcntl.flock(file, fcntl.LOCK_EX | fcntl.LOCK_NB)
+        except BlockingIOError:
+            return True
+    return False
 
 
 def added(place: Place, child: Child) -> None:
@@ -322,8 +338,107 @@ def added_with_tables(place: Place, child: Child) -> None:
     place.equal()
 
 
+def is_no_store(place: Place) -> None:
+    """Fails where somebody takes a store for one that is complete."""
+    store, into = ("--store", str(place.store)), ("--into", str(place.folder / "other.db"))
+    for command, *more in (
+        ("export", *into),
+        ("snapshot", *into),
+        ("verify", "--dsn", place.dsn()),
+        ("add", "--dsn", place.dsn(), "--table", "stock"),
+    ):
+        said = place.subcommand(command, *store, *more, status=PASSING)
+        if f"there is no store {place.store} yet" not in said:
+            raise Failed(f"{command}: {said}")
+    if Path(into[1]).exists():
+        raise Failed(f"{into[1]} was made")
+
+
+def incomplete(place: Place) -> None:
+    """A store isn't taken for complete while its rows are copied, nor where that was cut off; its
+    file is there by then."""
+    place.stock()
+    place.run(
+        "CREATE TABLE other (id int PRIMARY KEY)",
+        "INSERT INTO other VALUES (1)",
+        "ALTER PUBLICATION pgsub ADD TABLE other",
+    )
+    proxy, reads, goes_on = place.proxy(), threading.Event(), threading.Event()
+
+    def hold() -> None:
+        reads.set()
+        goes_on.wait(120)
+
+    proxy.before('ONLY "public"."other"', hold)
+    child = place.start("--create", "--jobs", "1", dsn=place.dsn(proxy.folder))
+    wait_until(lambda: reads.is_set() and place.store.exists(), "reading rows", 60, child.check)
+    is_no_store(place)
+    child.kill()
+    goes_on.set()
+    wait_until(lambda: not is_followed(place.store), "the filter's end", 60)
+    if not place.store.exists():
+        raise Failed("no file is left")
+    is_no_store(place)
+    added(place, place.start("--create"))
+
+
+def full_disk(place: Place) -> None:
+    """Rows that a disk has no room for end no copy for good: it goes on once there is room."""
+    folder, size = place.small_disk(4), 20_000
+    place.store = folder / "copy.db"
+    place.run(
+        "CREATE TABLE wide (id int PRIMARY KEY, note text)",
+        f"INSERT INTO wide SELECT it, repeat('x', 500) FROM generate_series(1, {size}) it",
+    )
+    child = place.start("--create", "--all-tables")
+    child.wait_for("the disk is full")
+    child.wait_for("the copy ")
+    subprocess.run(["mount", "-o", "remount,size=200M", folder], check=True)
+    added(place, child)
+    place.subcommand("drop", "--dsn", place.dsn(), "--store", str(place.store), "--yes", "--all")
+
+
+KILLS = 20
+
+
+def killed_often(place: Place) -> None:
+    """Filter or connector are killed in the midst of loads, again and again: the store is that of
+    the server in the end, and was never taken for complete before."""
+    rng, kills = random.Random(place.options.seed), collections.Counter[str]()
+    for it in PARTS:
+        place.run(
+            f"CREATE TABLE {it} (id text PRIMARY KEY, note text)",
+            f"INSERT INTO {it} SELECT md5(it::text), '{it} ' || it FROM generate_series(1, 40000) it",
+        )
+    words, child = ("--create", "--all-tables"), None
+    while sum(kills.values()) < KILLS:
+        if child is None or not child.is_running():
+            child = place.start(*words)
+        wait_until(child.filters, "a filter", 60, child.check)  # type: ignore[arg-type]
+        time.sleep(rng.choice((0.1, 0.5, 2.0)) * rng.random())
+        if place.store.exists() and place.checkpoint().get("phase") == "following":
+            # (it was copied before it was killed)
+            child.kill()
+            wait_until(lambda: not is_followed(place.store), "the filter's end", 60)
+            place.subcommand("drop", "--dsn", place.dsn(), "--store", str(place.store), "--yes")
+            kills["dropped"] += 1
+        elif (filters := child.filters()) and rng.random() < 0.5:
+            kill_all(filters)
+            kills["filter"] += 1
+        else:
+            child.kill()
+            kills["connector"] += 1
+            wait_until(lambda: not is_followed(place.store), "the filter's end", 60)
+    child = child if child and child.is_running() else place.start(*words)
+    print(f"killed: {dict(kills)}", flush=True)
+    added(place, child)
+
+
 CASES = (
     Case("tables-with-the-copy", tables_with_the_copy),
+    Case("store-that-is-not-complete", incomplete),
+    Case("copy-on-a-full-disk", full_disk),
+    Case("copy-killed-often", killed_often),
     *(
         Case(
             f"copy-with-tables-killed-{it.replace(' ', '-')}",

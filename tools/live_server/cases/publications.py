@@ -3,7 +3,7 @@
 from __future__ import annotations
 
 from ..errors import Failed
-from ..place import LOG, MISSED, SERVER, UNFIT, USAGE, Place
+from ..place import MISSED, SERVER, UNFIT, USAGE, Place
 from .case import Case
 
 
@@ -298,7 +298,7 @@ def other_tables(place: Place) -> None:
     status = child.end()
     if status not in (USAGE, SERVER, 5) or "other" not in child.said():
         raise Failed(f"status {status}: {child.said()}")
-    if place.files() or place.beside(f".copying{LOG}").exists():
+    if place.files():
         raise Failed("rows were copied")
     if place.value("SELECT count(*) FROM pg_replication_slots") != "0":
         raise Failed("a slot is left")

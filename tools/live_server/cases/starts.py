@@ -300,8 +300,6 @@ def cut_copy(name: str, after: bool, place: Place) -> None:
     place.change()
     place.run("DELETE FROM other WHERE id = 1", "INSERT INTO other VALUES (3)")
     added(place, place.start("--create"))
-    if place.beside(".copying").exists():
-        raise Failed("copy.db.copying is left")
     if place.value("SELECT count(*) FROM pg_replication_slots") != "1":
         raise Failed("a slot is left")
 
@@ -314,10 +312,10 @@ CUTS = (
     ("behind-the-lasting-slot", "copier.Copier.make_lasting", True),
     ("before-the-first-row", "copier.Copier.send_part", False),
     ("with-a-part-of-the-rows", "copier.Copier.send_part", True),
-    ("before-the-last-commit", "copier.Copier.end_copy", False),
-    ("with-all-rows", "copier.Sender.finish", True),
+    ("before-the-end-of-the-load", "copier.Copier.end_copy", False),
+    ("before-the-point", "copier.Sender.end", False),
+    ("with-all-rows", "copier.Sender.end", True),
     ("with-all-rows-and-the-slot", "copier.Copier.keep", False),
-    ("between-its-two-renames", "os.rename", True),
     ("after-it-was-complete", "copier.Copier.keep", True),
 )
 
