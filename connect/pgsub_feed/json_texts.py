@@ -22,6 +22,11 @@ class Unreadable(ValueError):
     """It isn't what was asked for."""
 
 
+def compact(value: object) -> str:
+    """A value as one line without blanks."""
+    return json.dumps(value, ensure_ascii=False, separators=(",", ":"))
+
+
 def parsed(text: str | bytes, longest: int = LONGEST) -> Any:
     """What a text of JSON says; without NaN and infinities, which no standard has."""
     if len(text) > longest:

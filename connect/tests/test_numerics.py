@@ -17,7 +17,7 @@ from pgsub_connect.server.catalog import Table
 from pgsub_connect.store.export import ExportSettings, export_store
 from pgsub_feed import relation
 from pgsub_feed.errors import FileError, Unfit
-from pgsub_feed.formats.lines import ByName, compact
+from pgsub_feed.formats.lines import ByName, json_line
 from pgsub_feed.interruption import never
 from pgsub_feed.tables.file import Rows
 from pgsub_feed.tables.floats import stored_numeric
@@ -491,7 +491,7 @@ class Printed(unittest.TestCase):
         told = relation.Relation(1, "public", "t", relation.Shape("f", tuple(columns)))
         row = ByName(lambda _: True).row(told, ["1.50", "NaN", "Infinity", "-Infinity", "0.5"])
         self.assertEqual(
-            compact(row), b'{"a":"1.50","b":"NaN","c":"Infinity","d":"-Infinity","e":0.5}\n'
+            json_line(row), b'{"a":"1.50","b":"NaN","c":"Infinity","d":"-Infinity","e":0.5}\n'
         )
 
 

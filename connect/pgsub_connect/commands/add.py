@@ -31,7 +31,7 @@ from ..server.session import Subscription, settle
 from ..store.at_rest import check_there, follower_of, is_followed
 from ..store.checkpoint import locked, read_known
 from .arguments.server import StoreOptions, settled_store
-from .arguments.words import ADDED, each
+from .arguments.words import ADDED, each, store_option
 
 ABOUT = "copy tables anew beside what is followed: new ones, or any whose rows are wrong"
 ENDS = ADDED
@@ -48,12 +48,7 @@ WAIT = 0.3
 class Options(StoreOptions):
     """Which tables are added, to which store."""
 
-    store: str = option(
-        "--store FILE",
-        "the store; its follower adds them, or does so at its next start",
-        "",
-        required=True,
-    )
+    store: str = store_option("the store; its follower adds them, or does so at its next start")
     table: Sequence[str] = option(
         "--table",
         "a published table, may be repeated; what the copy has of it is replaced",

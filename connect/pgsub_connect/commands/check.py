@@ -17,7 +17,7 @@ from ..server.transport import OWN
 from ..store.completeness import is_whole
 from .arguments.publishing import CopyOptions, add_copying, check_publishing
 from .arguments.server import StoreOptions, settled_store
-from .arguments.words import each
+from .arguments.words import each, store_option
 
 ABOUT = "tell what following needs of the server, and change nothing"
 ENDS = """\
@@ -30,10 +30,8 @@ file can't be used; 5 TLS was in use before, and is gone; 6 a bug; 7 the server 
 class Options(StoreOptions, CopyOptions):
     """What the server is to be used for."""
 
-    store: str = option(
-        "--store FILE",
-        "where it is there, what following into it needs; else what a new one does",
-        "",
+    store: str = store_option(
+        "where it is there, what following into it needs; else what a new one does", False
     )
     json: bool = option("--json", "print a JSON array", False)
 

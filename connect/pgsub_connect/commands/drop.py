@@ -37,6 +37,7 @@ from ..status.files import STATUS
 from ..store.checkpoint import locked, read_known
 from ..store.placing import OF_COPY, OF_STORE
 from .arguments.server import StoreOptions, settled_store
+from .arguments.words import store_option
 
 ABOUT = "drop slot, publications and files"
 ENDS = """\
@@ -56,9 +57,7 @@ PATIENCE = 5.0
 class Options(StoreOptions):
     """Whose slot, publications and files go."""
 
-    store: str = option(
-        "--store FILE", "the store whose slot, publications and files go", "", required=True
-    )
+    store: str = store_option("the store whose slot, publications and files go")
     all: bool = option("--all", "the feed and the tables that follow it go, too", False)
     yes: bool = option(
         "--yes", "don't ask; what somebody else may have made or may use stays", False

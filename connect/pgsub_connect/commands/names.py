@@ -2,9 +2,8 @@
 
 import dataclasses
 
-from pgsub_feed.options import option
-
 from ..drift.remembered import print_names
+from .arguments.words import store_option
 
 ABOUT = "tell which OID the name of each table has now, and which ones had it before"
 ENDS = """\
@@ -16,7 +15,7 @@ exit status: 0 printed; 2 usage error; 3 a file can't be used; 6 a bug
 class Options:
     """Of which store."""
 
-    store: str = option("--store FILE", "the store, which may be in use", "", required=True)
+    store: str = store_option("the store, which may be in use")
 
 
 def run(options: Options) -> int:

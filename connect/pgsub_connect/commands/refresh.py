@@ -36,7 +36,7 @@ from ..store.at_rest import check_there
 from ..store.checkpoint import read_known
 from . import add
 from .arguments.server import StoreOptions, settled_store
-from .arguments.words import ADDED
+from .arguments.words import ADDED, store_option
 from .drop import ask_terminal
 
 ABOUT = "tell which tables lack rows, were altered, or left the publication, and mend it"
@@ -50,9 +50,7 @@ MISSING, CHANGED, EXTRA, OTHER = "missing", "changed", "extra", "other"
 class Options(StoreOptions):
     """Which store is compared, and whether it is mended without asking."""
 
-    store: str = option(
-        "--store FILE", "the store that is compared with what is published", "", required=True
-    )
+    store: str = store_option("the store that is compared with what is published")
     yes: bool = option("--yes", "mend it without asking", False)
 
 

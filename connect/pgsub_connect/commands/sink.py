@@ -14,7 +14,6 @@ from pgsub_feed.known_tables import KnownTables, known_beside
 from pgsub_feed.options import add_fields, lsn, option
 from pgsub_feed.ownership import readable_by, readable_text
 from pgsub_feed.program import check_signals
-from pgsub_feed.reader.polling import Parent
 from pgsub_feed.reader.segments import segments
 from pgsub_feed.sinks import (
     connecting,
@@ -29,7 +28,7 @@ from pgsub_feed.sinks.engine import Alone, Engine
 from pgsub_feed.sinks.following import keep
 from pgsub_feed.sinks.redis_engine import Redis, Writer
 
-from .arguments.following import FollowingOptions, add_beginning, add_end, add_reader
+from .arguments.following import FollowingOptions, add_following
 from .arguments.words import check_texts, each, use_mode, within
 
 ABOUT = """\
@@ -127,9 +126,8 @@ class Options(FollowingOptions):
 
 def add_options(parser: argparse.ArgumentParser) -> None:
     add_fields(parser.add_argument, Options)
-    add_beginning(parser, "made by `export --text`, where nothing is kept there yet")
-    add_reader(parser, "the engine's disk")
-    add_end(parser, "written")
+    base = "made by `export --text`, where nothing is kept there yet"
+    add_following(parser, base, "the engine's disk", "written")
 
 
 def check_options(parser: argparse.ArgumentParser, options: Options) -> Options:
@@ -202,7 +200,7 @@ def run(options: Options) -> int:
 
 def write_feed(options: Options, check: Check) -> None:
     options, writer = with_url(options), Writer()
-    parent = Parent(check) if options.while_input else None
+    parent = options.parent(check)
     check = parent.check if parent else check
     reading = options.reading(sorted(set(options.table)), options.until)
     check_feed(options.feed)

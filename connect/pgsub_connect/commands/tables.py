@@ -12,7 +12,6 @@ from pgsub_feed.interruption import Check
 from pgsub_feed.known_tables import known_beside
 from pgsub_feed.options import add_fields, lsn, option
 from pgsub_feed.program import check_signals, collected_rarely
-from pgsub_feed.reader.polling import Parent
 from pgsub_feed.tables.first_rows import check_file
 from pgsub_feed.tables.following import Wanted, keep
 from pgsub_feed.tables.set_aside import cure, store_at
@@ -23,9 +22,7 @@ from ..server.publication_setup import names_of
 from .arguments.following import (
     INDEXES,
     FollowingOptions,
-    add_beginning,
-    add_end,
-    add_reader,
+    add_following,
     check_numeric,
     numeric_option,
 )
@@ -77,9 +74,8 @@ class Options(FollowingOptions):
 
 def add_options(parser: argparse.ArgumentParser) -> None:
     add_fields(parser.add_argument, Options)
-    add_beginning(parser, "or file of tables, where the file isn't there yet")
-    add_reader(parser, "the disk")
-    add_end(parser, "in the file")
+    base = "or file of tables, where the file isn't there yet"
+    add_following(parser, base, "the disk", "in the file")
 
 
 def check_options(parser: argparse.ArgumentParser, options: Options) -> Options:
@@ -103,7 +99,7 @@ def run(options: Options) -> int:
 
 
 def follow_feed(options: Options, check: Check) -> int:
-    parent = Parent(check) if options.while_input else None
+    parent = options.parent(check)
     check = parent.check if parent else check
     check_sqlite()
     check_file(options.into)

@@ -20,7 +20,7 @@ from ..verify.store import StoreComparison, compare, repair
 from ..verify.tables_file import TablesComparison, compare_tables, store_of
 from . import add
 from .arguments.server import StoreOptions, settled_store
-from .arguments.words import check_needs, each, within, within_seconds
+from .arguments.words import check_needs, each, store_option, within, within_seconds
 
 ABOUT = "compare the copy of a follower that runs with its server, both at one LSN"
 ENDS = """\
@@ -32,10 +32,9 @@ exit status: 0 equal, or repaired; 1 the copy differs; 8 the server made no slot
 class Options(StoreOptions):
     """What is compared, and what is told of it."""
 
-    store: str = option(
-        "--store FILE",
+    store: str = store_option(
         "the store, which has to be followed meanwhile; with --tables whose publications are meant (default: that of the feed STORE.feed)",
-        "",
+        False,
     )
     tables: str = option(
         "--tables FILE",

@@ -1,9 +1,9 @@
 """A reading of a server's catalog, and Relation messages, as the file of tables has them in JSON."""
 
 import dataclasses
-import json
 from typing import Any
 
+from pgsub_feed.json_texts import compact
 from pgsub_feed.known_tables import index_of
 from pgsub_feed.relation import Column, Relation, Shape
 from pgsub_feed.texts import lsn_text, parse_lsn
@@ -15,7 +15,7 @@ Noted = tuple[Relation, int]
 
 
 def json_text(it: object) -> bytes:
-    return (json.dumps(it, ensure_ascii=False, separators=(",", ":")) + "\n").encode()
+    return (compact(it) + "\n").encode()
 
 
 def noted_written(relation: Relation, lsn: int) -> list[Any]:

@@ -8,7 +8,6 @@ them then.
 from __future__ import annotations
 
 import contextlib
-import json
 import os
 import shutil
 import sys
@@ -21,6 +20,7 @@ from pgsub_feed import log
 from pgsub_feed.errors import FileError
 from pgsub_feed.files import NEW, sync_folder
 from pgsub_feed.interruption import Check
+from pgsub_feed.json_texts import compact
 from pgsub_feed.ownership import set_mode
 from pgsub_feed.program import check_signals, guarded
 from pgsub_feed.reader.base import FOLDER, FORMAT, file_name, remove_base
@@ -106,7 +106,7 @@ class BaseFile:
         told.update(system=it.system, database=it.database, slot=it.slot)
         told.update(number=self.number, last=is_last, rows=self.rows, bytes=self.bytes)
         told["crc"] = f"{self.crc:08x}"
-        line = json.dumps(told, ensure_ascii=False, separators=(",", ":")).encode()
+        line = compact(told).encode()
         if len(line) >= HEAD_SIZE:
             raise FileError("the names of database and slot are too long")
         self.file.seek(0)

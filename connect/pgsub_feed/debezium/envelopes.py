@@ -17,7 +17,7 @@ from collections.abc import Callable, Iterable, Iterator, Sequence
 from typing import Any, NamedTuple
 
 from .. import log
-from ..formats.lines import Selected, compact
+from ..formats.lines import Selected, json_line
 from ..interruption import Check, never
 from ..known_tables import KnownTables
 from ..reader.commits import XID, Cells, Change, Commit, Head, Missed
@@ -67,7 +67,7 @@ class Message(NamedTuple):
 
 
 def with_schema(schema: bytes, payload: object) -> bytes:
-    return b'{"schema":%b,"payload":%b}' % (schema, compact(payload).rstrip(b"\n"))
+    return b'{"schema":%b,"payload":%b}' % (schema, json_line(payload).rstrip(b"\n"))
 
 
 class Envelopes:
@@ -156,7 +156,7 @@ class Envelopes:
     def text(self, schema: Callable[[], bytes], payload: object) -> bytes:
         if self.settings.schemas:
             return with_schema(schema(), payload)
-        return compact(payload).rstrip(b"\n")
+        return json_line(payload).rstrip(b"\n")
 
     def key(self, table: Table, n: int, cells: Sequence[Any] | None) -> bytes | None:
         if cells is None or not table.key:

@@ -2,7 +2,6 @@
 schemas of these."""
 
 import functools
-import json
 from collections.abc import Iterable, Sequence
 from typing import Any
 
@@ -10,6 +9,7 @@ from .. import log
 from ..changes import read_binary
 from ..errors import Unfit
 from ..formats.keys import escaped, full, key_of
+from ..json_texts import compact
 from ..reader.commits import Cell, Commit, Head
 from ..relation import Column, Relation
 from ..tables.floats import printed_float
@@ -130,7 +130,7 @@ def topic_of(prefix: str, relation: Relation) -> str:
 
 
 def schema_text(schema: Schema) -> bytes:
-    return json.dumps(schema, ensure_ascii=False, separators=(",", ":")).encode()
+    return compact(schema).encode()
 
 
 class Table:

@@ -24,7 +24,7 @@ from ..tables.indexes import OTHER, UNKNOWN, lacking, other_key
 from ..tables.set_aside import cure
 from ..texts import lsn_text
 from .keys import index_text, key_of, row_text
-from .lines import Objects, Row, compact
+from .lines import Objects, Row, json_line
 
 # How often it is looked whether to end while it runs, in seconds.
 STEP = 0.1
@@ -118,9 +118,9 @@ class Bulk(Objects):
                 "version": commit.end,
                 "version_type": "external",
             }
-            yield compact({"delete" if row is None else "index": about})
+            yield json_line({"delete" if row is None else "index": about})
             if row is not None:
-                yield compact(row)
+                yield json_line(row)
 
     def tell(self, what: str, text: str) -> None:
         if what not in self.told:

@@ -12,11 +12,11 @@ In a name `%`, `:` and `.` are written as `%25`, `%3A` and `%2E`, in a value `%`
 `%null`, and a binary value `%x` with its digits. So no two have one text.
 """
 
-import json
 import string
 from collections.abc import Collection, Sequence
 from typing import Optional
 
+from ..json_texts import compact
 from ..reader.commits import Cell, Cells, Change, Missed, Unsent
 from ..relation import Relation
 
@@ -78,10 +78,6 @@ def subject(stream: str, schema: str, table: str) -> str:
 
 # The op of a row that was there before the first commit.
 BASE = "r"
-
-
-def compact(value: object) -> str:
-    return json.dumps(value, ensure_ascii=False, separators=(",", ":"))
 
 
 def object_text(relation: Relation, cells: Sequence[Cell | Unsent]) -> str:

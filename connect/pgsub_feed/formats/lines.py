@@ -10,13 +10,13 @@ who read JSON would take the nearest number alone; `bool` as true and false; and
 server prints it.
 """
 
-import json
 import math
 import re
 from collections.abc import Callable, Iterable, Iterator
 from typing import Any
 
 from ..errors import Unfit
+from ..json_texts import compact
 from ..reader.commits import Cell, Change, Commit, Missed, TableLine, Unsent
 from ..reader.segments import Reader
 from ..relation import Relation
@@ -31,9 +31,9 @@ Row = dict[str, Any] | None
 CONTROLS = re.compile("[\x7f-\x9f]")
 
 
-def compact(value: object) -> bytes:
-    text = json.dumps(value, ensure_ascii=False, separators=(",", ":"))
-    return CONTROLS.sub(lambda it: f"\\u{ord(it[0]):04x}", text).encode() + b"\n"
+def json_line(value: object) -> bytes:
+    """A value as a line without control characters."""
+    return CONTROLS.sub(lambda it: f"\\u{ord(it[0]):04x}", compact(value)).encode() + b"\n"
 
 
 class Selected:
@@ -135,4 +135,4 @@ class ByName(Objects):
                     "old": self.row(relation, it.old_cells()),
                     "new": self.row(relation, it.new),
                 }
-            yield compact(told)
+            yield json_line(told)

@@ -1,10 +1,10 @@
 """The side of the feed: gives commits to one reader, and notes where that one is."""
 
 import contextlib
-import json
 
 from ..errors import Damaged, Failure, Stopped, UsageError
 from ..interruption import Check
+from ..json_texts import compact
 from ..reader.commits import Commit, Head
 from ..reader.lines import FORMAT
 from ..reader.polling import Poll
@@ -24,7 +24,7 @@ def head_line(head: Head) -> bytes:
 
 
 def told(**more: object) -> bytes:
-    return json.dumps(more, ensure_ascii=False, separators=(",", ":")).encode() + b"\n"
+    return compact(more).encode() + b"\n"
 
 
 class Serving:

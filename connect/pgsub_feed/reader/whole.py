@@ -5,9 +5,9 @@ them nothing is complete: so that one alone ends at the LSN of the rows, and tho
 from where all rows come again.
 """
 
-import json
 from collections.abc import Iterable, Iterator
 
+from ..json_texts import compact
 from ..tables.schema import table_line
 from ..texts import lsn_text
 from .base import FirstRows, Section, base_of_feed
@@ -52,7 +52,7 @@ class Sections:
         assert self.section
         yield table_line(self.section.relation)
         for row in self.section.rows:
-            yield compact([cell_json(it) for it in row])
+            yield compact([cell_json(it) for it in row]).encode()
 
 
 def parts_of(section: Section, before: int, op: str = BASE) -> Iterator[Part]:
@@ -61,10 +61,6 @@ def parts_of(section: Section, before: int, op: str = BASE) -> Iterator[Part]:
     yield TableLine(relation)
     for n, cells in enumerate(section.rows, before):
         yield as_change((op, relation, n, None, cells))
-
-
-def compact(value: object) -> bytes:
-    return json.dumps(value, ensure_ascii=False, separators=(",", ":")).encode()
 
 
 def cell_json(cell: Cell) -> object:
@@ -124,7 +120,7 @@ class Whole(Reader):
             "rows": commit.changes,
             "bytes": size,
         }
-        return compact(told) + b"\n"
+        return compact(told).encode() + b"\n"
 
     def raw(self, commit: Commit) -> Iterable[list[bytes]]:
         if commit.base is None:

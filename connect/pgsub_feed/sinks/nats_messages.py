@@ -15,8 +15,8 @@ import json
 import re
 from typing import Any, NamedTuple
 
-from ..formats.keys import base_entry, compact, entry, subject
-from ..json_texts import Unreadable, lsn_of, object_of, parsed, whole_of
+from ..formats.keys import base_entry, entry, subject
+from ..json_texts import Unreadable, compact, lsn_of, object_of, parsed, whole_of
 from ..reader.commits import Cells, Change, Commit, Missed
 from ..relation import Relation
 from ..texts import lsn_text, parse_lsn

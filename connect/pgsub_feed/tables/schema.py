@@ -20,6 +20,7 @@ import contextlib
 import json
 import sqlite3
 
+from ..json_texts import compact
 from ..reader.lines import read_relation
 from ..relation import Relation
 from ..texts import parse_lsn
@@ -61,7 +62,7 @@ def relation_text(it: Relation, **more: object) -> str:
         "columns": columns,
         **more,
     }
-    return json.dumps(told, ensure_ascii=False, separators=(",", ":"))
+    return compact(told)
 
 
 def table_line(it: Relation) -> bytes:

@@ -9,6 +9,7 @@ from typing import Any
 
 from pgsub_feed.interruption import Check
 from pgsub_feed.options import option, plain_name, repeated
+from pgsub_feed.reader.polling import Parent
 from pgsub_feed.reader.reading import Reading
 from pgsub_feed.tables.values import AS_REAL, AS_TEXT, BOTH
 
@@ -32,14 +33,18 @@ class FollowingOptions:
     while_input: bool = option("--while-input", "end once standard input ends, too", False)
     mode: int = mode_option("mode of a file that is made")
 
+    def parent(self, check: Check) -> Parent | None:
+        """Whoever has started this, where it ends with that one's input."""
+        return Parent(check) if self.while_input else None
+
     def reading(self, tables: Iterable[str], until: int | None) -> Reading:
         store = StoreBeside(self.store, self.mode) if self.store else None
         more = not self.once, until, self.base, store, self.reader, self.mode
         return Reading(self.feed, tuple(tables), *more)
 
 
-def add_beginning(parser: argparse.ArgumentParser, base: str) -> None:
-    """Options on the rows with which it begins."""
+def add_following(parser: argparse.ArgumentParser, base: str, disk: str, done: str) -> None:
+    """Options on the rows with which it begins, on its reader, and for how long it follows."""
     add = parser.add_mutually_exclusive_group().add_argument
     add("--base", metavar="FILE", help=f"begin with the rows of this export, {base}")
     add(
@@ -48,19 +53,12 @@ def add_beginning(parser: argparse.ArgumentParser, base: str) -> None:
         default="",
         help="begin with the rows of this store; its follower is asked for a copy",
     )
-
-
-def add_reader(parser: argparse.ArgumentParser, disk: str) -> None:
     parser.add_argument(
         "--reader",
         metavar="NAME",
         type=plain_name,
         help=f"keep the LSN as FOLDER/readers/NAME too, once {disk} has the rows",
     )
-
-
-def add_end(parser: argparse.ArgumentParser, done: str) -> None:
-    """Options on for how long it follows."""
     add = parser.add_mutually_exclusive_group().add_argument
     add(
         "--follow",

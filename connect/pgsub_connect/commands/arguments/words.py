@@ -93,6 +93,10 @@ def check_files(
     check_apart(store, *named)
 
 
+def store_option(about: str, is_required: bool = True) -> Any:
+    return option("--store FILE", about, "", required=is_required)
+
+
 def mode_option(about: str) -> Any:
     return option("--mode OCTAL", f"{about} (default: 600)", 0o600, type=mode_of)
 
@@ -107,11 +111,8 @@ def use_mode(mode: int) -> None:
 class StoreCopyOptions:
     """Which store is copied, into which file."""
 
-    store: str = option(
-        "--store FILE",
-        "the store, which may be in use: then its follower is asked for a copy",
-        "",
-        required=True,
+    store: str = store_option(
+        "the store, which may be in use: then its follower is asked for a copy"
     )
     into: str = option(
         "--into FILE", "the file to write; one of an earlier run is replaced", "", required=True
