@@ -106,8 +106,7 @@ def known(word: str) -> str:
 
 
 def named(words: Sequence[str]) -> tuple[str, Sequence[str]]:
-    """The subcommand and its words. Without one it is `follow` where a store is named, and else
-    `record`."""
+    """The subcommand and its words; without one `follow` where a store is named, else `record`."""
     if words and words[0] in COMMANDS:
         return words[0], words[1:]
     if words and words[0] == HELP:

@@ -175,8 +175,7 @@ class Subscriber:
         return room.bytes.raw[: room.length.value]
 
     def position(self) -> tuple[int, int]:
-        """The LSN up to which the rows are complete, and the LSN up to which the server may
-        forget."""
+        """The LSNs up to which the rows are complete, and the server may forget."""
         position, confirmed = ctypes.c_uint64(), ctypes.c_uint64()
         self.check(self.library.call("position", self.handle, position, confirmed))
         return position.value, confirmed.value

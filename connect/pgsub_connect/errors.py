@@ -12,8 +12,7 @@ NO_SLOT, MISSED = 8, 9
 
 
 class Delayed(Passing):
-    """Commits at the server had to wait for too long, so nothing was repaired: another try may take
-    less."""
+    """Commits at the server waited for too long, so nothing was repaired: try again."""
 
 
 class NoSlot(Failure):

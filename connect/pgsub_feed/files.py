@@ -84,8 +84,7 @@ def own_files(path: str) -> re.Pattern[str]:
 
 
 def own_name(path: str) -> str:
-    """A name for a file of this process alone. What killed processes have left under such a name
-    goes."""
+    """A name for a file of this process alone. What killed processes have left goes."""
     pattern = own_files(path)
     for entry in os.scandir(os.path.dirname(os.path.abspath(path))):
         found = pattern.fullmatch(entry.name)

@@ -57,8 +57,7 @@ class KnownTables:
         self.waited: Stamp | None = None
 
     def primary(self, oid: int) -> tuple[str, ...] | None:
-        """The columns of a table's primary key, none where it has none; None of a table that isn't
-        known."""
+        """The columns of a table's primary key; None of a table that isn't known."""
         return self.tables[oid].primary if oid in self.tables else None
 
     def indexes(self, oid: int) -> tuple[Index, ...]:

@@ -53,8 +53,7 @@ class Declared:
 
 
 def option(words: str, about: str, default: Any = None, /, **more: Any) -> Any:
-    """A field with an option. `more` is for argparse; a default of () may be given again and
-    again."""
+    """A field with an option. `more` is for argparse; one with () may be repeated."""
     return dataclasses.field(default=default, metadata={KEY: Declared(words, about, more)})
 
 

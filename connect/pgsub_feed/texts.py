@@ -41,8 +41,7 @@ def literal(text: str) -> str:
 
 
 def replication_literal(text: str) -> str:
-    """A string constant of a replication command, in which a backslash is a character as any
-    other."""
+    """A string constant of a replication command, where backslashes are plain characters."""
     return "'" + text.replace("'", "''") + "'"
 
 

@@ -773,8 +773,8 @@ BUGS = (
     Bug(
         "what a commit that can't be read had is written",
         "pgsub_feed/sinks/redis_engine.py",
-        "        self.form.clear()\n        self.relations.load(",
-        "        self.relations.load(",
+        "        self.form.clear()\n        self.relations.go_back(",
+        "        self.relations.go_back(",
         ("test_sink_redis",),
     ),
     Bug(

@@ -151,8 +151,7 @@ class Leaving:
         return passed
 
     def is_beyond(self, keepalive: bytes) -> bool:
-        """Whether a keepalive within a transaction says more than may be confirmed before the rows
-        of some table are stored."""
+        """Whether a keepalive in a transaction says more than may be confirmed by then."""
         end = int.from_bytes(keepalive[1:9], "big")
         return self.is_inside and any(self.lsn < it <= end for it in self.points.values())
 
@@ -162,8 +161,7 @@ class Leaving:
         return self.described.get(message[1:5], message) != message
 
     def truncation(self, payload: bytes) -> bytes:
-        """A Truncate without the tables whose changes are left out; nothing where no other is
-        left."""
+        """A Truncate without the tables that are left out; nothing where no other is left."""
         oids = [payload[at : at + 4] for at in range(31, len(payload) - 3, 4)]
         left = [it for it in oids if not self.leaves_out(it)]
         if len(left) == len(oids):
@@ -234,8 +232,7 @@ class LeftOut:
         return {**dict.fromkeys(sorted(self.remembered.partial), 0), **self.checkpoint.adding()}
 
     def fill(self) -> None:
-        """Leaves out the changes of the next tables that are wanted, as many as may be at a
-        time."""
+        """Leaves out the changes of the next tables that are wanted, as many as may be."""
         adding, wanted = self.checkpoint.adding(), self.remembered.wanted
         for oid, why in wanted.items():
             if why or oid in adding or oid in self.remembered.partial:

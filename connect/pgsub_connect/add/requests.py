@@ -21,8 +21,7 @@ class Stream(Protocol):
     """The follower, as far as tables are added by it."""
 
     def serve_server(self) -> None:
-        """Keeps the server content while something else is waited for. Raises where the end was
-        asked for."""
+        """Keeps the server content during another wait. Raises where the end was asked for."""
 
     def attend(self) -> None:
         """Keeps server and filter content in a session while something else is waited for. Raises

@@ -131,8 +131,7 @@ class RowsSender:
         self.stream, self.tell = stream, tell
 
     def send(self, rows: Rows, blocks: Iterable[list[bytes]], total: int | None) -> None:
-        """Passes on the whole transaction. `total`: about how many rows it has, where that is
-        known."""
+        """Passes on the whole transaction. `total`: about how many rows it has, if known."""
         began, meter = time.monotonic(), Meter(f"adding {rows.table.text()}")
         for it in rows.opening():
             self.push(it, [payload_of(it)])

@@ -90,8 +90,7 @@ def add(
     check: Check,
     removes: Mapping[int, str] = MappingProxyType({}),
 ) -> int:
-    """Has tables added, by their OIDs, and the rows of others removed, and waits for it; the exit
-    status."""
+    """Has tables added, and the rows of others removed, and waits for it; the exit status."""
     tables = {**adds, **removes}
     parts = (("adds", adds), ("removes the rows of", removes))
     names = " and ".join(f"{what} {names_of(list(it.values()))}" for what, it in parts if it)

@@ -69,8 +69,7 @@ class Told(NamedTuple):
 
 
 def compared(remembered: Remembered, now: Catalog) -> list[Told]:
-    """All that is wrong by what is remembered, which is changed by that, and by what a server has
-    now."""
+    """All that is wrong by what is remembered, which changes, and by what a server has now."""
     before = remembered.catalog
     assert before is not None
     known = set(before.tables)

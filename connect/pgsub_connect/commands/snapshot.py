@@ -33,8 +33,7 @@ def is_snapshot(path: str) -> bool:
 
 
 def check_copied(store: str, path: str, option: str = "--into") -> None:
-    """Rejects to replace a file by a copy of a store, unless it is such a copy itself. An option
-    names it."""
+    """Rejects to replace, by a copy of a store, a file of an option that is no such copy."""
     check_into(store, path, is_snapshot, "an earlier copy of a store", option)
 
 

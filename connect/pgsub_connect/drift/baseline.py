@@ -90,8 +90,7 @@ class Baseline:
         return catalog is not None and oid in catalog.partitions and oid not in catalog.tables
 
     def last_sent(self, oid: int) -> int:
-        """The LSN of the commit with the last Relation message of this OID, -1 where none has
-        come."""
+        """The LSN of the commit with this OID's last Relation message, -1 where there is none."""
         return self.sent[oid].lsn if oid in self.sent else -1
 
     def text_of(self, oid: int) -> str:
@@ -163,8 +162,7 @@ class Baseline:
             self.found.find(NAMES, lsn, text)
 
     def note(self, relation: Relation, lsn: int, last: int) -> None:
-        """Takes a Relation message of a change into account. `last`: up to which commit those of
-        this OID are known."""
+        """Takes a Relation message into account. `last`: up to where this OID's are known."""
         if self.catalog is None or lsn <= last:
             return
         with self.unsaved.noting(relation, lsn):
@@ -203,8 +201,7 @@ class Baseline:
         return self.found.find(kind, lsn, text, about)
 
     def described(self, oid: int) -> Relation | None:
-        """A table as it was described last, by which its rows can go; None where that isn't
-        known."""
+        """A table as it was described last, by which its rows can go; None where unknown."""
         sent, key = self.sent.get(oid), self.names.key_of(oid)
         return Relation(oid, *key, sent.shape) if key and sent and sent.shape else None
 
@@ -231,8 +228,7 @@ class Baseline:
         self.unsaved.change()
 
     def note_database(self, oid: int, name: str) -> str:
-        """Notes the database that is followed. Returns what is to be told of it, where its name was
-        another one."""
+        """Notes the database that is followed. Returns what is to be told of another name."""
         before, self.database = self.database, (oid, name)
         if before != self.database:
             self.unsaved.note()

@@ -88,8 +88,7 @@ def catalog_of(said: dict[str, Any]) -> Catalog:
 
 
 def publication_of(said: dict[str, Any]) -> Publication:
-    """A publication; an earlier version of this program didn't keep whose it is and who has written
-    it."""
+    """A publication; earlier versions didn't keep whose it is and who has written it."""
     whole, via_root, generated = (bool(said[it]) for it in ("whole", "via_root", "generated"))
     more = int(said.get("owner", 0)), str(said.get("since", ""))
     actions = tuple(said["actions"])

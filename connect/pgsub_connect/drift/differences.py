@@ -76,8 +76,7 @@ def keys_of(shape: Shape) -> list[str]:
 
 
 def type_differences(oid: int, old: dict[str, str], new: dict[str, str]) -> Iterator[Difference]:
-    """Labels that were renamed, and parts of composite types. A label that was added changes no
-    value."""
+    """Labels that were renamed, and parts of composite types. A new label changes no value."""
     name, about = f"type {new.get('name', '')} ({oid})", About(type_oid=oid)
     renamed = sorted(
         f"{old[it]} became {new[it]}"
@@ -210,8 +209,7 @@ def written_anew(oid: int, before: Catalog, now: Catalog) -> list[Table | Partit
 
 
 def asks_rows(oid: int, before: Catalog, now: Catalog) -> list[int]:
-    """Those of them of which only their rows tell whether it was done; none where it is certain of
-    one."""
+    """Those of which only their rows tell whether it was done; none where one is certain."""
     oids = []
     for it in written_anew(oid, before, now):
         was = before.tables.get(it.oid) or before.partitions.get(it.oid)

@@ -180,8 +180,7 @@ def unlogged_names(now: Catalog) -> list[str]:
 
 @understood("types")
 def naming_columns(connection: Connection, now: Catalog) -> list[str]:
-    """The published columns with such types in them: in arrays, domains, ranges and composites
-    too."""
+    """The published columns with such types, in arrays, domains, ranges and composites too."""
     columns = [(table, column) for table in now.tables.values() for column in table.columns]
     used = sorted({column.type_oid for _, column in columns})
     query = (

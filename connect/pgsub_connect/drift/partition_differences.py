@@ -52,8 +52,7 @@ def is_made_in(oid: int, before: Catalog, now: Catalog) -> bool:
 
 
 def partition_differences(before: Catalog, now: Catalog) -> Iterator[Difference]:
-    """Those of partitions whose rows are published under another name. Any other is a published
-    table itself."""
+    """Those of partitions under another name. Any other is a published table itself."""
     for oid in sorted(before.partitions.keys() | now.partitions.keys()):
         was, root = root_of(oid, before), root_of(oid, now)
         if was != root and was in now.tables:

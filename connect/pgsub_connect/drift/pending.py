@@ -28,8 +28,7 @@ class Outstanding:
         self.wanted |= {oid: "" for oid in (*oids, *self.unwanted)}
 
     def added(self, oid: int) -> bool:
-        """Notes that a table was added, or isn't to be any more. Returns whether its rows were to
-        go."""
+        """Notes that a table was added, or won't be. Returns whether its rows were to go."""
         self.wanted.pop(oid, None)
         self.partial.discard(oid)
         return oid in self.unwanted

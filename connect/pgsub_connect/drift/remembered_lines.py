@@ -83,8 +83,7 @@ class DurableFile:
 
 
 def append(path: str, content: bytes, inode: int, length: int) -> bool:
-    """Adds to a file durably, unless it is gone, another one, or has another length. Returns
-    whether it did."""
+    """Adds to a file durably, unless it is gone, or altered. Returns whether it did."""
     try:
         number = os.open(path, os.O_WRONLY | os.O_APPEND | os.O_CLOEXEC | os.O_NOFOLLOW)
     except FileNotFoundError:

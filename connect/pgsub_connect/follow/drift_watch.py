@@ -77,8 +77,7 @@ class Watch:
         return [*found.texts, *([f"and {found.more} more"] if found.more else [])]
 
     def lasting_of(self, kind: str) -> list[str]:
-        """What was found of this kind but for tables whose rows are being added, or may be, by
-        which it goes."""
+        """What was found of this kind, but for tables whose rows are added, or may be."""
         going, texts = {it for it, why in self.remembered.wanted.items() if not why}, self.texts_of(
             kind
         )
@@ -165,8 +164,7 @@ class Watch:
             return False
 
     def tell_hindered(self, error: ServerError) -> None:
-        """Tells once why a look isn't possible, until one is: somebody may hold a lock for
-        hours."""
+        """Tells once why a look isn't possible, until one is: a lock may be held for hours."""
         if not self.is_hindered:
             log.warning(f"the publications can't be looked at now: {error}")
         self.is_hindered = True

@@ -80,8 +80,7 @@ class Keeper(threading.Thread):
         self.tend(time.monotonic())
 
     def tend(self, now: float) -> None:
-        """Does what it is time for. First old segments go, since a disk that is full may have room
-        by that."""
+        """Does what it is time for. Old segments go first: a full disk may have room by that."""
         reached = self.reached()
         if now - self.retired >= RETIRE:
             self.retired = now

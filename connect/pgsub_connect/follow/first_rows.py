@@ -118,8 +118,7 @@ class FromCopy(RowsBeside):
 
 
 class FirstRows(FromCopy):
-    """That which makes tables. Where it fails, they are made as if it hadn't been: from the
-    store."""
+    """That which makes tables. Where it fails, they are made from the store."""
 
     def __init__(self, settings: TablesSettings, checkpoint: int) -> None:
         super().__init__(settings.path, "copied_rows", checkpoint)

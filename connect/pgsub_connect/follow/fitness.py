@@ -23,8 +23,7 @@ from .drift_watch import Watch
 
 
 class Fitting:
-    """Compares what a store's checkpoint says with a server, and notes there whose changes the
-    store has."""
+    """Compares a store's checkpoint with a server, and notes whose changes the store has."""
 
     def __init__(self, no_copy: bool, watch: Watch) -> None:
         self.no_copy, self.watch, self.checkpoint = no_copy, watch, watch.checkpoint

@@ -241,8 +241,7 @@ class TablesSettings:
 
 
 def check(settings: TablesSettings) -> None:
-    """Rejects a file that can't be one of tables that follow this store's feed, before anything is
-    made."""
+    """Rejects a file that can't be one of tables that follow this store's feed."""
     path, folder = settings.path, os.path.dirname(os.path.abspath(settings.path))
     if not os.path.lexists(path):
         if not os.path.isdir(folder):

@@ -144,8 +144,7 @@ class Requests:
         self.waits.tend()
 
     def serve_copy(self) -> None:
-        """Keeps the server content while the store is copied. Ends one for which commits have
-        waited for too long."""
+        """Keeps the server content during a copy, which ends where commits wait for too long."""
         self.upkeep.serve_server()
         if self.gating.is_over():
             raise OSError(0, WAITED)

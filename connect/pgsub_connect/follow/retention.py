@@ -45,8 +45,7 @@ class Segment:
 
 @dataclasses.dataclass
 class Retired:
-    """What has gone: how many segments, whether the first rows, and the readers that hadn't read
-    them."""
+    """What has gone: how many segments, whether first rows, and readers that lacked them."""
 
     segments: int = 0
     base: bool = False

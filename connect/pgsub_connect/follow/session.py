@@ -147,8 +147,7 @@ class Session:
         self.delay.note_lasting(now - began, self.schedule.heartbeat)
 
     def ends_for_another(self, connection: Connection) -> bool:
-        """Goes on with what others have asked for. Returns whether another session is to begin for
-        that."""
+        """Goes on with what others have asked for; whether another session begins for that."""
         self.progress.beat()
         if self.progress.server.was_promoted:
             raise ServerError("the standby was promoted: a session with the new primary is begun")

@@ -117,8 +117,7 @@ class Snapshots:
                 self.take_up(client, client.asked or {}, position)
 
     def take_up(self, client: Client, asked: dict[str, Any], position: int) -> None:
-        """Does what is asked, or has it done. It stays the next one where it waits for another
-        session."""
+        """Does what is asked, or has it done; it stays where it waits for another session."""
         if asked["ask"] == "add":
             self.requests.take()
             if (error := self.adds(asked)) is None:
@@ -154,8 +153,7 @@ class Snapshots:
         return ""
 
     def obstacle_to_hold(self, asked: dict[str, Any]) -> str:
-        """Why the stream can't be held for whoever will tell an LSN within some seconds, "" where
-        it can."""
+        """Why the stream can't be held for whoever will tell an LSN, "" where it can."""
         seconds: Any = asked.get("seconds")
         if type(seconds) not in (int, float) or not 0 < seconds <= LONGEST:
             return f"it may be held for {LONGEST:.0f} seconds at most"
@@ -172,8 +170,7 @@ class Snapshots:
         return maker if delays and type(maker) is int else 0
 
     def look_after(self) -> None:
-        """Goes on up to the LSN that is told now, or lets the stream go where nobody waits for it
-        any more."""
+        """Goes on up to the LSN that is told now, or lets go where nobody waits any more."""
         hold, client = self.hold, self.client
         if hold.is_sent:
             # (the changes are on their way, whoever has asked)

@@ -77,8 +77,7 @@ def judge_identities(facts: Facts, purpose: server.Purpose) -> server.Judged:
 
 
 def judge_locks(facts: Facts, purpose: server.Purpose) -> server.Judged:
-    """The shared table of locks has room for so many a transaction, and all transactions share
-    it."""
+    """The table of locks has room for so many a transaction, and all of these share it."""
     each = server.number(facts, "max_locks_per_transaction")
     room = each * (
         server.number(facts, "max_connections") + server.number(facts, "max_prepared_transactions")

@@ -85,8 +85,7 @@ class Recorder(Worker):
         self.connection = None
 
     def connect(self) -> Connection:
-        """Connects, and looks for what the server's version hasn't got, before anything is made
-        there."""
+        """Connects, and looks for what the server's version hasn't got."""
         subscription = self.subscription
         self.connection = connection = Connection(
             subscription.dsn, replication=True, name=subscription.slot, check=self.check_stop
@@ -143,8 +142,7 @@ class Recorder(Worker):
         return f"START_REPLICATION SLOT {slot} LOGICAL {start} ({', '.join(words)})"
 
     def send_status(self, connection: Connection) -> None:
-        """Tells the server that it is heard. Only the second number, what is flushed, lets it
-        forget its log."""
+        """Tells the server that it is heard. Only what is flushed lets it forget its log."""
         confirmed = min(self.settings.confirm, self.progress.commit_end)
         clock = int((time.time() - EPOCH) * 1000000)
         received = max(self.progress.server_end, confirmed)

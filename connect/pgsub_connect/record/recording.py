@@ -98,8 +98,7 @@ def opened(path: str, append: bool, mode: int, overwrites: bool) -> int:
 
 
 class Aside:
-    """A recording beside a follower: where it can't be written any more, it ends, and following
-    goes on."""
+    """A recording beside a follower: where it can't be written, it alone ends."""
 
     def __init__(self, recording: Recording) -> None:
         self.recording: Recording | None = recording

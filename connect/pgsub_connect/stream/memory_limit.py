@@ -16,8 +16,7 @@ LEAST = 64 << 20
 
 @dataclasses.dataclass(frozen=True)
 class BufferLimits:
-    """What a filter may buffer of open transactions, and the longest frame that it accepts, in
-    bytes."""
+    """What a filter may buffer of open transactions, and its longest frame, in bytes."""
 
     max_buffered: int = 0
     max_frame: int = 0
@@ -68,8 +67,7 @@ SMALL = 1 << 20
 
 
 class KilledTwice(FilterEnded):
-    """The filter was killed twice in the same transaction: another try would end in the same
-    way."""
+    """The filter was killed twice in the same transaction: so it would be again."""
 
     def is_rejection(self) -> bool:
         return True

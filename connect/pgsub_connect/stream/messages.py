@@ -79,8 +79,7 @@ def flushed(payload: bytes) -> int:
 
 
 def without_received(payload: bytes) -> bytes:
-    """A status that claims no more to be received than is confirmed: what holds after a
-    disconnection."""
+    """A status that claims no more than is confirmed: what holds after a disconnection."""
     return payload[:1] + payload[9:17] + payload[9:]
 
 

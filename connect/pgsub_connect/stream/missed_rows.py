@@ -74,8 +74,7 @@ class Misses:
         return missing.total > self.noted
 
     def note(self, missing: Missing, position: int) -> None:
-        """Notes durably what the filter says, before its commits up to this position are
-        confirmed."""
+        """Notes durably what the filter says, before its commits up to here are confirmed."""
         more = missing.total - self.noted
         self.checkpoint.note_missing(more, missing.first, missing.relation, position)
         self.noted, self.count = missing.total, self.count + more

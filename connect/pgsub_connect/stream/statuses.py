@@ -37,8 +37,7 @@ class Reached:
 
 
 class Confirming:
-    """What is confirmed. `position`: the greatest end of a commit that was passed on and is
-    confirmed."""
+    """What is confirmed. `position`: the greatest end of a commit that is."""
 
     def __init__(self, child: Filter, noting: Noting, misses: Misses) -> None:
         self.filter, self.noting, self.misses = child, noting, misses
@@ -167,8 +166,7 @@ class Confirming:
             self.pass_on(self.held)
 
     def repeat(self, asks: bool = False) -> None:
-        """Sends the last status again, the one that waits before it. `asks`: the server is to
-        answer."""
+        """Sends the last status again, or one that waits. `asks`: the server is to answer."""
         self.release()
         self.send(asking(self.told) if asks else self.told)
 

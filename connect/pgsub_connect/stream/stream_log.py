@@ -200,8 +200,7 @@ class Noting:
         self.last = payloads[-1][:AT] if payloads else self.last
 
     def note_rows(self, oid: int, count: int, size: int) -> None:
-        """Notes Inserts of a table in the transaction that is under way, of so many bytes
-        together."""
+        """Notes Inserts of a table in the transaction under way, of so many bytes together."""
         key = b"I" + oid.to_bytes(4, "big")
         self.counts[key] = self.counts.get(key, 0) + count
         self.total += size
@@ -281,8 +280,7 @@ class Noting:
         self.progress.lag.note_waiting(commit_time(first) if first else None)
 
     def confirm(self, confirmed: int, position: int) -> int:
-        """Forgets commits that are confirmed. Returns the store's position by them, at least
-        `position`."""
+        """Forgets confirmed commits. Returns the store's position, at least `position`."""
         ends, passed = self.ends, self.passed
         if not ends or ends[0] > confirmed:
             return position
@@ -294,8 +292,7 @@ class Noting:
         return position
 
     def stored(self, confirmed: int, position: int) -> int:
-        """The store's position where this is confirmed, by commits that were passed on; at least
-        `position`."""
+        """The store's position by commits where this is confirmed; at least `position`."""
         if self.ends and position <= self.ends[-1] <= confirmed:
             return self.ends[-1]
         return max((end for end in self.ends if end <= confirmed), default=position)
@@ -313,8 +310,7 @@ class Noting:
         return ""
 
     def largest(self) -> tuple[int, int]:
-        """The xid of the largest transaction that isn't confirmed, and how many bytes of it were
-        passed on."""
+        """The xid of the largest transaction that isn't confirmed, and its bytes so far."""
         sizes = {xid_of(it[0]): it[3] for it in self.passed}
         sizes |= {xid: it.size for xid, it in self.open.items()}
         if self.current:

@@ -64,8 +64,7 @@ class Described:
 
 
 class Streamed:
-    """A transaction that comes in blocks: its changes, its Relation messages, and its bytes so
-    far."""
+    """A transaction in blocks: its changes, its Relation messages, and its bytes so far."""
 
     __slots__ = ("counts", "relations", "size", "about")
 

@@ -109,8 +109,7 @@ class Mender:
             self.mend(plan, ours[plan.table.oid])
 
     def has_shape(self, table: Table) -> bool:
-        """Whether the copy has a table's rows under the same definition; leaves it where it
-        hasn't."""
+        """Whether the copy has a table under the same definition; leaves it where it hasn't."""
         here = self.sides.copy.relation(table.oid)
         known = here and (here.shape.identity, [(it.name, it.key) for it in here.shape.columns])
         if known and known != (table.identity, [(it.name, it.key) for it in table.columns]):

@@ -45,8 +45,7 @@ class Copied(Protocol):
     counts: dict[int, int]
 
     def columns(self, table: Table) -> list[str]:
-        """The names of a table's columns here; those of the server where nothing of it ever
-        came."""
+        """The names of a table's columns here; the server's where nothing of it ever came."""
 
     def relation(self, oid: int) -> Relation | None:
         """A table's definition here, None where nothing of it ever came."""

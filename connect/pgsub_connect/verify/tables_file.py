@@ -142,8 +142,7 @@ def tables_of(views: Sequence[View]) -> list[Table]:
 
 
 def source_in(view: View, feed: str) -> Head | None:
-    """What a file's rows are of. One that has taken no commit yet doesn't say it, but its feed
-    does."""
+    """What a file's rows are of. Of one without a commit yet its feed says it."""
     folder = feed or view.folder
     return view.source or (read_source(folder) if os.path.isdir(folder) else None)
 

@@ -144,8 +144,7 @@ class View:
         return {oid: it.sums for oid, it in found.items()}
 
     def digested(self, plans: Iterable[Plan]) -> dict[int, Sums]:
-        """Those of tables with one chunk, by the digests that the file keeps. Of one that has none,
-        by its rows."""
+        """Those of tables with one chunk, by the file's digests, or else by the rows."""
         found, read = dict[int, Summing](), list[Plan]()
         for plan in plans:
             digest = self.digests.get(plan.table.oid)

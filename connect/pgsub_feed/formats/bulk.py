@@ -128,8 +128,7 @@ class Bulk(Objects):
             log.warning(text)
 
     def key(self, commit: Commit, relation: Relation) -> list[int]:
-        """The numbers of the columns by which documents of a table are named; none where it is left
-        out."""
+        """The columns by which a table's documents are named; none where it is left out."""
         oid = relation.oid
         if oid in self.found and self.found[oid][0] is relation:
             return self.found[oid][1]
@@ -162,8 +161,7 @@ class Bulk(Objects):
         return ((), f": {lacks}") if lacks else (other_key(relation, known), "")
 
     def give_up(self, commit: Commit, relation: Relation, why: str) -> None:
-        """Leaves a table out from this commit on: documents of others have one name with its
-        rows."""
+        """Leaves a table out from now on: documents of others have one name with its rows."""
         if relation.oid in self.given_up:
             return
         self.given_up.add(relation.oid)

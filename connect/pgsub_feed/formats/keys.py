@@ -63,8 +63,7 @@ def escaped(text: str, kept: frozenset[int], digits: str = "%{:02X}") -> str:
 
 
 def index_text(schema: str, table: str) -> str:
-    """A table's name as that of an index, which has no capitals, and doesn't begin with any
-    sign."""
+    """A table's name as that of an index, which has no capitals, and begins with no sign."""
     name = escaped(table, OF_INDEX, "%{:02x}")
     if schema != "public":
         name = escaped(full(schema), OF_INDEX, "%{:02x}") + "." + name

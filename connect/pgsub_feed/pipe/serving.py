@@ -28,8 +28,7 @@ def told(**more: object) -> bytes:
 
 
 class Serving:
-    """One reader, from its LSN on. With a name it keeps what it lacks, as readers on this host
-    do."""
+    """One reader, from its LSN on. With a name the feed keeps what it lacks."""
 
     def __init__(
         self, feed: str, pipes: Pipes, follows: bool, name: str | None, check: Check

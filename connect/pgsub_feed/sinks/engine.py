@@ -76,12 +76,10 @@ class Engine(Keeper, Protocol):
         """Begins anew, with the rows of a base."""
 
     def finish(self, seconds: float) -> bool:
-        """Has what was taken, where that takes no longer. Returns whether so. Nothing is taken
-        afterwards."""
+        """Has what was taken, in so many seconds; whether so. Nothing is taken afterwards."""
 
     def check_disk(self) -> None:
-        """Rejects settings under which it is never known what the engine's disk has. It alters
-        nothing."""
+        """Rejects settings under which it is never known what the engine's disk has."""
 
     def close(self) -> None:
         """Ends the connection."""

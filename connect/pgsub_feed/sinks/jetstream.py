@@ -182,8 +182,7 @@ class JetStream:
         return header_bytes({"Nats-Msg-Id": id, "Nats-Expected-Last-Sequence": str(self.sequence)})
 
     def publish(self, subject: str, id: str, payload: bytes) -> None:
-        """Publishes a message as the one after those before: the stream takes it there or not at
-        all."""
+        """Publishes the next message: the stream takes it in its place or not at all."""
         headers = self.headers(id)
         self.sequence += 1
         size = len(headers) + len(payload)

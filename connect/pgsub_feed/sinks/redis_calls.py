@@ -90,8 +90,7 @@ def is_of_certificate(error: BaseException) -> bool:
 
 
 def packed_command(command: Command) -> bytes:
-    """A command as it is sent. (The library takes longer for that than all else that a change
-    needs.)"""
+    """A command as it is sent. (The library takes longer than all else of a change.)"""
     words = [it if isinstance(it, bytes) else str(it).encode() for it in command]
     return b"".join([b"*%d\r\n" % len(words), *(b"$%d\r\n%b\r\n" % (len(it), it) for it in words)])
 
@@ -215,8 +214,7 @@ class Connection:
         return ""
 
     def text(self, error: Exception) -> str:
-        """An error as Redis has said it: the library takes the code away from those that it
-        knows."""
+        """An error as Redis has said it: the library takes known codes away."""
         codes = {
             "BusyLoadingError": "LOADING",
             "ReadOnlyError": "READONLY",

@@ -130,8 +130,7 @@ class Relations:
         self.is_changed = True
 
     def describe(self, relation: Relation, lsn: int) -> Kept | None:
-        """The table of a relation, as a commit that ends at this LSN has it; None where it is left
-        out."""
+        """The table of a relation in a commit that ends there; None where it is left out."""
         kept = self.kept.get(relation.oid)
         return self.keep(relation, kept, self.primary(relation, kept, lsn))
 

@@ -183,8 +183,7 @@ class Applier:
         return kept.oid in self.truncated or self.was_empty[kept.oid] and op == "c"
 
     def repair(self, kept: Kept, changes: list[Change]) -> None:
-        """Makes rows what they were repaired to. What the copy had of them before may never have
-        been here."""
+        """Makes rows what they were repaired to. What was before may never have been here."""
         if not kept.target.is_keyed or kept.have_null_keys(
             [it.after for it in changes if it.after]
         ):
@@ -204,8 +203,7 @@ class Applier:
             self.rows.digests.note(kept, added)
 
     def make(self, kept: Kept, changes: list[Change]) -> None:
-        """Makes changes of one kind. A table whose key turns out to be none of SQLite's is made
-        anew."""
+        """Makes changes of one kind. A table whose key is none of SQLite's is made anew."""
         if kept.have_null_keys([it.after for it in changes if it.after]):
             kept = self.loosened(kept)
         # (a single statement leaves nothing where it fails)

@@ -114,8 +114,7 @@ class Digests:
         self.images.pop(kept.oid, None)
 
     def note(self, kept: Kept, changes: list[Change]) -> None:
-        """Takes changes of one kind into account. (A table of which nothing was told has no digest
-        yet.)"""
+        """Takes changes of one kind into account. (An untold table has no digest yet.)"""
         if kept.oid not in self.known:
             return
         if changes[0].op == "t":

@@ -149,8 +149,7 @@ class Rows:
         self.is_init_due = is_init_due
 
     def close(self, is_orderly: bool) -> None:
-        """Closes the file. At an orderly end it needs no log, unless somebody reads it just
-        then."""
+        """Closes the file. In the end it needs no log, unless somebody reads it just then."""
         if self.db.in_transaction:
             self.db.execute("ROLLBACK")
         if is_orderly:
@@ -201,8 +200,7 @@ class Rows:
     # ---- its tables
 
     def as_told(self, relation: Relation) -> Kept | None:
-        """The table of a relation, where it has its name and shape, and all that is known of its
-        key."""
+        """The table of a relation, where it has its name and shape, and its known key."""
         kept = self.kept.get(relation.oid)
         if kept is None or kept.relation != relation or kept.name.startswith(OLDER):
             return None

@@ -24,8 +24,7 @@ def folded(name: str) -> str:
 
 
 def table_name(schema: str, table: str) -> str:
-    """The name that a table gets where nothing else has it: its own in `public`, and else with the
-    schema."""
+    """The name that a table gets where it is free: its own in `public`, else with the schema."""
     return table if schema == "public" else f"{schema or 'pg_catalog'}.{table}"
 
 

@@ -83,8 +83,7 @@ def loosen(db: sqlite3.Connection, kept: Kept) -> Kept:
 
 
 def extend(db: sqlite3.Connection, old: Kept, new: Kept) -> bool:
-    """Adds columns to the table that is there, where nothing else was altered; whether that was
-    so."""
+    """Adds columns to the table where nothing else was altered; whether so."""
     was, now, count = old.target, new.target, len(old.target.several)
     if (was.columns, was.key, was.is_keyed) != (now.columns[: old.width], now.key, now.is_keyed):
         return False

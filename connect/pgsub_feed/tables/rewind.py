@@ -37,8 +37,7 @@ class Way:
     told: dict[int, Relation] = dataclasses.field(default_factory=dict)
 
     def note(self, parts: Iterable[Part]) -> None:
-        """Notes what a commit tells of relations, by definitions or by rows that follow another
-        one's."""
+        """Notes what a commit tells of relations, by definitions or by rows of another one."""
         last: Relation | None = None
         for part in parts:
             if part.relation is not last and not isinstance(part, Missed):

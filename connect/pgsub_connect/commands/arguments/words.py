@@ -87,8 +87,7 @@ def check_needs(parser: argparse.ArgumentParser, options: object, *pairs: tuple[
 def check_files(
     store: str, written: dict[str, str | None], read: dict[str, str | None] | None = None
 ) -> None:
-    """Rejects to write what is the store's, or what another option names. Each path has its
-    option."""
+    """Rejects to write what is the store's, or what another option names, by their options."""
     named = ([(option, it) for option, it in some.items() if it] for some in (written, read or {}))
     check_apart(store, *named)
 
@@ -102,8 +101,7 @@ def mode_option(about: str) -> Any:
 
 
 def use_mode(mode: int) -> None:
-    """Has all files get the mode that was asked for, and not what the caller's umask leaves of
-    it."""
+    """Has all files get the mode that was asked for, whatever the caller's umask is."""
     os.umask(0o777 & ~mode)
 
 
