@@ -47,8 +47,7 @@ class Calls:
 
     @contextlib.contextmanager
     def interruptible(self, check: Check, grace: float = 0.0) -> Iterator[None]:
-        """Has a signal end what runs in it by a Stopped, where it isn't through so many seconds
-        later."""
+        """Has a signal end what runs in it by a Stopped, unless it ends in so many seconds."""
         before = self.are_waiting, self.grace
         self.are_waiting, self.grace = True, grace
         try:

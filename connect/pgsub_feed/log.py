@@ -102,8 +102,7 @@ EACH_LINE, WRITTEN = 0.2, 30.0
 
 
 class Meter:
-    """Of work that begins with the first call of `note`. `about`: what it is; `unit`: what is
-    counted."""
+    """Of work that begins at the first `note`. `about`: what it is; `unit`: what counts."""
 
     def __init__(self, about: str, unit: str = "rows") -> None:
         self.about, self.unit = about, unit
@@ -111,8 +110,7 @@ class Meter:
         self.began, self.first, self.done, self.shown = 0.0, 0, -1, 0.0
 
     def note(self, done: int, total: int | None = None, about: str = "") -> None:
-        """So much is done by now, of so much in all where that is known. `about`: which part of the
-        work it is at."""
+        """So much is done, of so much in all if known. `about`: which part it is at."""
         now, is_drawn = time.monotonic(), is_terminal()
         # (what is lost begins anew)
         if not 0 <= self.done <= done:

@@ -5,8 +5,7 @@ from typing import NamedTuple
 
 
 class Column(NamedTuple):
-    """A published column. `number` is its attribute number, 0 where a Relation message is all that
-    is known of it."""
+    """A published column. `number`: its attribute's, 0 where only a Relation message is known."""
 
     name: str
     type_oid: int

@@ -63,8 +63,7 @@ def duration_text(seconds: float) -> str:
 
 
 def is_utf_8(text: str) -> bool:
-    """Whether a word of the command line, or the like, was UTF-8: bytes that aren't have become
-    surrogates."""
+    """Whether a word of the command line was UTF-8: other bytes have become surrogates."""
     try:
         text.encode()
     except UnicodeEncodeError:

@@ -200,8 +200,7 @@ class Adder:
         self.show("waits for a slot")
 
     def hold_stream(self) -> None:
-        """Holds the stream. Where commits wait for it, the slot is made meanwhile, and it goes on
-        up to a gate."""
+        """Holds the stream; where commits wait, up to a gate while the slot is made."""
         if self.progress.server.is_waited_for:
             self.hold.begin(None, 0.0, maker=self.turn.maker())
             self.turn.begin_making()
@@ -257,8 +256,7 @@ class Adder:
         return []
 
     def send(self) -> None:
-        """Passes on the rows. Where that fails the session ends, since a part of their transaction
-        was passed on."""
+        """Passes on the rows. Where that fails in part, the session ends."""
         turn, rows = self.turn, self.turn.rows()
         self.remembered.replaced(turn.relation(), rows.lsn)
         try:

@@ -65,8 +65,7 @@ class Options(StoreOptions):
 
 
 def read_remembered(path: str) -> dict[str, Any]:
-    """What is remembered beside the store; nothing where that can't be read, since it is only asked
-    for names."""
+    """What is remembered beside the store, for names alone; nothing where it can't be read."""
     with contextlib.suppress(OSError, Unreadable):
         return read_lines(path)[0]
     return {}
@@ -132,8 +131,7 @@ class Dropper:
         self.slot = self.known.slot or options.slot
 
     def run(self) -> None:
-        """Slot first, since the server's disk fills because of it; files last, since they say what
-        else there is."""
+        """Slot first, which fills the server's disk; files last, which say what else there is."""
         with locked(self.store + ".connector"):
             dsn, name = self.options.dsn, f"{self.slot} drop"
             with contextlib.closing(Connection(dsn, name=name, check=self.check)) as connection:

@@ -30,8 +30,7 @@ NAMED = 20
 
 
 def shape_differences(oid: int, table: str, old: Shape, new: Shape) -> Iterator[Difference]:
-    """What of another definition may have changed values in rows that were there. Columns that only
-    went have not."""
+    """What of another definition may have changed values in rows. Columns that went have not."""
     about = About((oid,))
     for column in added_columns(old, new):
         text = f"column {column.name} of {table} was added or renamed: rows that were there have nulls in it"
@@ -282,8 +281,7 @@ def ways_of(table: Table, catalog: Catalog, other: Catalog) -> Ways:
 
 
 def has_left(old: Table, new: Table, before: Catalog, now: Catalog) -> bool:
-    """Whether some rows that are sent of a table in both readings weren't in between, as far as
-    that is known."""
+    """Whether some rows of a table, sent in both readings, weren't in between."""
     was, are = ways_of(old, before, now), ways_of(new, now, before)
     oids = {name: it.oid for name, it in before.publications.items()}
     # (what is sent by a publication that is new itself is told by that)

@@ -13,8 +13,7 @@ Key = tuple[str, str]
 
 @dataclasses.dataclass
 class Name:
-    """Which OID a name has, None where its table has another name now; since when; and which ones
-    had it before."""
+    """Which OID a name has, None where none has it now; since when; and which had it before."""
 
     oid: int | None
     since: int

@@ -91,8 +91,7 @@ def detachments(before: Catalog, now: Catalog) -> Iterator[Difference]:
 
 
 def truncations(before: Catalog, now: Catalog) -> Iterator[Difference]:
-    """Partitions under another name whose rows are in another file: a TRUNCATE of such a one alone
-    isn't sent."""
+    """Partitions under another name whose rows are in another file: their TRUNCATE isn't sent."""
     for oid, root in written_partitions(before, now).items():
         # (rows that are older than the earlier reading tell that it wasn't truncated)
         if oid not in now.kept:

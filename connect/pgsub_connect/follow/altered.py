@@ -127,8 +127,7 @@ class Altered:
         return found
 
     def is_left(self, oid: int, texts: set[str]) -> bool:
-        """Whether nothing is done about a table yet. What was rejected is tried again because of
-        something new alone."""
+        """Whether nothing is done about a table yet, or there is something new about it."""
         if self.remembered.wanted.get(oid) and texts <= self.tries.texts.get(oid, set()):
             self.lasting |= texts
             return False
@@ -156,8 +155,7 @@ class Altered:
             log.warning(f"{text}: {why}. {cure}")
 
     def is_right(self, connection: Connection, table: Table, texts: set[str]) -> bool:
-        """Whether it is certain that the rows are right all the same: of one with many findings not
-        all are kept."""
+        """Whether the rows are surely right: of many findings of a table not all are kept."""
         added = [self.remembered.found.about(it).added for it in sorted(texts)]
         if not all(added) or len(self.remembered.found[VALUES].texts) >= MOST:
             return False

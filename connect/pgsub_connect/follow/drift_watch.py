@@ -101,8 +101,7 @@ class Watch:
         self.is_shown, self.next_show = True, began + (PART * took if took > LITTLE else 0.0)
 
     def compare(self, connection: Connection, position: int) -> bool:
-        """Compares what the server has with what is remembered. Returns false where a lock of
-        somebody else is in the way."""
+        """Compares what the server has with what is remembered; false where a lock is held."""
         remembered = self.remembered
         try:
             connection.run(f"SET lock_timeout = {PATIENCE}", limit=QUICK)

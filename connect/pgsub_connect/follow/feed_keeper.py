@@ -109,8 +109,7 @@ class Keeper(threading.Thread):
             self.causes[step.__name__] = cause
 
     def confirm(self, reached: Reached) -> None:
-        """Tells readers up to where the feed has all commits: the disk has these since before the
-        filter said so."""
+        """Tells readers up to where the feed has all commits, which the disk has by then."""
         if self.confirmed < 0:
             self.confirmed = read_confirmed(self.folder) or 0
         if reached.confirmed != self.confirmed:

@@ -68,8 +68,7 @@ class Unusable(Exception):
 
 
 def messages_in(path: str, most: int) -> Iterator[list[bytes]]:
-    """The messages of a file, in lots. One that isn't ours or root's isn't heard, nor one that has
-    other messages."""
+    """The messages of a file, in lots. It has to be ours or root's, and to have no others."""
     with contextlib.ExitStack() as stack:
         try:
             number = os.open(path, os.O_RDONLY | os.O_NOFOLLOW | os.O_NONBLOCK | os.O_CLOEXEC)

@@ -123,8 +123,7 @@ class SessionStart:
         self.schedule.begin_session(sender_timeout(connection))
 
     def start_replication(self, connection: Connection, server: Server) -> None:
-        """Asks for the changes. A standby rejects that where it has no slots of its own, until it
-        is promoted."""
+        """Asks for the changes, which a standby without slots of its own rejects."""
         slot, store = self.subscription.slot, self.settings.store
         at, publications = self.filter.confirmed(), self.subscription.publications
         command = self.form.command(slot, publications, at)

@@ -317,8 +317,7 @@ class Snapshots:
 
 
 class Finishing(threading.Thread):
-    """Puts the log into a copied file, which gets its name once it is whole. What was there stays
-    until then."""
+    """Puts the log into a copied file, which takes its place once it is whole."""
 
     def __init__(
         self, path: str, into: str | None, position: int, ended: Callable[[], None]

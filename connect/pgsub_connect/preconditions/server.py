@@ -153,8 +153,7 @@ def judge_encoding(facts: Facts, purpose: Purpose) -> Judged:
 
 
 def judge_role(facts: Facts, purpose: Purpose) -> Judged:
-    """By the server's word: some let in members of a role of their own, as Amazon RDS those of
-    rds_replication."""
+    """By the server's word: some let in members of a role, as RDS those of rds_replication."""
     role = facts.role
     if role.replicates or facts.has_replicated:
         why = "" if role.replicates else ", since the server has let it"

@@ -49,8 +49,7 @@ class Progress:
     asks: bool = False
 
     def note(self, payload: bytes) -> None:
-        """Notes a payload: XLogData (`w`) or a keepalive (`k`). One that is too short is recorded
-        as any other."""
+        """Notes a payload: XLogData (`w`) or a keepalive (`k`), also one that is too short."""
         self.payloads += 1
         if payload[:1] == b"k":
             end = int.from_bytes(payload[1:9], "big")

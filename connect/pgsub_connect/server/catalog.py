@@ -106,8 +106,7 @@ class Table:
         return f"COPY (SELECT {names} {self.source()}) TO STDOUT"
 
     def source(self) -> str:
-        """The part of a query that says which rows are published: none of a partition whose changes
-        are in no log."""
+        """The part of a query for the rows that are published: none of unlogged partitions."""
         if self.leaves and self.leaves.foreign:
             return f"FROM ({self.logged_rows(self.leaves.logged)}) AS logged"
         conditions = [self.row_filter] if self.row_filter else []

@@ -156,8 +156,7 @@ def numbers(text: str | None) -> tuple[int, ...] | None:
 def sent_columns(
     version: int, columns: list[tuple[Column, bool]], listed: tuple[int, ...] | None
 ) -> tuple[Column, ...]:
-    """The columns that are sent. Generated ones are from PostgreSQL 18 on, where the server lists
-    them."""
+    """The columns that are sent; from PostgreSQL 18 on generated ones, too, that are listed."""
     generated = version >= EXACT and listed is not None
     return tuple(
         it
@@ -264,8 +263,7 @@ def read_partitions(connection: Connection, names: list[str]) -> dict[int, Parti
 
 
 def check_tree(partitions: dict[int, Partition]) -> None:
-    """Rejects partitions in a circle, in which whoever looks for what is above one would go round
-    for ever."""
+    """Rejects partitions in a circle, in which a look for what is above one never ends."""
     checked: set[int] = set()
     for first in partitions:
         oid, way = first, list[int]()

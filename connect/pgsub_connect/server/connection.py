@@ -112,8 +112,7 @@ class Connection:
             raise ServerError("the server didn't end its answer in time")
 
     def cancel(self) -> None:
-        """Asks the server to end the command that runs, which it else goes on with after the
-        connection is closed."""
+        """Asks the server to end the command that runs: it goes on after a close else."""
         with contextlib.suppress(psycopg.Error):
             handle = self.raw.get_cancel()
             # (libpq's own call has no limit)
@@ -155,8 +154,7 @@ class Connection:
         return found
 
     def answer(self, command: str, until: float, found: Rows) -> pq.abc.PGresult | None:
-        """The last result of a command, or the one with which it begins to copy. Rows are read one
-        by one."""
+        """The last result of a command, or that which begins to copy. Rows come one by one."""
         self.raw.send_query(command.encode())
         self.raw.set_single_row_mode()
         self.flush()
@@ -271,8 +269,7 @@ class Connection:
             raise ServerError(self.error())
 
     def next_payload(self) -> bytes | None:
-        """Returns the payload of the next CopyData, b"" where none is there yet, and None after the
-        last."""
+        """The payload of the next CopyData, b"" where none is there yet, None after the last."""
         try:
             length, payload = self.raw.get_copy_data(1)
         except psycopg.OperationalError as error:
@@ -328,8 +325,7 @@ class Connection:
         self.unsent = left > 0
 
     def end_copy(self) -> None:
-        """Tells the server that nothing more is sent, within a second. Whether it hears it doesn't
-        matter."""
+        """Tells the server that nothing more is sent, within a second, heard or not."""
         with contextlib.suppress(psycopg.OperationalError, ServerError):
             self.raw.put_copy_end()
             self.flush()

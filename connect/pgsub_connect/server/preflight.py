@@ -132,8 +132,7 @@ def role_facts(connection: Connection) -> Role:
 
 
 def replicators(connection: Connection) -> str:
-    """The role whose members may replicate without the attribute, where the server is one of Amazon
-    RDS."""
+    """The role of Amazon RDS whose members may replicate without the attribute."""
     query = f"SELECT r.rolname FROM pg_catalog.pg_roles r WHERE r.rolname = {literal(RDS)}"
     return connection.value(query) or ""
 
@@ -187,8 +186,7 @@ def mixed_roots(connection: Connection, name: str) -> list[str]:
 
 
 def source_wanted(connection: Connection, wanted: Wanted) -> tuple[str, list[str]]:
-    """A query for the tables that a new publication would have, and the names that aren't those of
-    tables."""
+    """A query for the tables of a new publication, and the names that are none of tables."""
     if wanted.all_tables:
         return (
             "SELECT c.oid AS relid FROM pg_catalog.pg_class c JOIN pg_catalog.pg_namespace n ON n.oid = c.relnamespace"
@@ -274,8 +272,7 @@ def not_whole(connection: Connection, wanted: Wanted, names: str) -> tuple[str, 
 
 
 def different_tables(connection: Connection, wanted: Wanted, names: str) -> tuple[str, str]:
-    """What --table has and the publications don't list; and what these list besides, or what isn't
-    there at all."""
+    """What --table alone has; and what the publications alone list, or isn't there at all."""
     source, unknown = source_wanted(connection, wanted)
     settle(connection)
     asked = tables_of(connection, source) if source else {}

@@ -156,8 +156,7 @@ class Maker:
             self.compare(name)
 
     def create(self, name: str, tables: str, more: str = "") -> None:
-        """Runs CREATE PUBLICATION with the role's own search path, for the names that its user
-        wrote."""
+        """Runs CREATE PUBLICATION with the role's own search path, for its user's names."""
         connection = self.connection
         connection.rows(f"SELECT pg_catalog.set_config('search_path', {literal(self.path)}, true)")
         try:
@@ -350,8 +349,7 @@ LONGEST_NAME = 63
 
 
 def check_lengths(slot: str, publications: Sequence[str], keyless: str) -> None:
-    """Rejects names of slot and publications that the server would cut or reject, before anything
-    is asked of it."""
+    """Rejects names that the server would cut or reject, before anything is asked of it."""
     names = [("--slot", slot), *(("--publication", it) for it in publications)]
     if keyless == "inserts":
         made = publications or ["pgsub"]

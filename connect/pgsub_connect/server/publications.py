@@ -98,8 +98,7 @@ def united(tables: list[Table]) -> Table:
 
 
 def trees(tables: list[Table]) -> str:
-    """A part of a query: the OIDs of tables, each with those of itself and of the partitions below
-    it."""
+    """A part of a query: the OIDs of tables, each with itself and the partitions below it."""
     return (
         "(SELECT c.oid, t.relid FROM pg_catalog.pg_class c,"
         " LATERAL (SELECT c.oid AS relid UNION SELECT i.relid FROM pg_catalog.pg_partition_tree(c.oid) i) t"
@@ -109,8 +108,7 @@ def trees(tables: list[Table]) -> str:
 
 @understood("the files of tables")
 def stored_in(connection: Connection, tables: list[Table]) -> dict[int, str | None]:
-    """Which file each table's rows are in now. TRUNCATE and an ALTER TABLE that writes all rows
-    anew change it."""
+    """Which file each table's rows are in, which TRUNCATE and some ALTER TABLE change."""
     if not tables:
         return {}
     node = "pg_catalog.pg_relation_filenode(t.relid)"

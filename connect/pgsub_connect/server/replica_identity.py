@@ -91,8 +91,7 @@ def keyless_of(connection: Connection, source: str, stored: bool = False) -> dic
 
 
 def members(name: str) -> str:
-    """A query for all tables of a publication, those that are listed and have no partitions among
-    them."""
+    """A query for all tables of a publication, listed ones without partitions among them."""
     return (
         f"SELECT p.relid FROM pg_catalog.pg_get_publication_tables({literal(name)}) p UNION SELECT r.prrelid"
         f" FROM pg_catalog.pg_publication_rel r JOIN pg_catalog.pg_publication b ON b.oid = r.prpubid WHERE b.pubname = {literal(name)}"

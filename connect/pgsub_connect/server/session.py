@@ -108,8 +108,7 @@ def database_oid(connection: Connection) -> int:
 
 
 def is_same_database(name: str, noted: tuple[int, str] | None, server: Server) -> bool:
-    """Whether a database is the one that has this name in a checkpoint, or this OID where that was
-    noted."""
+    """Whether a database has the name of a checkpoint, or the OID where that was noted."""
     if noted and noted[0] and server.database_oid:
         return noted[0] == server.database_oid
     return name == server.database
@@ -122,8 +121,7 @@ def tell_version_1() -> None:
 
 @understood("its timelines")
 def left_at(connection: Connection, timeline: int, before: int) -> int | None:
-    """The LSN at which the server's timeline left another one; None where it doesn't come from that
-    one."""
+    """The LSN at which the server's timeline left another one; None where it never did."""
     history = connection.rows(f"TIMELINE_HISTORY {timeline}", QUICK)[0][1] or ""
     for line in history.splitlines():
         words = line.split("\t")
@@ -173,8 +171,7 @@ def other_slot(connection: Connection, slot: str) -> Unfit:
 
 
 def is_lost(connection: Connection, slot: str) -> bool:
-    """Whether the server has removed log that the slot needs, so that nothing can be read from it
-    any more."""
+    """Whether the server has removed log that the slot needs, so that it can't be read."""
     query = f"SELECT s.wal_status FROM pg_catalog.pg_replication_slots s WHERE s.slot_name = {literal(slot)}"
     return connection.version() >= 130000 and connection.value(query, QUICK) == "lost"
 

@@ -21,8 +21,7 @@ COLUMNS = {
 
 @dataclasses.dataclass
 class Slot:
-    """What a server says of a slot; empty or None where its version doesn't say it, or hasn't
-    yet."""
+    """What a server says of a slot; empty or None where it doesn't, or not yet."""
 
     plugin: str = "pgoutput"
     is_here: bool = True

@@ -78,8 +78,7 @@ class Protection:
 
 
 class Trust:
-    """What is known of the connections of a process, and of those of earlier ones with the same
-    store."""
+    """What is known of the connections of a process, and of earlier ones of the store."""
 
     def __init__(self) -> None:
         # whether one was encrypted, of any run since a plain one was accepted
@@ -247,6 +246,5 @@ def protection_of(raw: pq.abc.PGconn, by_gssapi: bool) -> Protection:
 
 
 def has_authority(path: str) -> bool:
-    """Whether libpq has certificates of authorities, by which it verifies the server's in every
-    sslmode."""
+    """Whether libpq has certificates of authorities, and so verifies in every sslmode."""
     return os.path.exists(path or os.path.expanduser("~/.postgresql/root.crt"))

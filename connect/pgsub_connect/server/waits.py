@@ -62,8 +62,7 @@ def slot_text(connection: Connection) -> str:
 
 @understood("locks")
 def what_blocks(connection: Connection, pid: int) -> str:
-    """Who has the locks for which another process of the server waits; "" where it waits for
-    none."""
+    """Who has the locks for which another process waits; "" where it waits for none."""
     rows = connection.rows(
         f"SELECT a.pid, a.usename, a.datname, {SECONDS.format('a.xact_start')} FROM pg_catalog.pg_stat_activity a"
         f" WHERE a.pid = ANY (pg_catalog.pg_blocking_pids({pid})) ORDER BY a.xact_start LIMIT {MOST}"

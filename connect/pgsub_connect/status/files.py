@@ -149,8 +149,7 @@ class ReportSettings:
 
 
 class Reporter(threading.Thread):
-    """Writes the files. It only shows what others say: of the main loop it shows when that was
-    alive last."""
+    """Writes the files. It only shows what others say, as when the main loop was alive last."""
 
     def __init__(self, settings: ReportSettings, progress: Progress) -> None:
         super().__init__(daemon=True)

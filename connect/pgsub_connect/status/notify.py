@@ -22,8 +22,7 @@ VARIABLES = ("NOTIFY_SOCKET", "WATCHDOG_USEC", "WATCHDOG_PID")
 
 
 class Notifier:
-    """Tells nothing where it is given no address. One whose first letter is an at sign is an
-    abstract name."""
+    """Tells nothing where it has no address. One that begins with @ is an abstract name."""
 
     def __init__(self, address: str = "", within: float | None = None) -> None:
         """`within`: for how many seconds the manager waits for a sign of life."""
@@ -69,8 +68,7 @@ class Notifier:
 
 
 def notifier_of(environment: MutableMapping[str, str]) -> Notifier:
-    """The one that an environment asks for, which has these variables no more: they aren't for
-    children."""
+    """The one that an environment asks for, whose variables go: they aren't for children."""
     address, usec, pid = (environment.pop(name, "") for name in VARIABLES)
     is_watched = usec.isdecimal() and (not pid or pid == str(os.getpid()))
     return Notifier(address, int(usec) / 1000000 if is_watched else None)

@@ -40,14 +40,12 @@ class ServerState:
         self.sessions += 1
 
     def note_standbys(self, standbys: str) -> bool:
-        """Notes what was just read of a server's synchronous_standby_names. Returns whether commits
-        may wait."""
+        """Notes the synchronous_standby_names that were just read; whether commits may wait."""
         self.is_waited_for = self.is_waited_for or bool(standbys) and waits_for(standbys, self.name)
         return self.is_waited_for
 
     def note_answer(self, standbys: str, is_standby: bool, started: int) -> None:
-        """Notes what a server that was started then says of itself now. (A promotion starts none
-        anew.)"""
+        """Notes what a server that was started then says. (A promotion starts none anew.)"""
         self.is_waited_for = waits_for(standbys, self.name)
         if self.is_standby and not is_standby and started and started == self.started:
             self.was_promoted = True

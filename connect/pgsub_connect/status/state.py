@@ -37,8 +37,7 @@ class StreamCounters:
         return self.lag.bytes(self.server_end())
 
     def lag_of(self, reader: int) -> int:
-        """How much of the server's log is between what a reader has and the store's position, in
-        bytes."""
+        """How many bytes of the server's log are between a reader and the store's position."""
         return max(self.position - reader, 0)
 
 
@@ -136,8 +135,7 @@ class Lag:
         self.answered = answered
 
     def forget_reached(self) -> None:
-        """Forgets the ends that the copy has reached, but for when the last of them was asked
-        for."""
+        """Forgets the ends that are reached, but for when the last of them was asked for."""
         with self.lock:
             while self.asked and self.asked[0][1] <= self.confirmed:
                 self.complete = self.asked.popleft()[0]

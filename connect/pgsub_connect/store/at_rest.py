@@ -102,8 +102,7 @@ def has_log(store: str) -> bool:
 
 
 def locked_checkpoint(store: str) -> int | None:
-    """An open file that keeps connectors from starting on this store. None where one is at work, or
-    its filter."""
+    """An open file that keeps connectors from starting here; None where one is at work."""
     path = store + ".connector"
     try:
         file = os.open(path, os.O_RDONLY | os.O_NONBLOCK | os.O_CLOEXEC)

@@ -242,8 +242,7 @@ class Checkpoint:
         return found
 
     def note_found(self, kind: str, lsn: int) -> bool:
-        """Notes durably that something was found. Returns whether nothing of this kind was known
-        yet."""
+        """Notes durably that something was found; whether none of this kind was known."""
         if kind in self.known.found:
             return False
         self.write(True, found={**self.known.found, kind: lsn_text(lsn)})
@@ -342,8 +341,7 @@ def read_known(path: str) -> Known:
 
 @contextlib.contextmanager
 def locked(path: str) -> Iterator[None]:
-    """Holds the checkpoint's lock, so that no connector begins meanwhile. Raises where one is at
-    work."""
+    """Holds the checkpoint's lock, so that no connector begins. Raises where one is at work."""
     try:
         file = os.open(path, os.O_RDWR | os.O_CLOEXEC)
     except FileNotFoundError:

@@ -161,8 +161,7 @@ class Export:
                 target.insert(self.into, some[done * len(target.columns) :])
 
     def loosen(self, target: Target) -> None:
-        """Makes a table anew whose key can't be a primary key: a row has null there, or two have
-        equal values."""
+        """Makes a table anew whose key can't be a primary key: of null or equal values."""
         log.warning(
             f"{target.text()}: rows have null in the key, or equal keys: the table has an index in place of a primary key"
         )

@@ -26,8 +26,7 @@ def read_position(store: sqlite3.Connection) -> int:
 
 
 def read_relations(store: sqlite3.Connection) -> dict[int, Relation]:
-    """The definitions of the store, by OID. An empty namespace is pg_catalog, as in the
-    protocol."""
+    """The store's definitions, by OID. An empty namespace is pg_catalog, as in the protocol."""
     found = {}
     rows = store.execute("SELECT oid, nsp, name, letter, cols FROM rel")
     for oid, namespace, name, letter, columns in rows:
@@ -61,8 +60,7 @@ def named_at(stored: dict[int, Relation], remembered: Remembered, position: int)
 
 
 def choose(stored: dict[int, Relation], remembered: Remembered, position: int) -> list[Relation]:
-    """The tables of an export: of those that have had one name, the one that has it at the
-    position."""
+    """The tables of an export: of those that have had one name, that which has it now."""
     chosen = []
     for key, relations in sorted(named_at(stored, remembered, position).items()):
         name = remembered.names.get(key)
@@ -76,8 +74,7 @@ def choose(stored: dict[int, Relation], remembered: Remembered, position: int) -
 
 
 def last_of(relations: list[Relation], current: int | None) -> Relation:
-    """Of tables that have had one name, that which has it; where that isn't known, the one with the
-    greatest OID."""
+    """Of tables that have had one name, that which has it, or else the greatest OID."""
     return max(relations, key=lambda it: (it.oid == current, it.oid))
 
 

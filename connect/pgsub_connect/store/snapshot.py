@@ -11,8 +11,7 @@ NEW, EARLIER = ".pgsub-new", ".copying"
 
 
 def fold(path: str) -> None:
-    """Puts a copied log into its file, which then needs none: whoever may read the file can open
-    it."""
+    """Puts a copied log into its file: whoever may read the file can open it then."""
     with contextlib.closing(sqlite3.connect(path, isolation_level=None)) as store:
         store.execute("PRAGMA synchronous = FULL")
         store.execute("PRAGMA journal_mode = DELETE")

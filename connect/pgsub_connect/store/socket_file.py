@@ -90,8 +90,7 @@ def set_mode(name: str, folder: int, mode: int) -> None:
 
 
 def connected(store: str) -> socket.socket:
-    """A connection to the follower of a store, which doesn't block. An OSError says why there is
-    none."""
+    """A connection to a store's follower, which doesn't block. An OSError says why not."""
     path = store + SUFFIX
     file = os.open(path, os.O_PATH | os.O_NOFOLLOW)
     made = socket.socket(socket.AF_UNIX, socket.SOCK_STREAM)

@@ -103,8 +103,7 @@ class Gating:
         return self.since is not None and time.monotonic() - self.since > MOST
 
     def look(self) -> None:
-        """Looks whether the slot still waits. Then all is below it that was in the log at the look
-        before."""
+        """Looks whether the slot still waits: all that the last look saw is below it then."""
         try:
             connection = self.connection or self.connect()
             with understood("the slot in the making"):

@@ -89,8 +89,7 @@ class Confirming:
         return max(self.position, self.filter.confirmed(), begun, sent_to)
 
     def note_missing(self, statuses: Sequence[bytes]) -> None:
-        """Notes durably what is new of changes that found no row, in the commits up to the last of
-        these statuses."""
+        """Notes durably what is new of changes that found no row, up to the last status."""
         if self.misses.is_news(self.filter.missing):
             at = self.position
             at = self.noting.stored(flushed(statuses[-1]), at) if statuses else at

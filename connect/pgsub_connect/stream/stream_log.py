@@ -274,8 +274,7 @@ class Noting:
         self.show_waiting()
 
     def show_waiting(self) -> None:
-        """Tells the progress how old the first commit is that was passed on, or is being, and isn't
-        confirmed."""
+        """Tells how old the first commit is that was passed on, or is being, unconfirmed."""
         first = self.passed[0][0] if self.passed else self.begun
         self.progress.lag.note_waiting(commit_time(first) if first else None)
 

@@ -99,8 +99,7 @@ class Sums:
         return sum(self.rows)
 
     def totals(self) -> tuple[int, int, int]:
-        """How many rows the table has, and the two sums over all chunks: those that it would have
-        with one chunk."""
+        """How many rows the table has, and the two sums that it would have with one chunk."""
         return self.total(), sum(self.first), sum(self.second)
 
     def differing(self, other: Sums) -> list[int]:
@@ -132,8 +131,7 @@ class Summing:
 
 
 class Queries:
-    """What is asked of a server about a table. `encoding` is the server's: all texts are digested
-    in UTF-8."""
+    """What is asked about a table. `encoding`: the server's; texts are digested in UTF-8."""
 
     def __init__(self, plan: Plan, encoding: str) -> None:
         self.plan, self.encoding = plan, encoding

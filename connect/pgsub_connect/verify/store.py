@@ -77,8 +77,7 @@ class Request:
         return self.into
 
     def pass_on(self, tables: list[int]) -> None:
-        """Has the follower pass on the changes of tables that are in the file, and waits until the
-        store has them."""
+        """Has the follower pass on the changes in the file, and waits until they are stored."""
         assert self.asking
         self.asking.say(tables=tables)
         # (what was passed on is stored in its time)

@@ -71,8 +71,7 @@ def with_schema(schema: bytes, payload: object) -> bytes:
 
 
 class Envelopes:
-    """Makes messages of the changes of a feed. `known`: the store knows the primary keys that no
-    message tells."""
+    """Makes messages of changes. `known`: the store knows primary keys that no message tells."""
 
     def __init__(
         self, settings: Settings, known: KnownTables | None = None, check: Check = never
@@ -220,8 +219,7 @@ class Envelopes:
             self.topics[table.topic] = table.relation.oid
 
     def primary(self, relation: Relation) -> tuple[str, ...]:
-        """The columns of the primary key of a table whose replica identity is another, as the store
-        knows it."""
+        """The columns of a primary key that isn't the replica identity, by the store."""
         if relation.shape.identity not in OTHER or self.known is None:
             return ()
         if relation.oid in self.tables:

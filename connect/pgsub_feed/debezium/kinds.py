@@ -235,8 +235,7 @@ BOUNDS = re.compile(r"\[-?\d+:-?\d+\]=")
 
 
 def read_elements(text: str) -> list[str | None]:
-    """The elements of an array of one dimension, wherever it begins. A ValueError says that it has
-    more of them."""
+    """The elements of an array of one dimension, wherever it begins; else a ValueError."""
     if bounds := BOUNDS.match(text):
         text = text[bounds.end() :]
     if text == "{}":

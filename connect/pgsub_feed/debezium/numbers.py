@@ -35,8 +35,7 @@ def read_bool(text: str) -> bool:
 
 
 def read_float(text: str) -> float | str:
-    """A number of floating point. NaN and the infinities, which JSON hasn't, are texts, as Connect
-    writes them."""
+    """A number of floating point. NaN and infinities are texts, as Connect writes them."""
     number = float(text)
     return number if math.isfinite(number) else str_of(number)
 
@@ -50,8 +49,7 @@ def based(content: bytes) -> str:
 
 
 def integer_bytes(number: int) -> str:
-    """A whole number as Java has it: as few bytes in two's complement as it takes, the highest
-    first."""
+    """A whole number as Java has it: as few bytes in two's complement, the highest first."""
     size = (number if number >= 0 else ~number).bit_length() // 8 + 1
     return based(number.to_bytes(size, "big", signed=True))
 

@@ -107,8 +107,7 @@ class Lines:
 
 
 class ByName(Objects):
-    """An object for each change, its `id` made of the commit's LSN and the number of the change in
-    it."""
+    """An object for each change, its `id` made of the commit's LSN and its number in there."""
 
     def __init__(self, is_chosen: Callable[[Relation], bool]) -> None:
         super().__init__(is_chosen, lambda it: "\\x" + it.hex())

@@ -96,8 +96,7 @@ class Link:
 
 
 class Remote(Generic[Read]):
-    """A feed elsewhere. `at` is the LSN up to which its reader has all commits; `read` makes
-    something of each."""
+    """A feed elsewhere. `at`: up to where its reader has all; `read` makes something of each."""
 
     def __init__(
         self,

@@ -127,8 +127,7 @@ class Alone:
         self.place = ""
 
     def take(self, kind: str, place: str, where: str) -> None:
-        """Keeps others from a place of an engine of this kind. A Passing says that another sink
-        writes there."""
+        """Keeps others from a place of an engine. A Passing says that one writes there."""
         if place == self.place:
             return
         self.close()

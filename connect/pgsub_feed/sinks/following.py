@@ -63,8 +63,7 @@ class Outages:
 def keep(
     reading: Reading, connect: Callable[[], Engine], check: Check, parent: Parent | None = None
 ) -> None:
-    """Keeps what a feed has. An engine that is away is waited for, unless this ends by itself. A
-    signal ends it."""
+    """Keeps what a feed has. Unless it is to end by itself, it waits for an engine."""
     outages = Outages()
     try:
         while not is_kept(reading, connect, check, parent, outages):

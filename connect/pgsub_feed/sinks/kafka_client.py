@@ -73,8 +73,7 @@ def parts_of(url: str) -> tuple[str, dict[str, str]]:
 
 
 def read_config(path: str) -> dict[str, str]:
-    """Properties of librdkafka, a line `name=value` each, which is warned of where others may read
-    secrets."""
+    """Properties of librdkafka, a line `name=value` each. Warns where others may read secrets."""
     try:
         with open(path, encoding="utf-8") as file:
             lines, readable = file.read().splitlines(), readable_by(file.fileno())

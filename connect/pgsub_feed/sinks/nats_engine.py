@@ -96,8 +96,7 @@ class Nats:
         return True
 
     def remove_before(self, first: int, info: Info) -> None:
-        """Removes what a base that was begun before has left before the first message of the one
-        that is whole."""
+        """Removes what an earlier base has left before the first message of the whole one."""
         if 0 < info.first < first:
             self.stream.purge(seq=first)
 

@@ -49,8 +49,7 @@ LASTING = (
 
 @dataclasses.dataclass(frozen=True)
 class Message:
-    """What has come to a subscription. `status` is that of a message of the server itself, "" of
-    any other."""
+    """What has come to a subscription. `status`: that of the server's own message, else ""."""
 
     subject: str
     data: bytes

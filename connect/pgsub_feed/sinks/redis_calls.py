@@ -60,8 +60,7 @@ def raised(said: Said, where: str) -> Exception:
 
 @contextlib.contextmanager
 def understood(where: str) -> Iterator[None]:
-    """Rejects what Redis has said where that isn't what the command is for, or what is kept there
-    isn't a sink's."""
+    """Rejects what Redis has said that isn't the command's, or what is kept by others."""
     try:
         yield
     except (ValueError, TypeError, KeyError, IndexError, AttributeError, RecursionError) as error:
@@ -127,8 +126,7 @@ def asked(calls: Calls, commands: Sequence[Command]) -> list[Any]:
 
 
 class Connection:
-    """A connection to a real one. It isn't made again where it is lost, since what was watched
-    would be forgotten."""
+    """A connection to a real one. It isn't made again, since what was watched is forgotten."""
 
     def __init__(self, url: str, check: Check = never) -> None:
         self.check, self.is_lost, self.is_encrypted = check, False, url.startswith("rediss:")

@@ -263,8 +263,7 @@ class Rows:
         return kept
 
     def claim(self, relation: Relation, kept: Kept | None) -> str:
-        """The name of a relation's table. Another table that has the same name at the publisher is
-        moved aside."""
+        """The name of a relation's table. Another one that had the name is moved aside."""
         named = full_name(relation)
         holder = self.holders.get(named)
         if holder and holder.oid != relation.oid:

@@ -92,8 +92,7 @@ def bounds(value: float, is_short: bool) -> tuple[Fraction, Fraction]:
 
 
 def needs_care(value: float, is_short: bool) -> bool:
-    """Whether Python's digits may be others. (Of a power of two the closest ones may be below its
-    closer bound.)"""
+    """Whether Python's digits may be others. (A power of two has one closer bound.)"""
     return value >= (SHORT_WHOLE if is_short else WHOLE) or is_short and math.frexp(value)[0] == 0.5
 
 

@@ -107,8 +107,7 @@ def keep(wanted: Wanted, check: Check, parent: Parent | None = None) -> tuple[in
 
 
 def leads_there(reading: Reading) -> bool:
-    """Whether there are first rows, that are named or beside the feed, of the LSN that is asked for
-    or before."""
+    """Whether there are first rows, named or beside the feed, of that LSN or before."""
     if reading.until is None or reading.store:
         return False
     if reading.base:

@@ -79,8 +79,7 @@ def primary_key(known: tuple[str, ...], relation: Relation) -> tuple[str, ...]:
 
 
 def lacking(known: tuple[str, ...], relation: Relation) -> str:
-    """Which columns of its primary key a relation lacks, as where the catalog is newer; "" where it
-    has them all."""
+    """Which columns of its primary key a relation lacks, as by a newer catalog; "" for none."""
     names = {it.name for it in relation.shape.columns}
     lacks = ", ".join(it for it in known if it not in names)
     return lacks and f"the stream doesn't have {lacks} of the primary key that the server has"

@@ -113,8 +113,7 @@ def has_scale(cell: Cell, scale: int) -> bool:
 
 
 def told(column: Column, value: Value) -> Field:
-    """A value as the server prints it. A number that none of the type is stored as gives what no
-    server prints."""
+    """A value as the server prints it; of a number that isn't the type's, what none prints."""
     if isinstance(value, float) and scale_of(column) is None:
         return stored_float(value, column.type_oid == FLOAT4).encode()
     if column.type_oid == BOOL and isinstance(value, int) and value not in (0, 1):

@@ -22,8 +22,7 @@ class Waiting(Protocol):
     at: int
 
     def add(self, change: Change) -> bool:
-        """Adds a change. False: those that wait have to be made first; where none waits, this one
-        by itself."""
+        """Adds a change; false where those that wait, or where none does this one, go first."""
 
     def taken(self) -> Iterator[list[Change]]:
         """Takes them all, those of one kind together."""
