@@ -46,14 +46,7 @@ from ..stream.filter_end import FilterEnded
 from ..stream.statuses import Reached
 from .feed_keeper import Keeper
 from .first_rows import BaseRows, FirstRows
-from .process_beside import (
-    Beside,
-    ProcessBeside,
-    Sink,
-    SinkSettings,
-    TablesSettings,
-    check as check_tables,
-)
+from .process_beside import Beside, ProcessBeside, Sink, SinkSettings, TablesSettings
 from .retention import Limits
 
 # How long a filter that is to end is waited for, before it is looked whether the end was asked for.
@@ -119,9 +112,10 @@ class Feeding:
         return Several(parts, self.note_begun, lambda: self.words(check) if self.folder else ())
 
     def check(self) -> None:
-        """Makes the folder, and rejects one that can't have the store's feed."""
+        """Rejects a folder that can't have the store's feed, before anything is made; and makes the
+        folder."""
         if self.settings.tables:
-            check_tables(self.settings.tables)
+            self.settings.tables.check()
         if is_whole(self.settings.store):
             self.check_followed()
         else:
@@ -297,7 +291,8 @@ class Feeding:
         return not lacking
 
     def check_read(self) -> None:
-        """Raises where one has waited for nothing: who reads had ended for good."""
+        """Raises where one that is to end by itself has waited for nothing: who reads had ended for
+        good."""
         ended = [it for it in self.readers() if it.lasting]
         if ended and self.wanted is not None:
             names = ", ".join(it.name for it in ended)

@@ -239,25 +239,22 @@ class TablesSettings:
     numeric: str = BOTH
     indexes: bool = False
 
+    def check(self) -> None:
+        """Rejects a file that can't be one of tables that follow this store's feed."""
+        path, folder = self.path, os.path.dirname(os.path.abspath(self.path))
+        if not os.path.lexists(path):
+            if not os.path.isdir(folder):
+                raise FileError(f"--tables {path}: there is no folder {folder}")
+        elif not (os.path.isfile(path) and is_tables(path)):
+            text = f"{path} is there and has no tables that follow a feed"
+            raise FileError(f"{text}: remove it, or name another file by --tables")
 
-def check(settings: TablesSettings) -> None:
-    """Rejects a file that can't be one of tables that follow this store's feed."""
-    path, folder = settings.path, os.path.dirname(os.path.abspath(settings.path))
-    if not os.path.lexists(path):
-        if not os.path.isdir(folder):
-            raise FileError(f"--tables {path}: there is no folder {folder}")
-    elif not (os.path.isfile(path) and is_tables(path)):
-        text = f"{path} is there and has no tables that follow a feed"
-        raise FileError(f"{text}: remove it, or name another file by --tables")
-
-
-def words_of(settings: TablesSettings) -> list[str]:
-    """How it is started."""
-    words = ["tables", "--feed", settings.feed, "--into", settings.path, "--store", settings.store]
-    words += ["--reader", READER, "--mode", f"{settings.mode:o}"]
-    words += ["--numeric", settings.numeric] + ["--digests"] * settings.digests
-    words += ["--indexes"] * settings.indexes
-    return words + (["--init", settings.init] if settings.init else [])
+    def words(self) -> list[str]:
+        """How it is started."""
+        words = ["tables", "--feed", self.feed, "--into", self.path, "--store", self.store]
+        words += ["--reader", READER, "--mode", f"{self.mode:o}", "--numeric", self.numeric]
+        words += ["--digests"] * self.digests + ["--indexes"] * self.indexes
+        return words + (["--init", self.init] if self.init else [])
 
 
 class Beside(ProcessBeside):
@@ -270,7 +267,7 @@ class Beside(ProcessBeside):
         wake: Callable[[], None] = lambda: None,
         wait: Callable[[], None] = lambda: None,
     ) -> None:
-        super().__init__(settings.path, "tables", words_of(settings), wake=wake)
+        super().__init__(settings.path, "tables", settings.words(), wake=wake)
         self.wait = wait
         self.path, self.progress = settings.path, progress
         self.progress.feed.note_tables(settings.path)
