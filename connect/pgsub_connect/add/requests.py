@@ -18,7 +18,7 @@ from ..stream.memory_limit import BufferLimits
 
 
 class Stream(Protocol):
-    """The follower, as far as tables are added by it."""
+    """The follower, as far as tables are added, or rows repaired, by it."""
 
     def serve_server(self) -> None:
         """Keeps the server content during another wait. Raises where the end was asked for."""

@@ -7,6 +7,7 @@ from pgsub_feed.errors import FileError, Passing, Stopped, Unfit
 
 from ..add.adder import Adder
 from ..errors import LOGIN, Renewed, ServerError, Unconnected
+from ..record.recording import Aside
 from ..server.publications import with_cure
 from ..server.slot import Repeats
 from ..stream.common import Common
@@ -24,7 +25,7 @@ from .repair import Repairing
 from .requests import Requests
 from .schedule import Delay, Schedule
 from .session import Session
-from .session_start import Recording, SessionStart
+from .session_start import SessionStart
 from .settings import Ending, FollowSettings, StreamForm
 from .snapshots import Snapshots
 from .upkeep import Standing, Upkeep
@@ -43,7 +44,7 @@ class Follower:
         settings: FollowSettings,
         common: Common,
         child: Filter,
-        recording: Recording | None,
+        recording: Aside | None,
         snapshots: Snapshots,
         feeding: Feeding | None = None,
     ) -> None:

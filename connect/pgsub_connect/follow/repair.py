@@ -30,13 +30,13 @@ import os
 import stat
 import time
 from collections.abc import Iterator
-from typing import Protocol
 
 from pgsub_feed import log
 from pgsub_feed.reader.commits import XID
 from pgsub_feed.texts import counted, lsn_text
 
 from ..add.replacement import payload_of
+from ..add.requests import Stream
 from ..copy.messages import begin, commit, frame
 from ..errors import ServerError
 from ..stream.hold import CHANGES
@@ -50,17 +50,6 @@ from .snapshots import Snapshots
 # How many bytes of the file are passed on at a time.
 BLOCK = 1 << 17
 LETTERS = (b"R", b"I", b"U", b"D")
-
-
-class Stream(Protocol):
-    """The follower, as far as rows are repaired by it."""
-
-    def attend(self) -> None:
-        """Keeps server and filter content in a session while something else is waited for. Raises
-        where the end was asked for."""
-
-    def push(self, frames: bytes) -> None:
-        """Gives the filter frames, and waits until it has room."""
 
 
 class Unusable(Exception):

@@ -1,12 +1,10 @@
 """Begins a session: logs in, has store and slot fit together, and asks for the changes."""
 
-from typing import Protocol
-
 from pgsub_feed import log
 from pgsub_feed.texts import lsn_text
 
 from ..errors import ServerError
-from ..record.recording import Session as Recorded
+from ..record.recording import Aside, Session as Recorded
 from ..server.connection import COPY_BOTH, Connection
 from ..server.session import Server, identify, is_lost, log_end, sender_timeout, settle
 from ..server.slot import lost_error
@@ -19,16 +17,6 @@ from .settings import FollowSettings
 NOT_AT_STANDBYS = ("0A", "55000")
 
 
-class Recording(Protocol):
-    """What keeps the stream in a file beside the store."""
-
-    def begin_session(self, session: Recorded) -> None:
-        """A session begins."""
-
-    def write_payload(self, payload: bytes) -> None:
-        """This has come."""
-
-
 class SessionStart:
     """The steps of it, in order."""
 
@@ -37,7 +25,7 @@ class SessionStart:
         settings: FollowSettings,
         fitting: Fitting,
         requests: Requests,
-        recording: Recording | None,
+        recording: Aside | None,
     ) -> None:
         self.settings, self.fitting, self.requests = settings, fitting, requests
         self.recording, self.schedule = recording, requests.upkeep.schedule
