@@ -1,3 +1,2 @@
-"""The subcommands: one module each, with its options, its help, what is rejected of them, and `run`.
-
-`arguments` has the options that several share, `signals` what asks for the end."""
+"""The subcommands: one module each, with its options, its help, what is rejected of them, and
+`run`. `arguments` has the options that several share."""

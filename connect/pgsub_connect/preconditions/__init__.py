@@ -1,2 +1,2 @@
-"""What a server has to have, judged by what it says of itself: of the server, its slots, the role, the
-publications and the tables. `judged` has all of it, and what ends a start."""
+"""What a server has to have, judged by what it says of itself: `server` has its settings, the role
+and the slot; `judged` its publications, all of it together, and what ends a start."""

@@ -1,1 +1,3 @@
-"""How a follower goes: its progress, and the files and metrics that show it."""
+"""How a follower goes: `progress` has it, in parts of `state`. `files` writes the status file and
+the metrics (`metrics`), `notify` tells the service manager, and `health` judges a status file and
+draws it."""

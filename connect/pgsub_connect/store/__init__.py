@@ -1,2 +1,4 @@
-"""The files of a store: its rows at rest, copies for readers, exports, and the checkpoint beside
-it."""
+"""The files of a store: `file` reads its rows, `checkpoint` is what is known of it
+(`checkpoint_lines` its lines), `placing` its names. `at_rest` gives it to readers, who ask its
+follower by `socket_file`; `snapshot` and `export` are copies. Processes make tables (`copied_rows`)
+and a feed's first rows (`base_files`, `base_of_store`)."""

@@ -1,2 +1,3 @@
-"""Changes as messages of Debezium's connectors: envelopes, keys, and the schemas of Kafka Connect
-for both, as its JsonConverter writes them."""
+"""Changes as messages of Debezium's connectors, as Kafka Connect's JsonConverter writes them:
+`envelopes` are made by `settings`, of `tables` with the schemas of `kinds`, whose values `numbers`
+and `times` write."""

@@ -1,1 +1,2 @@
-"""A feed's commits as text: lines for people, envelopes for programs, bulk requests."""
+"""A feed's commits as text: `lines` for people and programs, `bulk` for Elasticsearch; `keys` has
+the names of tables and rows there."""

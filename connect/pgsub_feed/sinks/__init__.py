@@ -1,1 +1,5 @@
-"""A feed's commits, written to engines that others read: Redis, NATS JetStream and Kafka."""
+"""A feed's commits, written to engines that others read: `following` has an `engine` keep them,
+from `first_rows` on. Redis: `redis_engine` writes `redis_hashes` or `redis_streams` by
+`redis_calls`, of the tables in `relations`, and `redis_disk` knows what lasts. NATS: `nats_engine`
+publishes `nats_messages` by `jetstream` over `nats_wire`. Kafka: `kafka_engine`, `kafka_client`.
+`connecting` reaches a server."""
