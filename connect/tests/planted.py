@@ -654,8 +654,8 @@ BUGS = (
     Bug(
         "strict starts take changes that found no row",
         "pgsub_connect/follow/drift_watch.py",
-        "for kind in kinds if (it :=",
-        "for kind in self.checkpoint.known.found if (it :=",
+        "filter(self.tolerance.ends_at, kinds)",
+        "filter(self.tolerance.ends_at, self.checkpoint.known.found)",
         ("test_missing",),
     ),
     Bug(
