@@ -103,8 +103,9 @@ class SmallServer:
 
     def begin(self, call: object, *words: object) -> None:
         thread = threading.Thread(target=call, args=words, daemon=True)  # type: ignore[arg-type]
-        self.threads.append(thread)
         thread.start()
+        # (those that are joined have been started)
+        self.threads.append(thread)
 
     def close(self) -> None:
         if self.ended:

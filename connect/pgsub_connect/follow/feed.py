@@ -112,8 +112,7 @@ class Feeding:
         return Several(parts, self.note_begun, lambda: self.words(check) if self.folder else ())
 
     def check(self) -> None:
-        """Rejects a folder that can't have the store's feed, before anything is made; and makes the
-        folder."""
+        """Makes the folder, and rejects one that can't have the store's feed."""
         if self.settings.tables:
             self.settings.tables.check()
         if is_whole(self.settings.store):
@@ -291,8 +290,7 @@ class Feeding:
         return not lacking
 
     def check_read(self) -> None:
-        """Raises where one that is to end by itself has waited for nothing: who reads had ended for
-        good."""
+        """Raises where one has waited for nothing: who reads had ended for good."""
         ended = [it for it in self.readers() if it.lasting]
         if ended and self.wanted is not None:
             names = ", ".join(it.name for it in ended)
