@@ -18,15 +18,13 @@ def count(oid, cells, by, is_repair):
 
 def keep(lsn, lines, is_repair=False):
     for it in map(json.loads, lines):
-        if isinstance(it, list):  # a row of the first copy, of the definition before it
-            it = {"op": "r", "oid": oid, "after": it}
+        it = {"op": "r", "oid": oid, "after": it} if isinstance(it, list) else it  # a first row
         oid = it["oid"]
         if it["op"] == "table" and it != tables.get(oid):  # columns keep their values by name
             tables[oid], before, rows[oid] = it, rows.get(oid, {}), {}
             for row, copies in before.values():
                 count(oid, [row.get(name) for name, *_ in it["columns"]], copies, False)
-        if it["op"] == "t":
-            rows[oid] = {}
+        rows[oid] = {} if it["op"] == "t" else rows[oid]
         for row, by in ((it.get("before"), -1), (it.get("after"), 1)):
             if row is not None:
                 count(oid, row, by, is_repair)
@@ -39,7 +37,7 @@ def keep(lsn, lines, is_repair=False):
 def first_rows(file=1):
     head, *lines = open(f"{feed}/base/{file:08}", "rb").read().splitlines(True)
     told = json.loads(head)
-    assert zlib.crc32(b"".join(lines)) == int(told["crc"], 16), "a file of first rows is spoiled"
+    assert zlib.crc32(b"".join(lines)) == told["crc"], "a file of first rows is spoiled"
     return told["lsn"], lines + ([] if told["last"] else first_rows(file + 1)[1])
 
 while True:
@@ -56,5 +54,7 @@ while True:
         time.sleep(0.02)
         continue
     offset += 256 + len(text)
-    assert end <= at or number(told["prev"]) == at, "the feed lacks commits: begin anew"
-    at = keep(told["end"], text.splitlines(), is_repair) if end > at else at
+    if end > at:
+        assert zlib.crc32(line.split(b',"crc"')[0] + text) == told["crc"], f"spoiled: {told['end']}"
+        assert number(told["prev"]) == at, "the feed lacks commits: begin anew"
+        at = keep(told["end"], text.splitlines(), is_repair)

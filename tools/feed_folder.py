@@ -146,20 +146,23 @@ def shown(line: bytes, at: int) -> str:
 
 
 def first_difference(found: bytes, wanted: bytes) -> str:
-    """The first line in which two segments differ."""
-    for number, (ours, theirs) in enumerate(
-        zip_longest(found.split(b"\n"), wanted.split(b"\n"), fillvalue=b""), 1
-    ):
-        if ours != theirs:
-            at = next(
-                (place for place, pair in enumerate(zip(ours, theirs)) if pair[0] != pair[1]),
-                min(len(ours), len(theirs)),
-            )
-            return (
-                f"line {number} from byte {at}: {shown(ours, at)}\n   and not {shown(theirs, at)}"
-            )
-    # (an empty line at the end is no line)
-    return f"{len(found)} bytes and not {len(wanted)}"
+    """The first line in which two segments differ, other than by its checksum."""
+    lines = zip_longest(found.split(b"\n"), wanted.split(b"\n"), fillvalue=b"")
+    others = [(number, *pair) for number, pair in enumerate(lines, 1) if pair[0] != pair[1]]
+    if not others:
+        # (an empty line at the end is no line)
+        return f"{len(found)} bytes and not {len(wanted)}"
+    # (a checksum differs wherever something that it is of does)
+    number, ours, theirs = min(others, key=lambda it: unsummed(it[1]) == unsummed(it[2]))
+    at = next(
+        (place for place, pair in enumerate(zip(ours, theirs)) if pair[0] != pair[1]),
+        min(len(ours), len(theirs)),
+    )
+    return f"line {number} from byte {at}: {shown(ours, at)}\n   and not {shown(theirs, at)}"
+
+
+def unsummed(line: bytes) -> bytes:
+    return line.partition(b',"crc":')[0]
 
 
 def differences(found: Mapping[str, bytes], wanted: Mapping[str, bytes]) -> list[str]:

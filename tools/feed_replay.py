@@ -9,6 +9,7 @@ to be there.
 from __future__ import annotations
 
 import json
+import zlib
 from collections import Counter
 from collections.abc import Iterator
 from pathlib import Path
@@ -121,6 +122,8 @@ def commits(path: Path) -> Iterator[tuple[dict[str, Any], bytes]]:
         body = text[at + COMMIT : at + COMMIT + commit["bytes"]]
         if len(body) < commit["bytes"]:
             return
+        crc = zlib.crc32(line[: line.index(b',"crc":')] + body)
+        need(crc == commit["crc"], f"{path}: {commit['end']} has the checksum {crc}")
         yield commit, body
         at, last = at + COMMIT + len(body), lsn_of(commit["end"])
 

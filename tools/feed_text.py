@@ -3,6 +3,8 @@
 from __future__ import annotations
 
 import json
+import re
+import zlib
 from collections.abc import Sequence
 from dataclasses import dataclass
 from pathlib import Path
@@ -88,7 +90,7 @@ def segment_name(base: int) -> str:
 
 def segment_head(base: int, system: str, database: str, slot: str) -> bytes:
     what = f'"system":{compact(system)},"database":{compact(database)},"slot":{compact(slot)}'
-    return padded(SEGMENT_SIZE, f'{{"feed":1,"base":"{lsn_text(base)}",{what}}}')
+    return padded(SEGMENT_SIZE, f'{{"feed":2,"base":"{lsn_text(base)}",{what}}}')
 
 
 def closing_line(end: int) -> bytes:
@@ -98,13 +100,26 @@ def closing_line(end: int) -> bytes:
 
 def about_text(about: About | None) -> str:
     if about is None:
-        return '"lsn":null,"xid":null,"ts_us":null}'
-    return f'"lsn":"{lsn_text(about.final)}","xid":{about.xid},"ts_us":{about.time + EPOCH}}}'
+        return '"lsn":null,"xid":null,"ts_us":null'
+    return f'"lsn":"{lsn_text(about.final)}","xid":{about.xid},"ts_us":{about.time + EPOCH}'
 
 
-def commit_line(end: int, prev: int, size: int, changes: int, about: About | None) -> bytes:
-    front = f'{{"end":"{lsn_text(end)}","prev":"{lsn_text(prev)}","bytes":{size},'
-    return padded(COMMIT_SIZE, f'{front}"changes":{changes},{about_text(about)}')
+def commit_line(end: int, prev: int, body: bytes, changes: int, about: About | None) -> bytes:
+    """The line of a commit, behind which these bytes follow. Its checksum is that of what stands
+    before it, and of these."""
+    front = f'{{"end":"{lsn_text(end)}","prev":"{lsn_text(prev)}","bytes":{len(body)},'
+    told = f'{front}"changes":{changes},{about_text(about)}'
+    return padded(COMMIT_SIZE, f'{told},"crc":{zlib.crc32(told.encode() + body)}}}')
+
+
+def summed(text: bytes) -> bytes:
+    """The text of a commit that somebody has changed, whose line gets the checksum of what it has
+    now."""
+    told, size = text[: text.index(b',"crc":')], re.search(rb'"bytes":(\d+)', text)
+    assert size
+    crc = zlib.crc32(told + text[COMMIT_SIZE : COMMIT_SIZE + int(size[1])])
+    line = told + b',"crc":%d}' % crc
+    return line.ljust(COMMIT_SIZE - 1) + b"\n" + text[COMMIT_SIZE:]
 
 
 def cell_value(cell: Cell) -> Any:
@@ -150,7 +165,7 @@ def body_text(lines: Sequence[Line]) -> bytes:
 
 def entry_text(prev: int, end: int, lines: Sequence[Line], about: About | None = None) -> bytes:
     body = body_text(lines)
-    return commit_line(end, prev, len(body), len(lines), about) + body
+    return commit_line(end, prev, body, len(lines), about) + body
 
 
 class Writer:

@@ -72,8 +72,9 @@ NAMES = {
     6: "Counts",
     7: "Undescribed",
     8: "Width",
+    9: "Checksum",
 }
-NOT_A_FEED, OTHER_FEED, COMMIT_LINE, ORDER, LINE, COUNTS, UNDESCRIBED, WIDTH = NAMES
+NOT_A_FEED, OTHER_FEED, COMMIT_LINE, ORDER, LINE, COUNTS, UNDESCRIBED, WIDTH, CHECKSUM = NAMES
 
 
 class Damaged(FileError):
@@ -89,6 +90,7 @@ class Damaged(FileError):
     | 6 | a commit has other bytes or another number of changes than its line says |
     | 7 | a change is of a relation that its commit doesn't describe |
     | 8 | a row has another number of cells than its relation has columns |
+    | 9 | a commit has another checksum than its line says: its bytes aren't those that were written |
     """
 
     def __init__(self, number: int, path: str, offset: int, what: str) -> None:

@@ -84,6 +84,8 @@ class Fake:
         there = sorted(it for it in folder.iterdir() if len(it.name) == 16)
         if there:
             last = there[-1].read_bytes()
+            if not last.startswith(b'{"feed":2,'):
+                return False
             commit = last[-COMMIT_SIZE:].decode() if len(last) > 1024 else ""
             if (
                 f'"end":"{lsn_text(self.position)}"' not in commit
@@ -113,7 +115,7 @@ class Fake:
         if self.feed and end > self.position:
             from feed_text import commit_line
 
-            self.feed.put(commit_line(end, self.position, 0, 0, None))
+            self.feed.put(commit_line(end, self.position, b"", 0, None))
         self.move(end)
         self.tell(end)
 

@@ -1548,6 +1548,27 @@ BUGS = (
         ("test_piping",),
     ),
     Bug(
+        "a commit with other bytes is passed on",
+        "pgsub_feed/reader/lines.py",
+        "    if crc != commit.crc:\n",
+        "    if False:\n",
+        ("test_feed_reading", "test_piping"),
+    ),
+    Bug(
+        "a commit that was spoiled on its way is passed on",
+        "pgsub_feed/pipe/following.py",
+        "for lines in whole_lines(pieces, lambda",
+        "for lines in whole_lines(pipes.pieces(at), lambda",
+        ("test_piping",),
+    ),
+    Bug(
+        "a feed of another format is read",
+        "pgsub_feed/reader/lines.py",
+        'if natural(found["feed"]) != FORMAT:',
+        'if natural(found["feed"]) > FORMAT:',
+        ("test_feed_reading", "test_piping"),
+    ),
+    Bug(
         "first rows with other bytes are taken",
         "pgsub_feed/reader/base.py",
         "if (crc, size) != (self.head.crc, self.head.bytes):",

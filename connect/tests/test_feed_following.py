@@ -17,7 +17,7 @@ from collections.abc import Callable
 from typing import Any
 from unittest import mock
 
-from feed_text import About, Column, Line, entry_text
+from feed_text import About, Column, Line, entry_text, summed
 
 from pgsub_connect.commands import tables as tables_module, wait
 from pgsub_connect.commands.tables import Options
@@ -267,7 +267,7 @@ class Following(FollowingCase):
     def test_lines_that_stay_damaged(self) -> None:
         self.feed.commit(0x100, [insert("1", "a", of=KEYED)])
         text = self.feed.text(0x200, [insert("2", "b", of=KEYED), insert("3", "c", of=KEYED)])
-        self.feed.put(text.replace(b'"n":1', b'"n":2'))
+        self.feed.put(summed(text.replace(b'"n":1', b'"n":2')))
         for once in (True, False):
             self.options = dataclasses.replace(self.options, once=once)
             with logged(), self.assertRaisesRegex(Damaged, "reading 6 Counts"), mock.patch(

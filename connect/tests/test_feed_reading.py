@@ -9,7 +9,7 @@ import re
 from pathlib import Path
 from unittest import mock
 
-from feed_text import UNSENT, About, Column, Line, closing_line, segment_head
+from feed_text import UNSENT, About, Column, Line, closing_line, segment_head, summed
 from hypothesis import given, settings, strategies as st
 
 from pgsub_feed.errors import Damaged, FileError, Unfit
@@ -326,7 +326,8 @@ class Segments(Case):
         self.feed.commit(0x100, [], About(0xF0, 7, 0))
         text = self.file().read_bytes()
         old, new = b'{"end":"0/100","prev":"0/0",', b'{"prev":"0/0","end":"0/100",'
-        self.file().write_bytes(text.replace(old, new))
+        head, line = text[:1024], text[1024:].replace(old, new)
+        self.file().write_bytes(head + summed(line))
         commit = self.reader().next()
         assert commit
         self.assertEqual(
@@ -422,11 +423,21 @@ class Damage(Case):
         self.feed.commit(0x200, [insert("1", "abc")])
         self.text = self.file().read_bytes()
 
-    def told(self, old: bytes, new: bytes, count: int = 1) -> tuple[int, int]:
-        """The number and the offset of the error that a change of the first segment gives."""
-        padded = new + b" " * (len(old) - len(new)) if len(new) < len(old) else new
+    def told(self, old: bytes, new: bytes) -> tuple[int, int]:
+        """The number and the offset of the error that a change of the first segment gives, where its
+        commits have the checksums of what they are then."""
+        self.file().write_bytes(self.summed(self.changed(old, new)))
+        return self.raised()
+
+    def changed(self, old: bytes, new: bytes) -> bytes:
         self.assertIn(old, self.text)
-        self.file().write_bytes(self.text.replace(old, padded, count))
+        return self.text.replace(old, new.ljust(len(old)), 1)
+
+    def summed(self, text: bytes) -> bytes:
+        second = self.text.index(b'{"end":"0/200"')
+        return text[:1024] + summed(text[1024:second]) + summed(text[second:])
+
+    def raised(self) -> tuple[int, int]:
         with self.assertRaises(Damaged) as raised:
             self.parts()
         return raised.exception.number, raised.exception.offset
@@ -436,7 +447,7 @@ class Damage(Case):
         insert_at = self.text.index(b'{"op":"c"')
         delete_at = self.text.index(b'{"op":"d"')
         for old, new, told in (
-            (b'"feed":1', b'"feed":2', (1, 0)),
+            (b'"feed":2', b'"feed":a', (1, 0)),
             (b'"slot":"pgsub"', b'"slot":1', (1, 0)),
             (b'"base":"0/0"', b'"base":"0/1"', (2, 0)),
             (b'{"end":"0/100"', b'["end":"0/100"', (3, 1024)),
@@ -465,6 +476,54 @@ class Damage(Case):
             with self.subTest(old=old, new=new):
                 self.assertEqual(self.told(old, new), told)
 
+    def test_a_checksum(self) -> None:
+        """What isn't as it was written is told by the commit's end, and nothing of it is read, also
+        where each of its lines is one."""
+        crc = self.text[self.text.index(b'"crc":') :].partition(b"}")[0]
+        for old, new in (
+            (b'["1","abc"]', b'["1","abd"]'),
+            (b'"before":["1","abc"]', b'"before":["2","abc"]'),
+            (b'"table":"stock"', b'"table":"stick"'),
+            (b'"changes":2', b'"changes":3'),
+            (b'"xid":7', b'"xid":8'),
+            (b'"lsn":"0/F0"', b'"lsn":"0/F1"'),
+            (b'"op":"c"', b'"op":"q"'),
+            (crc, b'"crc":' + str(int(crc[6:]) ^ 1).encode()),
+        ):
+            with self.subTest(old=old, new=new):
+                self.file().write_bytes(self.changed(old, new))
+                with self.assertRaisesRegex(
+                    Damaged, "reading 9 Checksum: the commit that ends at 0/100 isn't as it was"
+                ):
+                    self.reader().next()
+        last = self.text.rindex(b"abc")
+        self.file().write_bytes(self.text[:last] + b"abd" + self.text[last + 3 :])
+        reader = self.reader()
+        self.assertEqual(getattr(reader.next(), "end", None), 0x100)
+        with self.assertRaisesRegex(Damaged, "the commit that ends at 0/200 isn't as it was"):
+            reader.next()
+        # (what a reader has, it passes over)
+        self.file().write_bytes(self.text.replace(b"abc", b"abd", 2))
+        self.assertEqual(self.ends(0x100), [0x200])
+
+    def test_a_checksum_of_many_bytes(self) -> None:
+        rows = [["1", "x" * (1 << 20)], ["2", "y" * (2 << 20)]]
+        self.feed.commit(0x300, [insert(*it) for it in rows])
+        found = [it.after for it in self.parts() if isinstance(it, Change)]
+        self.assertEqual(found[-2:], rows)
+        text = self.file().read_bytes()
+        self.file().write_bytes(text[:-100] + b"z" + text[-99:])
+        with self.assertRaisesRegex(Damaged, "the commit that ends at 0/300 isn't as it was"):
+            self.ends(0x200)
+
+    def test_another_format(self) -> None:
+        for number, told in ((1, "an earlier version writes"), (3, "a later version writes")):
+            self.file().write_bytes(self.text.replace(b'"feed":2', b'"feed":%d' % number))
+            with self.assertRaisesRegex(
+                Damaged, f"a feed of format {number}, which {told}.* name an empty folder by --feed"
+            ):
+                self.ends()
+
     def test_a_commit_without_definitions(self) -> None:
         described = self.text[self.text.index(b'{"op":"table"') : self.text.index(b'{"op":"c"')]
         before, line, after = self.text.rpartition(b'{"end":"0/200"')
@@ -473,7 +532,8 @@ class Damage(Case):
         shorter = (line + after).replace(
             found[0], b'"bytes":%d' % (int(found[1]) - len(described))
         )[:255].rstrip().ljust(255) + b"\n"
-        self.file().write_bytes(before + shorter + after[256 - len(line) :].replace(described, b""))
+        rest = after[256 - len(line) :].replace(described, b"")
+        self.file().write_bytes(before + summed(shorter + rest))
         with self.assertRaisesRegex(Damaged, "the relation 1 isn't described in this commit"):
             self.parts()
 
@@ -507,9 +567,14 @@ class Damage(Case):
     @settings(ANY, max_examples=300)
     @given(st.data(), st.integers(0, 7))
     def test_any_byte(self, data: st.DataObject, bit: int) -> None:
-        """Whatever byte is another, what is read is the same, or it is told."""
+        """Whatever byte is another, what is read is what was written."""
+        self.file().write_bytes(self.text)
+        wanted, found = self.parts(), list[Part]()
         text = bytearray(self.text)
         text[data.draw(st.integers(0, len(text) - 1))] ^= 1 << bit
         self.file().write_bytes(text)
+        reader = self.reader()
         with contextlib.suppress(Damaged, Unfit):
-            self.parts()
+            while commit := reader.next():
+                found += reader.parts(commit)
+        self.assertEqual(found, wanted[: len(found)])

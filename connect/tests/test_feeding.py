@@ -252,6 +252,18 @@ class Followed(Case):
         self.feed = self.folder + "/other"
         self.assertEqual(self.ends(), [0x308])
 
+    def test_a_feed_of_an_earlier_version(self) -> None:
+        self.follow_once()
+        (path,) = (Path(self.feed) / name for _, name in segments(self.feed))
+        text = path.read_bytes().replace(b'{"feed":2,', b'{"feed":1,')
+        path.write_bytes(text)
+        with self.assertRaises(FilterEnded) as ended:
+            self.run_until(self.fed(), lambda: False)
+        self.assertEqual(ended.exception.status, 3)
+        told = "a feed of format 1, which an earlier version writes"
+        self.assertTrue(any(told in it and "--without-feed" in it for it in self.said), self.said)
+        self.assertEqual(path.read_bytes(), text)
+
     def test_an_older_store(self) -> None:
         """Its feed isn't cut, whether the store's file says its position or, since there is a log,
         a filter alone."""

@@ -249,7 +249,8 @@ class Faults(PipeCase):
         said = self.folder / "said"
         for text, error, told in (
             (b"hello\n", Damaged, "no line of a commit"),
-            (b'{"feed":0}\n', Damaged, "no head"),
+            (b'{"feed":2}\n', Damaged, "no head"),
+            (b'{"feed":1,"base":"0/0"}\n', Damaged, "a feed of format 1, which an earlier version"),
             (b'{"feed', Passing, "it has ended"),
             (b"x" * (3 << 20), Passing, "a line is too long"),
             (b'{"fault":7,"text":"busy"}\n', Passing, "busy"),
@@ -260,6 +261,23 @@ class Faults(PipeCase):
                 os.environ, {"PGSUB_SSH": f"/bin/sh -c 'read it; cat {said}'"}
             ), self.assertRaisesRegex(error, told):
                 self.read(0)
+
+    def test_a_commit_that_is_spoiled_on_its_way(self) -> None:
+        """Nothing of it is passed on, also where each of its lines is one."""
+        said = self.folder / "said"
+        self.feed.commit(0x100, [insert("1", "a"), insert("2", "a")])
+        self.feed.commit(0x200, [insert("3", "a")])
+        text = self.feed.path.read_bytes()
+        head, commits = text[:1024].rstrip() + b"\n", text[1024:]
+        at = commits.index(b'"3"')
+        said.write_bytes(head + commits[:at] + b'"4"' + commits[at + 3 :])
+        with mock.patch.dict(os.environ, {"PGSUB_SSH": f"/bin/sh -c 'read it; cat {said}; cat'"}):
+            found = pgsub_feed.read(self.url, 0)
+            self.assertEqual(next(found).lsn, 0x100)
+            with self.assertRaisesRegex(
+                Damaged, "reading 9 Checksum: the commit that ends at 0/200"
+            ):
+                next(found)
 
     def test_another_feed_in_its_place(self) -> None:
         """A cut, after which the other side has another one."""
@@ -315,7 +333,7 @@ class Serves(PipeCase):
             theirs.close()
             pipes = Pipes(mine.fileno(), mine.fileno(), lambda: None)
             pipes.put(b"0/0\n")
-            self.assertTrue(pipes.line().startswith(b'{"feed":1'))
+            self.assertTrue(pipes.line().startswith(b'{"feed":2'))
             size = json.loads(pipes.line())["bytes"]
             self.assertEqual(sum(map(len, pipes.pieces(size))), size)
             self.assertEqual(pipes.line(), b'{"done":"0/100"}\n')

@@ -20,7 +20,7 @@ from unittest import mock
 
 from feed_load import Load
 from feed_replay import Replay, replay
-from feed_text import About, Column, Line, Writer
+from feed_text import About, Column, Line, Writer, summed
 
 from pgsub_connect.commands import sink as sink_module
 from pgsub_connect.commands.sink import Options
@@ -168,7 +168,10 @@ class Changes(RedisCase):
         self.take(insert("1", "a"))
         self.take(insert("2", "b"), insert("3", "c", of=table(columns=[ID, Column("other", 25)])))
         text = self.feed.path.read_bytes()
-        self.feed.path.write_bytes(text.replace(b'["3","c"]', b'["3"]    '))
+        before, end, last = text.rpartition(b'{"end":')
+        self.feed.path.write_bytes(
+            before + summed((end + last).replace(b'["3","c"]', b'["3"]    '))
+        )
         self.fails(FileError, "reading 8 Width")
         self.assertEqual((self.server.rows(), self.server.at()), ({}, "0/0"))
         self.feed.path.write_bytes(text)

@@ -163,7 +163,7 @@ class Differences(unittest.TestCase):
             '"xid":739',
             r'^0{16}, line 6 from byte \d+: .*"xid":739,.*\n   and not .*"xid":741,',
         )
-        self.check('"ts_us":946684801000000', '"ts_us":946684801000001', "line 2 .*1000001}\n")
+        self.check('"ts_us":946684801000000', '"ts_us":946684801000001', "line 2 .*1000001,")
         self.check('"lsn":"0/100"', '"lsn":"0/130"', '"lsn":"0/130",.*\n.*"lsn":"0/100",')
         self.check('"end":"0/230"', '"end":"0/231"', 'line 6 from byte 12: {"end":"0/231"')
         self.check('"prev":"0/130"', '"prev":"0/100"', 'line 6 .*"prev":"0/100"')

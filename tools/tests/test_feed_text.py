@@ -14,7 +14,7 @@ STOCK = Definition(
 WIDER = Definition(16384, "public", "stock", "d", (*STOCK.columns, Column("price", 1700, 655366)))
 NOTES = Definition(16390, "", 'no"tes', "f", (Column("text", 25), Column("data", 17)))
 ABOUT = About(622870840, 739, 753000000123456)
-ABOUT_TEXT = '"lsn":"0/25204138","xid":739,"ts_us":1699684800123456}'
+ABOUT_TEXT = '"lsn":"0/25204138","xid":739,"ts_us":1699684800123456'
 STOCK_TEXT = (
     '{"op":"table","oid":16384,"schema":"public","table":"stock","identity":"d","key":["sku"],'
     '"columns":[["sku",25,-1],["quantity",23,-1]]}'
@@ -26,8 +26,9 @@ NOTES_TEXT = (
 )
 
 
-def commit(end: str, prev: str, size: int, changes: int, about: str = ABOUT_TEXT) -> str:
-    return f'{{"end":"{end}","prev":"{prev}","bytes":{size},"changes":{changes},{about}'.ljust(255)
+def commit(end: str, prev: str, size: int, changes: int, crc: int, about: str = ABOUT_TEXT) -> str:
+    told = f'{{"end":"{end}","prev":"{prev}","bytes":{size},"changes":{changes},{about}'
+    return f'{told},"crc":{crc}}}'.ljust(255)
 
 
 class Texts(unittest.TestCase):
@@ -46,7 +47,7 @@ class Texts(unittest.TestCase):
                 Line(STOCK, "d", ["A-1", None]),
             ],
             ABOUT,
-            commit("0/25204168", "0/25204038", 333, 3),
+            commit("0/25204168", "0/25204038", 333, 3, 1660703601),
             STOCK_TEXT,
             '{"op":"c","oid":16384,"n":0,"before":null,"after":["A-1","5"]}',
             '{"op":"u","oid":16384,"n":1,"before":["A-1","5"],"after":["A-1",null]}',
@@ -66,7 +67,7 @@ class Texts(unittest.TestCase):
                 Line(WIDER, "u", ["A", "1", "0.50"], ["B", "1", "0.50"]),
             ],
             ABOUT,
-            commit("0/252041D8", "0/25204168", 839, 6),
+            commit("0/252041D8", "0/25204168", 839, 6, 552122812),
             STOCK_TEXT,
             '{"op":"c","oid":16384,"n":0,"before":null,"after":["A","1"]}',
             NOTES_TEXT,
@@ -84,7 +85,7 @@ class Texts(unittest.TestCase):
             622872000,
             [Line(NOTES, "t")],
             ABOUT,
-            commit("0/252045C0", "0/252041D8", 191, 1),
+            commit("0/252045C0", "0/252041D8", 191, 1, 3568646337),
             NOTES_TEXT,
             '{"op":"t","oid":16390,"n":0,"before":null,"after":null}',
         )
@@ -100,7 +101,7 @@ class Texts(unittest.TestCase):
                 Line(NOTES, "x", ["a", b"\x10"], None, "O"),
             ],
             ABOUT,
-            commit("0/252049A8", "0/252045C0", 587, 4),
+            commit("0/252049A8", "0/252045C0", 587, 4, 1076734884),
             STOCK_TEXT,
             '{"op":"x","oid":16384,"n":0,"sent":"u","old":null,"new":["A",{"unchanged":true}]}',
             '{"op":"x","oid":16384,"n":1,"sent":"u","old":["K",["A",null]],"new":["B","1"]}',
@@ -111,29 +112,28 @@ class Texts(unittest.TestCase):
 
     def test_commits_without_changes(self) -> None:
         most = 2**64 - 1
-        nothing = '"lsn":null,"xid":null,"ts_us":null}'
-        self.check(622873000, 4294967312, [], ABOUT, commit("1/10", "0/252049A8", 0, 0))
-        self.check(
-            622873000, 622874000, [], None, commit("0/25204D90", "0/252049A8", 0, 0, nothing)
-        )
-        for prev, text, time, told in (
-            (0, "0/0", -(2**63), -9222425352054775808),
-            (most - 1, "FFFFFFFF/FFFFFFFE", 2**63 - 1, 9224318721654775807),
+        nothing = '"lsn":null,"xid":null,"ts_us":null'
+        self.check(622873000, 4294967312, [], ABOUT, commit("1/10", "0/252049A8", 0, 0, 167495254))
+        line = commit("0/25204D90", "0/252049A8", 0, 0, 1985452095, nothing)
+        self.check(622873000, 622874000, [], None, line)
+        for prev, text, time, told, crc in (
+            (0, "0/0", -(2**63), -9222425352054775808, 2043029359),
+            (most - 1, "FFFFFFFF/FFFFFFFE", 2**63 - 1, 9224318721654775807, 188168311),
         ):
-            about = f'"lsn":"FFFFFFFF/FFFFFFFF","xid":4294967295,"ts_us":{told}}}'
+            about = f'"lsn":"FFFFFFFF/FFFFFFFF","xid":4294967295,"ts_us":{told}'
             self.check(
                 prev,
                 most,
                 [],
                 About(most, 2**32 - 1, time),
-                commit("FFFFFFFF/FFFFFFFF", text, 0, 0, about),
+                commit("FFFFFFFF/FFFFFFFF", text, 0, 0, crc, about),
             )
 
     def test_head(self) -> None:
         text = segment_head(622870584, "7231", 'pu"b', "copy").decode()
         self.assertEqual(
             text,
-            '{"feed":1,"base":"0/25204038","system":"7231","database":"pu\\"b","slot":"copy"}'.ljust(
+            '{"feed":2,"base":"0/25204038","system":"7231","database":"pu\\"b","slot":"copy"}'.ljust(
                 1023
             )
             + "\n",

@@ -29,7 +29,7 @@ from pgsub_feed.errors import Damaged, FileError, Unfit
 from pgsub_feed.interruption import Check, never
 from pgsub_feed.reader.base import remove_begun
 from pgsub_feed.reader.positions import make_folder
-from pgsub_feed.reader.segments import Reader, read_confirmed, segments
+from pgsub_feed.reader.segments import Reader, read_confirmed, read_source, segments
 from pgsub_feed.texts import counted, lsn_text
 
 from ..copy.rows_beside import RowsBeside, Several
@@ -301,10 +301,15 @@ class Feeding:
         that doesn't fit."""
         if not self.folder or said != NOT_A_FEED:
             return ""
+        try:
+            read_source(self.folder)
+        except FileError as error:
+            # (as of another format)
+            return str(error)
         return (
-            f"{self.folder} isn't the feed of {self.settings.store}: it was followed without it, is that of another copy, or begins after"
-            " this copy's last commit. Name an empty folder by --feed, with --without-feed: whoever reads the feed begins anew there, from"
-            " an export"
+            f"{self.folder} isn't the feed of {self.settings.store}: it was followed without it, is that of another copy, begins after this"
+            " copy's last commit, or has that one spoiled. Name an empty folder by --feed, with --without-feed: whoever reads the feed begins"
+            " anew there, from an export"
         )
 
     def finish(self) -> None:

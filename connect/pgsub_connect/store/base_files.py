@@ -105,7 +105,7 @@ class BaseFile:
         told: dict[str, object] = {"base": FORMAT, "lsn": lsn_text(it.point)}
         told.update(system=it.system, database=it.database, slot=it.slot)
         told.update(number=self.number, last=is_last, rows=self.rows, bytes=self.bytes)
-        told["crc"] = f"{self.crc:08x}"
+        told["crc"] = self.crc
         line = compact(told).encode()
         if len(line) >= HEAD_SIZE:
             raise FileError("the names of database and slot are too long")

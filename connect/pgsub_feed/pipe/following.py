@@ -20,10 +20,12 @@ from ..reader.commits import Closing, Commit, Head, Part
 from ..reader.lines import (
     Decoder,
     natural,
+    no_head,
     read_commit,
     read_head,
     read_object,
     shown,
+    summed,
     text,
     whole_lines,
 )
@@ -156,8 +158,8 @@ class Remote(Generic[Read]):
     def check_head(self, line: bytes) -> None:
         try:
             head = read_head(line)
-        except ValueError:
-            told = f"this is no head of a feed's segment: {shown(line)}"
+        except ValueError as error:
+            told = no_head(line, error)
             raise errors.Damaged(errors.NOT_A_FEED, self.url, 0, told) from None
         if self.head and head.source() != self.head.source():
             text = f"a feed of {head.text()}, and before of {self.head.text()}"
@@ -208,7 +210,13 @@ class Remote(Generic[Read]):
     def parts(self, pipes: Pipes, commit: Commit) -> Iterator[Part]:
         decoder, told = self.decoder, "the commit's last line has no end where its bytes end"
         decoder.begin(commit, lambda number, at, what: errors.Damaged(number, self.url, at, what))
-        pieces, at = pipes.pieces(commit.bytes), commit.bytes
+        at = commit.bytes
+        # (nothing is made of a commit before all of it was read)
+        pieces = summed(
+            commit,
+            pipes.pieces(at),
+            lambda told: errors.Damaged(errors.CHECKSUM, self.url, at, told),
+        )
         for lines in whole_lines(pieces, lambda: errors.Damaged(errors.COUNTS, self.url, at, told)):
             yield from decoder.read(lines)
         decoder.finish()

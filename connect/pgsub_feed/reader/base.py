@@ -30,7 +30,7 @@ from .lines import (
     text,
 )
 
-FOLDER, FORMAT = "base", 1
+FOLDER, FORMAT = "base", 2
 # How much is read at once, in bytes.
 CHUNK = 1 << 20
 
@@ -77,7 +77,7 @@ def read_file_head(line: bytes) -> FileHead:
             raise ValueError
         names = [text(found[it]) for it in ("system", "database", "slot")]
         source = Head(parse_lsn(text(found["lsn"])), *names)
-        sizes = natural(found["rows"]), natural(found["bytes"]), int(text(found["crc"]), 16)
+        sizes = natural(found["rows"]), natural(found["bytes"]), natural(found["crc"])
         return FileHead(source, natural(found["number"]), found["last"] is True, *sizes)
     except KeyError:
         raise ValueError from None
@@ -125,7 +125,7 @@ class BaseFile:
         while piece := self.file.read(CHUNK):
             crc, size = zlib.crc32(piece, crc), size + len(piece)
         if (crc, size) != (self.head.crc, self.head.bytes):
-            told = f"{size} bytes of checksum {crc:08x}, where its head has {self.head.bytes} of {self.head.crc:08x}"
+            told = f"{size} bytes of checksum {crc}, where its head has {self.head.bytes} of {self.head.crc}"
             raise Damaged(COUNTS, self.path, HEAD_SIZE, told)
         self.file.seek(HEAD_SIZE)
 

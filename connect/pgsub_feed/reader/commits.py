@@ -50,6 +50,8 @@ class Commit(NamedTuple):
     """A commit: where it ends and the one before it does, how many bytes and changes follow, and
     what its message told of it: the final LSN, the xid and the time in microseconds since 1970.
 
+    `crc` is the CRC-32 that its line tells, and `begun` that of what stands before it in the line.
+
     `base`: rows from before the first commit, behind so many others. They are complete once one ends
     above 0."""
 
@@ -60,6 +62,8 @@ class Commit(NamedTuple):
     lsn: int | None = None
     xid: int | None = None
     ts_us: int | None = None
+    crc: int = 0
+    begun: int = 0
     base: int | None = None
 
     def text(self) -> str:

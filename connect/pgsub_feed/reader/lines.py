@@ -4,6 +4,7 @@ import binascii
 import functools
 import json
 import re
+import zlib
 from collections.abc import Callable, Iterable, Iterator, Sequence
 from typing import Any, NoReturn, cast
 
@@ -12,7 +13,7 @@ from ..relation import Column, Relation, Shape
 from ..texts import parse_lsn
 from .commits import UNSENT, Cells, Change, Closing, Commit, Head, Missed, Part, TableLine, Unsent
 
-FORMAT = 1
+FORMAT = 2
 # How many bytes the head of a segment has, and the line of a commit, or that which closes a
 # segment.
 HEAD_SIZE, COMMIT_SIZE = 1024, 256
@@ -21,10 +22,12 @@ MOST_DEFINITIONS = 10000
 # The line of a commit as it is written.
 LSN = rb'"([0-9A-F]{1,8}/[0-9A-F]{1,8})"'
 PLAIN = re.compile(
-    rb'\{"end":%b,"prev":%b,"bytes":(\d+),"changes":(\d+),"lsn":(?:%b,"xid":(\d+),"ts_us":(-?\d+)|null,"xid":null,"ts_us":null)\} *\n'
+    rb'\{"end":%b,"prev":%b,"bytes":(\d+),"changes":(\d+),"lsn":(?:%b,"xid":(\d+),"ts_us":(-?\d+)|null,"xid":null,"ts_us":null),"crc":(\d+)\} *\n'
     % (LSN, LSN, LSN)
 )
 decoded = json.JSONDecoder().decode
+# What stands before its checksum, which is that of all before this, and of the lines that follow.
+CRC = b',"crc":'
 # What may be the escape of half of a pair.
 SURROGATE = re.compile(r"\\u[dD]")
 SENT = {str, type(None)}
@@ -82,12 +85,21 @@ def text(value: object) -> str:
     return value
 
 
+class OtherFormat(ValueError):
+    """The head of a segment in another format."""
+
+
 def read_head(line: bytes) -> Head:
-    """The head of a segment. A ValueError says that it isn't one."""
+    """The head of a segment. A ValueError says that it isn't one, an OtherFormat that it is one of
+    another format, and what to do."""
     found = read_object(line)
     try:
-        if found["feed"] != FORMAT:
-            raise ValueError
+        if natural(found["feed"]) != FORMAT:
+            age = "an earlier" if found["feed"] < FORMAT else "a later"
+            raise OtherFormat(
+                f"this is a feed of format {found['feed']}, which {age} version writes, and this one reads format {FORMAT}: name an empty"
+                " folder by --feed, with --without-feed, and have its readers begin anew, or go on with that version"
+            )
         return Head(
             parse_lsn(text(found["base"])),
             text(found["system"]),
@@ -102,9 +114,10 @@ def read_commit(line: bytes) -> Commit | Closing:
     """The line of a commit, or that which closes a segment. A ValueError says that it is
     neither."""
     if plain := PLAIN.fullmatch(line):
-        end, prev, size, changes, final, xid, time = plain.groups()
+        end, prev, size, changes, final, xid, time, crc = plain.groups()
         about = (lsn_of(final), int(xid), int(time)) if final else (None, None, None)
-        return Commit(lsn_of(end), lsn_of(prev), int(size), int(changes), *about)
+        sums = int(crc), zlib.crc32(line[: plain.start(8) - len(CRC)])
+        return Commit(lsn_of(end), lsn_of(prev), int(size), int(changes), *about, *sums)
     return read_commit_object(line)
 
 
@@ -123,11 +136,13 @@ def read_commit_object(line: bytes) -> Commit | Closing:
         ends = parse_lsn(text(found["end"])), parse_lsn(text(found["prev"]))
         sizes = natural(found["bytes"]), natural(found["changes"])
         about = found["lsn"], found["xid"], found["ts_us"]
+        sums = natural(found["crc"]), zlib.crc32(line[: line.index(CRC)])
     except KeyError:
         raise ValueError from None
     if about == (None, None, None):
-        return Commit(*ends, *sizes)
-    return Commit(*ends, *sizes, parse_lsn(text(about[0])), natural(about[1]), number(about[2]))
+        return Commit(*ends, *sizes, None, None, None, *sums)
+    told = parse_lsn(text(about[0])), natural(about[1]), number(about[2])
+    return Commit(*ends, *sizes, *told, *sums)
 
 
 def read_relation(found: dict[str, Any]) -> Relation:
@@ -162,6 +177,21 @@ def read_whole(row: list[object]) -> Cells:
             raise ValueError
         cells.append(cell)
     return cells
+
+
+def summed(
+    commit: Commit, pieces: Iterable[bytes], fault: Callable[[str], Damaged]
+) -> Iterator[bytes]:
+    """The bytes of a commit, which come in pieces. Behind the last one `fault` makes the error where
+    they aren't those that were written."""
+    crc = commit.begun
+    for piece in pieces:
+        crc = zlib.crc32(piece, crc)
+        yield piece
+    if crc != commit.crc:
+        raise fault(
+            f"the commit that ends at {commit.text()} isn't as it was written: its bytes have the checksum {crc}, and its line says {commit.crc}"
+        )
 
 
 def whole_lines(pieces: Iterable[bytes], fault: Callable[[], Damaged]) -> Iterator[list[bytes]]:
@@ -307,6 +337,12 @@ class Decoder:
             if row is not None and len(row) != width:
                 self.refuse(row, width)
         return Missed(relation, n, sent, kind, *rows)
+
+
+def no_head(line: bytes, error: ValueError) -> str:
+    """Why a line is no head of a segment."""
+    told = f"this is no head of a feed's segment: {shown(line)}"
+    return str(error) if isinstance(error, OtherFormat) else told
 
 
 def shown(line: bytes) -> str:

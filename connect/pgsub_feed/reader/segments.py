@@ -2,8 +2,9 @@
 
 A segment's name is its base, in 16 hexadecimal digits. A reader has an LSN of its own: it passes
 over the commits that don't end above it, and the first that it takes must be the one after it. A
-commit whose bytes aren't all there yet is waited for. Where the feed was written anew from some
-commit on, the reader goes on from its LSN.
+commit whose bytes aren't all there yet is waited for; none is passed on whose bytes don't have the
+checksum that its line tells. Where the feed was written anew from some commit on, the reader goes
+on from its LSN.
 
 A crash may cut off what isn't confirmed. The server sends its commits again, each with the same
 end; but the connector's own, of rows that are added or repaired, end at an LSN that doesn't come
@@ -17,6 +18,7 @@ import time
 from collections.abc import Iterable, Iterator
 
 from ..errors import (
+    CHECKSUM,
     COMMIT_LINE,
     COUNTS,
     NOT_A_FEED,
@@ -29,7 +31,17 @@ from ..errors import (
 )
 from ..texts import lsn_text, parse_lsn
 from .commits import XID, Closing, Commit, Cursor, Head, Part
-from .lines import COMMIT_SIZE, HEAD_SIZE, Decoder, read_commit, read_head, shown, whole_lines
+from .lines import (
+    COMMIT_SIZE,
+    HEAD_SIZE,
+    Decoder,
+    no_head,
+    read_commit,
+    read_head,
+    shown,
+    summed,
+    whole_lines,
+)
 
 NAME = re.compile(r"[0-9A-Fa-f]{16}")
 CONFIRMED = "confirmed"
@@ -101,10 +113,8 @@ class Segment:
             return None
         try:
             head = read_head(line)
-        except ValueError:
-            raise Damaged(
-                NOT_A_FEED, self.path, 0, f"this is no head of a feed's segment: {shown(line)}"
-            ) from None
+        except ValueError as error:
+            raise Damaged(NOT_A_FEED, self.path, 0, no_head(line, error)) from None
         if head.base != self.base:
             raise Damaged(
                 OTHER_FEED,
@@ -134,15 +144,21 @@ class Segment:
                 COMMIT_LINE, self.path, offset, f"this is no line of a commit: {shown(line)}"
             ) from None
 
-    def lines(self, offset: int, size: int) -> Iterable[list[bytes]]:
-        """The lines of these bytes without their ends, some at a time."""
-        end, text = offset + size, "the commit's last line has no end where its bytes end"
-        if 0 < size <= CHUNK and len(piece := self.read(offset, size)) == size:
-            # (as most commits)
-            *lines, rest = piece.split(b"\n")
-            if not rest:
-                return (lines,)
-        return whole_lines(self.pieces(offset, end), lambda: Damaged(COUNTS, self.path, end, text))
+    def check(self, commit: Commit, offset: int) -> list[bytes]:
+        """Rejects a commit whose bytes at an offset aren't those that were written. Returns them,
+        unless there are many."""
+        at = offset - COMMIT_SIZE
+        pieces = summed(
+            commit,
+            self.pieces(offset, offset + commit.bytes),
+            lambda told: Damaged(CHECKSUM, self.path, at, told),
+        )
+        return [it for it in pieces if commit.bytes <= CHUNK]
+
+    def lines(self, pieces: Iterable[bytes], end: int) -> Iterable[list[bytes]]:
+        """The lines of bytes up to an offset without their ends, some at a time."""
+        text = "the commit's last line has no end where its bytes end"
+        return whole_lines(pieces, lambda: Damaged(COUNTS, self.path, end, text))
 
     def pieces(self, offset: int, end: int) -> Iterator[bytes]:
         """The bytes between two offsets, some at a time."""
@@ -189,8 +205,8 @@ class Reader:
         self.decoder = Decoder()
         # where the next commit begins, and where the one before it ends
         self.offset = self.last = 0
-        # where the lines of the commit begin that was taken last
-        self.body = 0
+        # where the lines of the commit begin that was taken last, and its bytes, unless there are many
+        self.body, self.kept = 0, list[bytes]()
 
     def cursor(self) -> Cursor | None:
         """Where it is: after the commit that was taken last, None where there is no segment yet."""
@@ -268,8 +284,11 @@ class Reader:
                 f"{self.folder}: no commit ends at {lsn_text(at)}: the next one goes from {lsn_text(commit.prev)} to {commit.text()}, so"
                 " what was read before isn't what the feed has. Begin anew from an export"
             )
-        self.body = self.offset + COMMIT_SIZE
-        self.offset, self.last = self.body + commit.bytes, commit.end
+        body = self.offset + COMMIT_SIZE
+        # (those below the LSN are passed over, whatever they have)
+        kept = segment.check(commit, body) if commit.end > at else []
+        self.body, self.kept = body, kept
+        self.offset, self.last = body + commit.bytes, commit.end
         if commit.end <= at:
             return False
         self.at = commit.end
@@ -351,7 +370,16 @@ class Reader:
     def raw(self, commit: Commit) -> Iterable[list[bytes]]:
         """The lines of the commit that was taken last, without their ends, some at a time."""
         assert self.segment
-        return self.segment.lines(self.body, commit.bytes)
+        return self.lines(self.segment, commit)
+
+    def lines(self, segment: Segment, commit: Commit) -> Iterable[list[bytes]]:
+        end = self.body + commit.bytes
+        if len(self.kept) == 1:
+            # (as of most commits)
+            *lines, rest = self.kept[0].split(b"\n")
+            if not rest:
+                return (lines,)
+        return segment.lines(self.kept or segment.pieces(self.body, end), end)
 
     def parts(self, commit: Commit) -> Iterator[Part]:
         """What the commit that was taken last has, in order."""
@@ -361,7 +389,7 @@ class Reader:
         decoder.begin(
             commit, lambda number, offset, what: Damaged(number, path, body + offset, what)
         )
-        for lines in segment.lines(body, commit.bytes):
+        for lines in self.lines(segment, commit):
             yield from decoder.read(lines)
         decoder.finish()
 

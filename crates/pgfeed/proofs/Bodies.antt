@@ -14,7 +14,9 @@ use Rattle.pgledger.specs.declared.image.Image.{Image}
 use Rattle.pgledger.specs.Images.{Line, lines}
 use Rattle.pgledger.specs.Entries.{entry_of}
 use Rattle.pgfeed.specs.Fits.{FitsEntry, FitsLine}
-use Rattle.pgfeed.specs.Texts.{body_text, commit_line, entry_text, image_line, is_told, table_line}
+use Rattle.pgcrc.specs.Crc.{crc32}
+use Rattle.pgfeed.specs.Texts.{body_text, commit_told, crc_text, entry_crc, entry_text, image_line}
+use Rattle.pgfeed.specs.Texts.{is_told, padded, table_line}
 
 abbrev line_of : RelationDef → Image → Line
 line_of def image = record { definition = def; image = image }
@@ -144,18 +146,20 @@ told_of : (body : List ℕ) (defs : List RelationDef) (entries : List (ℕ × Op
     → body ≡ body_text [] 0 (lines (change_values defs entries) images) → body ≡ body_text [] 0 (lines changes images)
 told_of body defs entries changes images made is = is ∙ ap (λ them. body_text [] 0 (lines them images)) made
 
--- the text is the line of the commit, and then its lines
-pub entry_is : (text line body : List ℕ) (prev end count : ℕ) (about : Option About) (defs : List RelationDef) (entries : List (ℕ × Op))
-    (changes : List Change) (images : List Image)
+-- The text is the line of the commit, and then its lines. `told` is what the line tells before its
+-- checksum.
+pub entry_is : (text line told body : List ℕ) (prev end count crc : ℕ) (about : Option About) (defs : List RelationDef)
+    (entries : List (ℕ × Op)) (changes : List Change) (images : List Image)
     → change_values defs entries ≡ changes → AllByRecursion (IsNumbered defs) entries
     → body ≡ body_text [] 0 (lines (change_values defs entries) images) → count ≡ min (length entries) (length images)
-    → line ≡ commit_line end prev (length body) count about → text ≡ line ++ body
+    → told ≡ commit_told end prev (length body) count about → crc ≡ crc32 (told ++ body) → line ≡ padded 256 (told ++ crc_text crc)
+    → text ≡ line ++ body
     → text ≡ entry_text prev (entry_of end about changes images)
-unfolding entry_text
-entry_is text line body prev end count about defs entries changes images made numbered is many heads whole =
+unfolding entry_text entry_crc
+entry_is text line told body prev end count crc about defs entries changes images made numbered is many tells sums heads whole =
     let count_is = counted count defs entries changes images made numbered many in
-    let told = told_of body defs entries changes images made is in
-    rw (whole, heads, count_is, told) refl
+    let told_is = told_of body defs entries changes images made is in
+    rw (whole, heads, sums, tells, count_is, told_is) refl
 
 pub entry_fits : (body : List ℕ) (prev end long count : ℕ) (about : Option About) (defs : List RelationDef) (entries : List (ℕ × Op))
     (changes : List Change) (images : List Image)

@@ -11,8 +11,9 @@ use Rattle.pglogical.specs.declared.message.OldKind.TheVariants.{Key, Full}
 use Rattle.pgledger.specs.declared.image.Image.TheVariants.{Inserted, Updated, Deleted, Truncated}
 use Rattle.pgledger.specs.declared.image.Image.TheVariants.{Missed}
 use Rattle.pgledger.specs.Entries.{Entry}
-use Rattle.pgfeed.specs.Texts.{body_text, closing_object, entry_text, key_data, segment_head}
-use Rattle.pgfeed.specs.Texts.{table_front, table_rest}
+use Rattle.pgcrc.specs.Crc.{after_bit, after_bits, bits, crc32}
+use Rattle.pgfeed.specs.Texts.{body_text, closing_object, crc_text, entry_crc, entry_text, key_data}
+use Rattle.pgfeed.specs.Texts.{padded, segment_head, table_front, table_rest}
 
 abbrev stock : RelationDef
 stock = record {
@@ -64,7 +65,7 @@ three = record {
 }
 
 three_text : entry_text 622870584 three ≡
-    codes "{\"end\":\"0/25204168\",\"prev\":\"0/25204038\",\"bytes\":333,\"changes\":3,\"lsn\":\"0/25204138\",\"xid\":739,\"ts_us\":1699684800123456}                                                                                                                                         \n"
+    padded 256 (codes "{\"end\":\"0/25204168\",\"prev\":\"0/25204038\",\"bytes\":333,\"changes\":3,\"lsn\":\"0/25204138\",\"xid\":739,\"ts_us\":1699684800123456" ++ crc_text (entry_crc 622870584 three))
     ++ (codes "{\"op\":\"table\",\"oid\":16384,\"schema\":\"public\",\"table\":\"stock\",\"identity\":\"d\",\"key\":[\"sku\"],\"columns\":[[\"sku\",25,-1],[\"quantity\",23,-1]]}\n"
     ++ (codes "{\"op\":\"c\",\"oid\":16384,\"n\":0,\"before\":null,\"after\":[\"A-1\",\"5\"]}\n"
     ++ (codes "{\"op\":\"u\",\"oid\":16384,\"n\":1,\"before\":[\"A-1\",\"5\"],\"after\":[\"A-1\",null]}\n"
@@ -92,7 +93,7 @@ interleaved = record {
 }
 
 interleaved_text : entry_text 622870888 interleaved ≡
-    codes "{\"end\":\"0/252041D8\",\"prev\":\"0/25204168\",\"bytes\":839,\"changes\":6,\"lsn\":\"0/25204138\",\"xid\":739,\"ts_us\":1699684800123456}                                                                                                                                         \n"
+    padded 256 (codes "{\"end\":\"0/252041D8\",\"prev\":\"0/25204168\",\"bytes\":839,\"changes\":6,\"lsn\":\"0/25204138\",\"xid\":739,\"ts_us\":1699684800123456" ++ crc_text (entry_crc 622870888 interleaved))
     ++ (codes "{\"op\":\"table\",\"oid\":16384,\"schema\":\"public\",\"table\":\"stock\",\"identity\":\"d\",\"key\":[\"sku\"],\"columns\":[[\"sku\",25,-1],[\"quantity\",23,-1]]}\n"
     ++ (codes "{\"op\":\"c\",\"oid\":16384,\"n\":0,\"before\":null,\"after\":[\"A\",\"1\"]}\n"
     ++ (codes "{\"op\":\"table\",\"oid\":16390,\"schema\":\"pg_catalog\",\"table\":\"no\\\"tes\",\"identity\":\"f\",\"key\":null,\"columns\":[[\"text\",25,-1],[\"data\",17,-1]]}\n"
@@ -117,11 +118,16 @@ truncated = record {
 }
 
 truncated_text : entry_text 622871000 truncated ≡
-    codes "{\"end\":\"0/252045C0\",\"prev\":\"0/252041D8\",\"bytes\":191,\"changes\":1,\"lsn\":\"0/25204138\",\"xid\":739,\"ts_us\":1699684800123456}                                                                                                                                         \n"
+    padded 256 (codes "{\"end\":\"0/252045C0\",\"prev\":\"0/252041D8\",\"bytes\":191,\"changes\":1,\"lsn\":\"0/25204138\",\"xid\":739,\"ts_us\":1699684800123456" ++ crc_text (entry_crc 622871000 truncated))
     ++ (codes "{\"op\":\"table\",\"oid\":16390,\"schema\":\"pg_catalog\",\"table\":\"no\\\"tes\",\"identity\":\"f\",\"key\":null,\"columns\":[[\"text\",25,-1],[\"data\",17,-1]]}\n"
     ++ (codes "{\"op\":\"t\",\"oid\":16390,\"n\":0,\"before\":null,\"after\":null}\n"))
 unfolding entry_text body_text lsn_text half_text digits escape_byte table_front table_rest key_data lib.Utf8.encode
 truncated_text = refl
+
+-- the checksum is of what its line tells before it, and of the lines that follow
+truncated_crc : entry_crc 622871000 truncated ≡ 3568646337
+unfolding entry_crc body_text lsn_text half_text digits escape_byte table_front table_rest key_data lib.Utf8.encode crc32 after_bits after_bit bits
+truncated_crc = refl
 
 -- changes that found no row, with what was sent
 abbrev missed : Entry
@@ -140,7 +146,7 @@ missed = record {
 }
 
 missed_text : entry_text 622872000 missed ≡
-    codes "{\"end\":\"0/252049A8\",\"prev\":\"0/252045C0\",\"bytes\":587,\"changes\":4,\"lsn\":\"0/25204138\",\"xid\":739,\"ts_us\":1699684800123456}                                                                                                                                         \n"
+    padded 256 (codes "{\"end\":\"0/252049A8\",\"prev\":\"0/252045C0\",\"bytes\":587,\"changes\":4,\"lsn\":\"0/25204138\",\"xid\":739,\"ts_us\":1699684800123456" ++ crc_text (entry_crc 622872000 missed))
     ++ (codes "{\"op\":\"table\",\"oid\":16384,\"schema\":\"public\",\"table\":\"stock\",\"identity\":\"d\",\"key\":[\"sku\"],\"columns\":[[\"sku\",25,-1],[\"quantity\",23,-1]]}\n"
     ++ (codes "{\"op\":\"x\",\"oid\":16384,\"n\":0,\"sent\":\"u\",\"old\":null,\"new\":[\"A\",{\"unchanged\":true}]}\n"
     ++ (codes "{\"op\":\"x\",\"oid\":16384,\"n\":1,\"sent\":\"u\",\"old\":[\"K\",[\"A\",null]],\"new\":[\"B\",\"1\"]}\n"
@@ -155,7 +161,7 @@ abbrev nothing : Entry
 nothing = record { end = 4294967312; about = Some (record { final_lsn = 622870840; xid = 739; time = pos 753000000123456 }); lines = [] }
 
 nothing_text : entry_text 622873000 nothing ≡
-    codes "{\"end\":\"1/10\",\"prev\":\"0/252049A8\",\"bytes\":0,\"changes\":0,\"lsn\":\"0/25204138\",\"xid\":739,\"ts_us\":1699684800123456}                                                                                                                                                 \n"
+    padded 256 (codes "{\"end\":\"1/10\",\"prev\":\"0/252049A8\",\"bytes\":0,\"changes\":0,\"lsn\":\"0/25204138\",\"xid\":739,\"ts_us\":1699684800123456" ++ crc_text (entry_crc 622873000 nothing)) ++ []
 unfolding entry_text body_text lsn_text half_text digits escape_byte
 nothing_text = refl
 
@@ -164,9 +170,14 @@ abbrev untold : Entry
 untold = record { end = 622874000; about = None; lines = [] }
 
 untold_text : entry_text 622873000 untold ≡
-    codes "{\"end\":\"0/25204D90\",\"prev\":\"0/252049A8\",\"bytes\":0,\"changes\":0,\"lsn\":null,\"xid\":null,\"ts_us\":null}                                                                                                                                                              \n"
+    padded 256 (codes "{\"end\":\"0/25204D90\",\"prev\":\"0/252049A8\",\"bytes\":0,\"changes\":0,\"lsn\":null,\"xid\":null,\"ts_us\":null" ++ crc_text (entry_crc 622873000 untold)) ++ []
 unfolding entry_text body_text lsn_text half_text digits escape_byte
 untold_text = refl
+
+-- the checksum is of what its line tells before it
+untold_crc : entry_crc 622873000 untold ≡ 1985452095
+unfolding entry_crc body_text lsn_text half_text digits escape_byte crc32 after_bits after_bit bits
+untold_crc = refl
 
 -- a time before 1970
 abbrev early : Entry
@@ -177,7 +188,7 @@ early = record {
 }
 
 early_text : entry_text 0 early ≡
-    codes "{\"end\":\"FFFFFFFF/FFFFFFFF\",\"prev\":\"0/0\",\"bytes\":0,\"changes\":0,\"lsn\":\"FFFFFFFF/FFFFFFFF\",\"xid\":4294967295,\"ts_us\":-9222425352054775808}                                                                                                                         \n"
+    padded 256 (codes "{\"end\":\"FFFFFFFF/FFFFFFFF\",\"prev\":\"0/0\",\"bytes\":0,\"changes\":0,\"lsn\":\"FFFFFFFF/FFFFFFFF\",\"xid\":4294967295,\"ts_us\":-9222425352054775808" ++ crc_text (entry_crc 0 early)) ++ []
 unfolding entry_text body_text lsn_text half_text digits escape_byte
 early_text = refl
 
@@ -190,12 +201,12 @@ late = record {
 }
 
 late_text : entry_text 18446744073709551614 late ≡
-    codes "{\"end\":\"FFFFFFFF/FFFFFFFF\",\"prev\":\"FFFFFFFF/FFFFFFFE\",\"bytes\":0,\"changes\":0,\"lsn\":\"FFFFFFFF/FFFFFFFF\",\"xid\":4294967295,\"ts_us\":9224318721654775807}                                                                                                            \n"
+    padded 256 (codes "{\"end\":\"FFFFFFFF/FFFFFFFF\",\"prev\":\"FFFFFFFF/FFFFFFFE\",\"bytes\":0,\"changes\":0,\"lsn\":\"FFFFFFFF/FFFFFFFF\",\"xid\":4294967295,\"ts_us\":9224318721654775807" ++ crc_text (entry_crc 18446744073709551614 late)) ++ []
 unfolding entry_text body_text lsn_text half_text digits escape_byte
 late_text = refl
 
 head : segment_head 622870584 (codes "7231") (codes "pu\"b") (codes "copy")
-    ≡ codes "{\"feed\":1,\"base\":\"0/25204038\",\"system\":\"7231\",\"database\":\"pu\\\"b\",\"slot\":\"copy\"}                                                                                                                                                                                                                                                                                                                                                                                                                                                                                                                                                                                                                                                                                                                                                                                                                                                                                                                                                                                \n"
+    ≡ codes "{\"feed\":2,\"base\":\"0/25204038\",\"system\":\"7231\",\"database\":\"pu\\\"b\",\"slot\":\"copy\"}                                                                                                                                                                                                                                                                                                                                                                                                                                                                                                                                                                                                                                                                                                                                                                                                                                                                                                                                                                                \n"
 unfolding lsn_text half_text digits escape_byte
 head = refl
 

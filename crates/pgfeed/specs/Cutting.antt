@@ -3,6 +3,7 @@ pub mod Fronts
 pub mod Walking
 pub mod Files
 pub mod Kept
+pub mod Tested
 pub mod Opened
 pub mod Following
 pub mod Beside

@@ -9,7 +9,7 @@ use Rattle.pgledger.specs.Entries.{Entry, last_end}
 use Rattle.pgfeed.specs.declared.feed.Feed.{Feed}
 use Rattle.pgfeed.specs.declared.segment.Segment.{Segment}
 use Rattle.pgfeed.specs.Reading.{AreEntries}
-use Rattle.pgfeed.specs.Segments.{HasWhatLasts, IsCut, IsEnded, IsFinished, IsFound, KeepsEntries}
+use Rattle.pgfeed.specs.Segments.{EndsTested, HasWhatLasts, IsCut, IsEnded, IsFinished, IsFound, KeepsEntries}
 use Rattle.pgfeed.specs.Segments.{Lasts}
 
 -- ---- when a segment ends
@@ -114,6 +114,7 @@ module _ {D : Type 0} (seen : D → List ℕ) (may_leave : D → List ℕ → Ty
   pub record IsCutAt (p : ℕ) (text : List ℕ) (s : Segment D) : Type 0 where
     pub above : s.base < p
     pub found : IsFound s.base p text s.size
+    pub tested : EndsTested p text s.size
     pub cut : IsCut text s.size (seen s.disk) (may_leave s.disk)
 
   -- The segment was opened at an LSN in a folder: a new one that begins there, or the one that was

@@ -3,7 +3,8 @@ use Rattle.std.specs.Prelude.{◌≡◌, ◌<◌, ◌≤◌, ◌+◌, ◌^◌, �
 use Rattle.std.specs.Prelude.{drop, ⊤}
 use Rattle.pgledger.specs.Entries.{Entry, last_end}
 use Rattle.pgfeed.specs.declared.mark.Mark.{Mark}
-use Rattle.pgfeed.specs.Texts.{commit_front, entries_text, entry_body}
+use Rattle.pgcrc.specs.Crc.{crc32}
+use Rattle.pgfeed.specs.Texts.{commit_front, crc_text, entries_text, entry_body, entry_text}
 use Rattle.pgfeed.specs.Fits.{FitsEntry}
 
 abbrev pub mark_of : Entry → Mark
@@ -27,6 +28,13 @@ Walks at (mark ∷ marks) text place size =
     BeginsWith at mark text × ((rest : ℕ) × (size ≡ 256 + mark.bytes + rest)
     × Walks mark.end marks (drop (256 + mark.bytes) text) place rest)
 
+-- The first 256 bytes tell a checksum: that of what stands before it, and then of so many bytes
+-- behind these.
+pub record HasItsCrc (bytes : ℕ) (text : List ℕ) : Type 0 where
+  pub told : List ℕ
+  pub more : List ℕ
+  pub line : take 256 text ≡ told ++ (crc_text (crc32 (told ++ take bytes (drop 256 text))) ++ more)
+
 -- each entry ends after the one before it, and its numbers are of 64 bits
 abbrev pub AreEntries : ℕ → List Entry → Type 0
 AreEntries at [] = ⊤
@@ -42,3 +50,7 @@ abbrev pub TextIsReadInOneWay : Type 0
 TextIsReadInOneWay =
     (at place size other : ℕ) (marks others : List Mark) (text : List ℕ) → at < 2 ^ 64 → Walks at marks text place size
     → Walks at others text place other → (marks ≡ others) × (size ≡ other)
+
+-- The text of an entry has its checksum, whatever follows.
+abbrev pub EntriesHaveTheirCrc : Type 0
+EntriesHaveTheirCrc = (at : ℕ) (e : Entry) (rest : List ℕ) → FitsEntry at e → HasItsCrc (length (entry_body e)) (entry_text at e ++ rest)

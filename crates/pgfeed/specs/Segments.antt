@@ -4,7 +4,7 @@ use Rattle.std.specs.Prelude.{◌≡◌, ◌<◌, ◌≤◌, ◌+◌, ◌^◌, �
 use Rattle.sqlite_disk.specs.Disk.{Follows, Only, Torn}
 use Rattle.pgledger.specs.Entries.{Entry, last_end}
 use Rattle.pgfeed.specs.declared.mark.Mark.{Mark}
-use Rattle.pgfeed.specs.Reading.{AreEntries, Walks}
+use Rattle.pgfeed.specs.Reading.{AreEntries, BeginsWith, HasItsCrc, Walks}
 use Rattle.pgfeed.specs.Texts.{closing_line, entries_text, segment_front, segment_head}
 
 -- the head of a segment that begins at this LSN
@@ -63,6 +63,21 @@ pub record IsFound (base place : ℕ) (text : List ℕ) (size : ℕ) : Type 0 wh
   pub head_within : 1024 ≤ length text
   pub walk : Walks base marks (drop 1024 text) place entries_size
   pub size_is : size ≡ 1024 + entries_size
+
+-- Opening tests the checksum of one commit, the last one, if no more bytes than these follow its
+-- line.
+abbrev pub most_tested : ℕ
+most_tested = 16777216
+
+-- The last of so many bytes are the commit that ends at the LSN, and it has its checksum.
+pub record EndsTested (place : ℕ) (text : List ℕ) (size : ℕ) : Type 0 where
+  pub prev : ℕ
+  pub mark : Mark
+  pub offset : ℕ
+  pub begins : BeginsWith prev mark (drop offset text)
+  pub ends : mark.end ≡ place
+  pub size_is : size ≡ offset + (256 + mark.bytes)
+  pub tested : mark.bytes ≤ most_tested → HasItsCrc mark.bytes (drop offset text)
 
 -- what was found is all that the file has, also after a crash
 pub record IsCut (text : List ℕ) (size : ℕ) (file : List ℕ) (outcomes : List ℕ → Type 0) : Type 0 where

@@ -11,6 +11,7 @@ use Rattle.std.proofs.Math.Bool.{beq}
 use Rattle.json.specs.Print.{quoted}
 use Rattle.serde_json.specs.Data.{Data, null, string}
 use Rattle.serde_json.specs.Written.{compact_text}
+use Rattle.pgcrc.specs.Crc.{crc32}
 use Rattle.pglsn.specs.Texts.{lsn_text}
 use Rattle.pgtuple.specs.declared.cell.Cell.{Cell}
 use Rattle.pglogical.specs.declared.message.Column.{Column}
@@ -42,7 +43,7 @@ commit_size = 256
 
 -- the LSN at which a segment begins
 abbrev pub segment_front : ℕ → List ℕ
-segment_front base = codes "{\"feed\":1,\"base\":\"" ++ (lsn_text base ++ codes "\",")
+segment_front base = codes "{\"feed\":2,\"base\":\"" ++ (lsn_text base ++ codes "\",")
 
 -- what it is a feed of: the system's identifier, the database and the slot
 abbrev pub segment_rest : List ℕ → List ℕ → List ℕ → List ℕ
@@ -63,10 +64,10 @@ abbrev pub unix_micros : ℤ → ℤ
 unix_micros time = time +ℤ pos 946684800000000
 
 abbrev pub about_text : Option About → List ℕ
-about_text None = codes "\"lsn\":null,\"xid\":null,\"ts_us\":null}"
+about_text None = codes "\"lsn\":null,\"xid\":null,\"ts_us\":null"
 about_text (Some about) =
     codes "\"lsn\":\"" ++ (lsn_text about.final_lsn
-    ++ (codes "\",\"xid\":" ++ (decimal about.xid ++ (codes ",\"ts_us\":" ++ (signed_decimal (unix_micros about.time) ++ codes "}")))))
+    ++ (codes "\",\"xid\":" ++ (decimal about.xid ++ (codes ",\"ts_us\":" ++ signed_decimal (unix_micros about.time)))))
 
 -- where the commit ends, where the one before it ends, and how many bytes follow
 abbrev pub commit_front : ℕ → ℕ → ℕ → List ℕ
@@ -78,11 +79,18 @@ commit_front end prev bytes =
 abbrev pub commit_rest : ℕ → Option About → List ℕ
 commit_rest changes about = codes "\"changes\":" ++ (decimal changes ++ (codes "," ++ about_text about))
 
-abbrev pub commit_object : ℕ → ℕ → ℕ → ℕ → Option About → List ℕ
-commit_object end prev bytes changes about = commit_front end prev bytes ++ commit_rest changes about
+-- the line up to its checksum
+abbrev pub commit_told : ℕ → ℕ → ℕ → ℕ → Option About → List ℕ
+commit_told end prev bytes changes about = commit_front end prev bytes ++ commit_rest changes about
 
-abbrev pub commit_line : ℕ → ℕ → ℕ → ℕ → Option About → List ℕ
-commit_line end prev bytes changes about = padded commit_size (commit_object end prev bytes changes about)
+abbrev pub crc_text : ℕ → List ℕ
+crc_text crc = codes ",\"crc\":" ++ (decimal crc ++ codes "}")
+
+abbrev pub commit_object : ℕ → ℕ → ℕ → ℕ → Option About → ℕ → List ℕ
+commit_object end prev bytes changes about crc = commit_told end prev bytes changes about ++ crc_text crc
+
+abbrev pub commit_line : ℕ → ℕ → ℕ → ℕ → Option About → ℕ → List ℕ
+commit_line end prev bytes changes about crc = padded commit_size (commit_object end prev bytes changes about crc)
 
 -- ---- the line that ends a segment
 
@@ -191,9 +199,15 @@ body_text told n (line ∷ lines) =
 abbrev pub entry_body : Entry → List ℕ
 entry_body e = body_text [] 0 e.lines
 
+-- The CRC-32 of an entry behind the commit that ends at this LSN: of its line up to the checksum,
+-- and then of all lines that follow. RFC 1952, section 8.
+unfoldable pub entry_crc : ℕ → Entry → ℕ
+entry_crc prev e = crc32 (commit_told e.end prev (length (entry_body e)) (length e.lines) e.about ++ entry_body e)
+
 -- behind the commit that ends at this LSN
 unfoldable pub entry_text : ℕ → Entry → List ℕ
-entry_text prev e = commit_line e.end prev (length (entry_body e)) (length e.lines) e.about ++ entry_body e
+entry_text prev e =
+    commit_line e.end prev (length (entry_body e)) (length e.lines) e.about (entry_crc prev e) ++ entry_body e
 
 -- entries one after the other
 unfoldable pub entries_text : ℕ → List Entry → List ℕ

@@ -1,7 +1,8 @@
 //! The text of an entry.
 
-ghost use Rattle.std.specs.Prelude.{◌≡◌, IfOk, OnOk, [], Some, slice_get, string_bytes};
+ghost use Rattle.std.specs.Prelude.{◌≡◌, ◌++◌, IfOk, OnOk, [], Some, slice_get, string_bytes};
 ghost use Rattle.std.specs.List.{AllByRecursion};
+ghost use Rattle.pgcrc.specs.Crc.{crc32};
 ghost use Rattle.pgapply.specs.Works.{IsNumbered, change_values};
 ghost use Rattle.pgledger.specs.Entries.{entry_of};
 ghost use Rattle.pgledger.specs.Images.{lines};
@@ -9,9 +10,10 @@ ghost use Rattle.pgfeed.specs.Fits.{FitsEntry};
 ghost use Rattle.pgfeed.specs.Texts.{body_text, entry_text};
 
 use crate::changes::push_image;
-use crate::heads::commit_line;
+use crate::heads::{commit_line, commit_told};
 use crate::tables::{is_told, push_table};
 use pgapply::{ChangeRefs, Commit, Op};
+use pgcrc::Crc32;
 use pgledger::Image;
 use pglogical::RelationDef;
 use pglsn::Lsn;
@@ -49,8 +51,19 @@ fn body(
     Ok(text)
 }
 
-/// The text of an entry after the commit that ends at `prev`: the line of the commit, and then a
-/// line for each change, with the definitions of their relations.
+/// The CRC-32 of two texts, one after the other.
+fn crc_of(front: &str, rest: &str) -> u32
+    ensures { result ≡ crc32 (front.now ++ rest.now) }
+{
+    let mut crc = Crc32::new();
+    crc.update(front.as_bytes());
+    crc.update(rest.as_bytes());
+    crc.value()
+}
+
+/// The text of an entry after the commit that ends at `prev`: the line of the commit, with the
+/// CRC-32 of what it tells and of all that follows, and then a line for each change, with the
+/// definitions of their relations.
 pub fn entry_text(
     alloc: Global,
     prev: Lsn,
@@ -66,7 +79,9 @@ pub fn entry_text(
     let entries = commit.work.entries();
     let count = entries.len().min(images.len());
     let body = body(alloc, definitions, &entries, images)?;
-    let mut text = commit_line(alloc, commit.end, prev, body.len(), count, commit.about)?;
+    let told = commit_told(alloc, commit.end, prev, body.len(), count, commit.about)?;
+    let crc = crc_of(told.as_str(), body.as_str());
+    let mut text = commit_line(alloc, told, crc)?;
     text.push_str(body.as_str())?;
     Ok(text)
 }

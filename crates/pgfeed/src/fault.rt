@@ -7,7 +7,8 @@ use thiserror::Error;
 /// Why a segment of a feed isn't made or opened.
 #[derive(Clone, Copy, Debug, PartialEq, Eq, Error)]
 pub enum FeedFault {
-    /// The file isn't a segment that begins at this LSN and has a commit that ends at the position.
+    /// The file isn't a segment that begins at this LSN and has a commit that ends at the position,
+    /// with its checksum.
     #[error("feed 1 NotAFeed")]
     NotAFeed,
     /// The system, the database and the slot are too long for the head of a segment.

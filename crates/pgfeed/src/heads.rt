@@ -1,10 +1,11 @@
 //! The lines that tell what follows: the head of a segment, and the line of a commit.
 
-ghost use Rattle.std.specs.Prelude.{◌≡◌, ◌⊎◌, ◌<◌, ◌≤◌, IfErr, IfOk, OnOk, length, string_bytes};
+ghost use Rattle.std.specs.Prelude.{◌≡◌, ◌⊎◌, ◌<◌, ◌≤◌, ◌++◌, IfErr, IfOk, OnOk, length};
+ghost use Rattle.std.specs.Prelude.{string_bytes};
 ghost use Rattle.std.specs.Fmt.{signed_decimal};
 ghost use Rattle.pgfeed.specs.declared.fault.FeedFault.TheVariants.{Memory, TooLong};
 ghost use Rattle.pgfeed.specs.Fits.{FitsLine};
-ghost use Rattle.pgfeed.specs.Texts.{about_text, commit_front, commit_line, commit_object, padded};
+ghost use Rattle.pgfeed.specs.Texts.{about_text, commit_front, commit_told, crc_text, padded};
 ghost use Rattle.pgfeed.specs.Texts.{closing_line};
 ghost use Rattle.pgfeed.specs.Texts.{segment_front, segment_head, segment_object, unix_micros};
 
@@ -39,7 +40,7 @@ fn padded(mut text: String, size: usize) -> Result<String, AllocError>
 pub(crate) fn segment_front(alloc: Global, base: Lsn) -> Result<String, AllocError>
     ensures { IfOk result (λ text. string_bytes text ≡ segment_front base) }
 {
-    format!(in alloc; "{{\"feed\":1,\"base\":\"{base}\",")
+    format!(in alloc; "{{\"feed\":2,\"base\":\"{base}\",")
 }
 
 /// The head of a segment without blanks.
@@ -117,16 +118,17 @@ fn about_text(alloc: Global, about: Option<About>) -> Result<String, AllocError>
     ensures { IfOk result (λ text. string_bytes text ≡ about_text about) }
 {
     let Some(about) = about else {
-        return String::from_str(alloc, "\"lsn\":null,\"xid\":null,\"ts_us\":null}");
+        return String::from_str(alloc, "\"lsn\":null,\"xid\":null,\"ts_us\":null");
     };
     let lsn = about.final_lsn;
     let xid = about.xid;
     let micros = micros_text(alloc, about.time)?;
-    format!(in alloc; "\"lsn\":\"{lsn}\",\"xid\":{xid},\"ts_us\":{micros}}}")
+    format!(in alloc; "\"lsn\":\"{lsn}\",\"xid\":{xid},\"ts_us\":{micros}")
 }
 
-/// The line of a commit without blanks.
-fn commit_object(
+/// The line of a commit up to its checksum: where it ends, where the one before it ends, how many
+/// bytes and changes follow, and what it is about.
+pub(crate) fn commit_told(
     alloc: Global,
     end: Lsn,
     prev: Lsn,
@@ -135,7 +137,7 @@ fn commit_object(
     about: Option<About>,
 ) -> Result<String, AllocError>
     ensures text { IfOk result (λ text. string_bytes text
-        ≡ commit_object end prev bytes changes about) }
+        ≡ commit_told end prev bytes changes about) }
     ensures fits { FitsLine end prev bytes changes about }
 {
     let front = commit_front(alloc, end, prev, bytes)?;
@@ -143,21 +145,22 @@ fn commit_object(
     format!(in alloc; "{front}\"changes\":{changes},{about}")
 }
 
-/// The line of a commit: where it ends, where the one before it ends, how many bytes and changes
-/// follow, and what it is about.
-pub(crate) fn commit_line(
-    alloc: Global,
-    end: Lsn,
-    prev: Lsn,
-    bytes: usize,
-    changes: usize,
-    about: Option<About>,
-) -> Result<String, AllocError>
-    ensures line { IfOk result (λ line. string_bytes line
-        ≡ commit_line end prev bytes changes about) }
-    ensures fits { FitsLine end prev bytes changes about }
+/// How a line tells a checksum, up to its blanks.
+pub(crate) fn crc_text(alloc: Global, crc: u32) -> Result<String, AllocError>
+    ensures { IfOk result (λ text. string_bytes text ≡ crc_text crc) }
 {
-    let object = commit_object(alloc, end, prev, bytes, changes, about)?;
+    format!(in alloc; ",\"crc\":{crc}}}")
+}
+
+/// The line of a commit: what it tells, and its checksum.
+pub(crate) fn commit_line(alloc: Global, told: String, crc: u32) -> Result<String, AllocError>
+    requires { length (string_bytes told) < 238 }
+    ensures { IfOk result (λ line. string_bytes line
+        ≡ padded 256 (string_bytes told ++ crc_text crc)) }
+{
+    let mut object = told;
+    let crc = crc_text(alloc, crc)?;
+    object.push_str(crc.as_str())?;
     padded(object, COMMIT_SIZE)
 }
 

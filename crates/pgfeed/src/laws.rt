@@ -3,7 +3,8 @@
 ghost use Rattle.std.specs.Prelude.{◌≡◌, ◌<◌, ◌^◌, ◌++◌, ℕ, List, Option, length};
 ghost use Rattle.pgapply.specs.declared.commit.About.{About};
 ghost use Rattle.pgfeed.specs.Fits.{FitsLine};
-ghost use Rattle.pgfeed.specs.Reading.{BeginsWith, LinesLeadOver, TextIsReadInOneWay};
+ghost use Rattle.pgfeed.specs.Reading.{BeginsWith, EntriesHaveTheirCrc, LinesLeadOver};
+ghost use Rattle.pgfeed.specs.Reading.{TextIsReadInOneWay};
 ghost use Rattle.pgfeed.specs.Texts.{closing_line, commit_line};
 ghost use Rattle.pgfeed.specs.declared.mark.Mark.{Mark};
 ghost use Rattle.pgfeed.specs.Whole.{LinesTellWholeRows};
@@ -14,9 +15,9 @@ use crate::folder::Folder;
 
 /// The line of a commit has 256 bytes, whatever numbers of 64 bits it tells.
 pub fn lines_of_commits_fit()
-    ensures { (end prev bytes changes : ℕ) (about : Option About) →
-        FitsLine end prev bytes changes about →
-        length (commit_line end prev bytes changes about) ≡ 256 }
+    ensures { (end prev bytes changes : ℕ) (about : Option About) (crc : ℕ) →
+        FitsLine end prev bytes changes about → crc < 2 ^ 32 →
+        length (commit_line end prev bytes changes about crc) ≡ 256 }
 {}
 
 /// The line that ends a segment has 256 bytes too, and doesn't begin as that of a commit.
@@ -30,6 +31,12 @@ pub fn lines_that_end_segments()
 /// nothing else has each commit's end, and knows where its lines are.
 pub fn lines_lead_over_entries()
     ensures { LinesLeadOver }
+{}
+
+/// What a feed has of a commit passes the test that opening makes, and readers: its line tells the
+/// CRC-32 of what stands before that, and of the lines that follow.
+pub fn entries_have_their_crc()
+    ensures { EntriesHaveTheirCrc }
 {}
 
 /// A text is read in one way up to an LSN: its commits have these ends and lengths, and no others.

@@ -1,21 +1,30 @@
 //! Making and opening a segment of a feed.
 
 ghost use Rattle.std.specs.Prelude.{◌≡◌, ◌++◌, ◌+◌, ◌<◌, ◌≤◌, ℕ, List, []};
-ghost use Rattle.std.specs.Prelude.{length, take, drop, false, IsTrue, IfOk, OnOk, IfErr};
+ghost use Rattle.std.specs.Prelude.{◌^◌, length, take, drop, false, IsTrue, IfOk, OnOk, IfErr};
+ghost use Rattle.pgcrc.specs.Covering.{Covers};
 ghost use Rattle.sqlite_disk.specs.Disk.{Only};
 ghost use Rattle.pgfeed.specs.declared.fault.FeedFault.TheVariants.{NotAFeed, Refused};
 ghost use Rattle.pgfeed.specs.Folders.{IsOther};
-ghost use Rattle.pgfeed.specs.Reading.{BeginsWith};
-ghost use Rattle.pgfeed.specs.Segments.{IsCut, IsFound, KeepsEntries, Lasts, Reopens};
+ghost use Rattle.pgfeed.specs.Reading.{BeginsWith, HasItsCrc};
+ghost use Rattle.pgfeed.specs.Segments.{EndsTested, IsCut, IsFound, KeepsEntries, Lasts, Reopens};
+ghost use Rattle.pgfeed.specs.Segments.{most_tested};
 ghost use Rattle.pgfeed.specs.Texts.{segment_front, segment_head};
 
 use crate::fault::FeedFault;
 use crate::heads::{COMMIT_SIZE, SEGMENT_SIZE, segment_front, segment_head};
-use crate::mark::{Mark, read_mark};
+use crate::mark::{Mark, read_crc, read_mark};
 use crate::segment::Segment;
+use pgcrc::Crc32;
 use pglsn::Lsn;
 use sqlite_disk::Disk;
 use std::alloc::Global;
+
+/// How many bytes of a commit are read at once.
+const PIECE: usize = 8192;
+
+/// Of how many bytes behind its line a commit's checksum is tested at most: readers test all.
+const MOST_TESTED: usize = 16_777_216;
 
 /// Tests that a file begins as a segment with this base.
 fn test_head<D: Disk>(alloc: Global, disk: &mut D, base: Lsn, len: usize) -> Result<(), FeedFault>
@@ -37,6 +46,98 @@ fn test_head<D: Disk>(alloc: Global, disk: &mut D, base: Lsn, len: usize) -> Res
     };
     let front = segment_front(alloc, base)?;
     if head.starts_with(front.as_bytes()) {
+        Ok(())
+    } else {
+        Err(FeedFault::NotAFeed)
+    }
+}
+
+/// The CRC-32 of the bytes so far, and of the next ones of a file.
+fn sum_piece<D: Disk>(
+    disk: &mut D,
+    crc: Crc32,
+    offset: usize,
+    size: usize,
+) -> Result<Crc32, FeedFault>
+    requires usable { IsTrue (D.is_usable disk.old) }
+    requires some { 0 < size }
+    requires fits { size ≤ 8192 }
+    ensures sums { IfOk result (λ sum. IsTrue (D.is_clean disk.new) → (before : List ℕ) →
+        Covers crc before → Covers sum (before ++ take size (drop offset (D.seen disk.old)))) }
+    ensures seen { D.seen disk.new ≡ D.seen disk.old }
+    ensures crash { (c : List ℕ) → D.may_leave disk.new c → D.may_leave disk.old c }
+    ensures clean { IsTrue (D.is_clean disk.new) → IsTrue (D.is_clean disk.old) }
+    ensures usable { IsTrue (D.is_usable disk.new) }
+{
+    let mut buffer = [0; PIECE];
+    let piece = &mut buffer[..size];
+    let Ok(()) = disk.read_at(offset, piece) else {
+        return Err(FeedFault::Refused);
+    };
+    let mut sum = crc;
+    sum.update(piece);
+    Ok(sum)
+}
+
+/// The CRC-32 of the bytes so far, and of so many bytes of a file.
+fn sum_bytes<D: Disk>(
+    disk: &mut D,
+    crc: Crc32,
+    offset: usize,
+    count: usize,
+) -> Result<Crc32, FeedFault>
+    requires usable { IsTrue (D.is_usable disk.old) }
+    requires fits { offset + count < 2 ^ 64 }
+    ensures sums { IfOk result (λ sum. IsTrue (D.is_clean disk.new) → (before : List ℕ) →
+        Covers crc before → Covers sum (before ++ take count (drop offset (D.seen disk.old)))) }
+    ensures seen { D.seen disk.new ≡ D.seen disk.old }
+    ensures crash { (c : List ℕ) → D.may_leave disk.new c → D.may_leave disk.old c }
+    ensures clean { IsTrue (D.is_clean disk.new) → IsTrue (D.is_clean disk.old) }
+    ensures usable { IsTrue (D.is_usable disk.new) }
+{
+    let mut sum = crc;
+    let mut done = 0;
+    'pieces: while done < count {
+        let size = (count - done).min(PIECE);
+        sum = sum_piece(disk, sum, offset + done, size)?;
+        done += size;
+    }
+    Ok(sum)
+}
+
+/// Tests the checksum of the commit that ends at the position; not that of any other, nor of one
+/// that is longer than opening reads.
+fn test_last<D: Disk>(
+    alloc: Global,
+    disk: &mut D,
+    end: Lsn,
+    bytes: usize,
+    offset: usize,
+    position: Lsn,
+) -> Result<(), FeedFault>
+    requires usable { IsTrue (D.is_usable disk.old) }
+    requires fits { offset + 256 + bytes < 2 ^ 64 }
+    ensures tested { OnOk result (IsTrue (D.is_clean disk.new) → end ≡ position →
+        bytes ≤ most_tested → HasItsCrc bytes (drop offset (D.seen disk.old))) }
+    ensures seen { D.seen disk.new ≡ D.seen disk.old }
+    ensures crash { (c : List ℕ) → D.may_leave disk.new c → D.may_leave disk.old c }
+    ensures clean { IsTrue (D.is_clean disk.new) → IsTrue (D.is_clean disk.old) }
+    ensures usable { IsTrue (D.is_usable disk.new) }
+{
+    if end != position || bytes > MOST_TESTED {
+        return Ok(());
+    }
+    let mut line = [0; COMMIT_SIZE];
+    let Ok(()) = disk.read_at(offset, &mut line) else {
+        return Err(FeedFault::Refused);
+    };
+    let Some((told, crc)) = read_crc(alloc, &line)? else {
+        return Err(FeedFault::NotAFeed);
+    };
+    let mut sum = Crc32::new();
+    sum.update(&line[..told]);
+    let sum = sum_bytes(disk, sum, offset + COMMIT_SIZE, bytes)?;
+    if sum.value() == crc {
         Ok(())
     } else {
         Err(FeedFault::NotAFeed)
@@ -85,8 +186,8 @@ fn next_mark<D: Disk>(
 ///
 /// # Errors
 ///
-/// `NotAFeed` where the file isn't such a segment, or none of its commits ends at the position.
-/// `Refused` where the file can't be read, and `Memory`.
+/// `NotAFeed` where the file isn't such a segment, none of its commits ends at the position, or the
+/// one that does hasn't its checksum. `Refused` where the file can't be read, and `Memory`.
 fn find_end<D: Disk>(
     alloc: Global,
     disk: &mut D,
@@ -96,6 +197,8 @@ fn find_end<D: Disk>(
     requires { IsTrue (D.is_usable disk.old) }
     ensures found { IfOk result (λ size. IsTrue (D.is_clean disk.new) →
         IsFound base position (D.seen disk.old) size × (size ≤ length (D.seen disk.old))) }
+    ensures tested { IfOk result (λ size. IsTrue (D.is_clean disk.new) → base < position →
+        EndsTested position (D.seen disk.old) size) }
     ensures within { OnOk result (base ≤ position) }
     ensures seen { D.seen disk.new ≡ D.seen disk.old }
     ensures crash { (c : List ℕ) → D.may_leave disk.new c → D.may_leave disk.old c }
@@ -113,6 +216,7 @@ fn find_end<D: Disk>(
     let mut offset = SEGMENT_SIZE;
     'commits: while at < position {
         let mark = next_mark(alloc, disk, at, offset, len, position)?;
+        test_last(alloc, disk, mark.end, mark.bytes, offset, position)?;
         offset += COMMIT_SIZE + mark.bytes;
         at = mark.end;
     }
@@ -192,8 +296,9 @@ impl<D: Disk + Drop> Segment<D> {
     ///
     /// # Errors
     ///
-    /// `NotAFeed` where the file isn't such a segment, or none of its commits ends at the position;
-    /// then it is as it was. `Refused` where a call of the file fails, and `Memory`.
+    /// `NotAFeed` where the file isn't such a segment, none of its commits ends at the position, or
+    /// the one that does hasn't its checksum; then it is as it was. Of a commit with more than 16
+    /// MiB that isn't tested. `Refused` where a call of the file fails, and `Memory`.
     pub fn open(
         alloc: Global,
         mut disk: D,
@@ -203,6 +308,8 @@ impl<D: Disk + Drop> Segment<D> {
         requires { IsTrue (D.is_usable disk) }
         ensures found { IfOk result (λ s. IsTrue (D.is_clean s.disk) →
             IsFound base position (D.seen disk) s.size) }
+        ensures tested { IfOk result (λ s. IsTrue (D.is_clean s.disk) → base < position →
+            EndsTested position (D.seen disk) s.size) }
         ensures cut { IfOk result (λ s. IsTrue (D.is_clean s.disk) →
             IsCut (D.seen disk) s.size (D.seen s.disk) (D.may_leave s.disk)) }
         ensures reopens { IfOk result (λ s. IsTrue (D.is_clean s.disk) → (old : Self D) →

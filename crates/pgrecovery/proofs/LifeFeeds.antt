@@ -29,13 +29,14 @@ use Rattle.pgfeed.specs.Texts.{table_front}
 use Rattle.pgfeed.specs.Texts.{table_rest}
 use Rattle.pgfeed.specs.Fits.{FitsEntry}
 use Rattle.pgfeed.specs.Reading.{AreEntries, Walks, mark_of}
-use Rattle.pgfeed.specs.Segments.{IsCut, IsEnded, IsFound, IsHead, KeepsEntries}
+use Rattle.pgfeed.specs.Segments.{EndsTested, IsCut, IsEnded, IsFound, IsHead, KeepsEntries}
 use Rattle.pgfeed.specs.Segments.{Lasts}
 use Rattle.pgfeed.specs.Feeds.{IsHonestFeed, KeepsAll, LeavesAt, OpensIn, SomeLeaves}
 use Rattle.pgfeed.specs.Lasting.{IsLeftOf}
 use Rattle.pgfeed.specs.Beside.{LeadsFrom, RecordsRest}
 use Rattle.pgfeed.specs.Cutting.Walking.{drop_front, over_entries, take_front}
 use Rattle.pgfeed.specs.Cutting.Kept.{text_append}
+use Rattle.pgfeed.specs.Cutting.Tested.{last_tested}
 use Rattle.pgfeed.specs.Cutting.Widths.{padded_length}
 use Rattle.pgsub_core.specs.Server.Work.{surviving_changes}
 use Rattle.pgsub_core.proofs.Samples.{lookups, t, text}
@@ -347,6 +348,13 @@ found base told later is are =
       size_is = refl;
     }
 
+-- the last commit has its checksum
+tested : (base : ℕ) (e : Entry) (later : List Entry) → IsHead base (head base) → AreEntries base (e ∷ [])
+    → EndsTested e.end (file base (e ∷ later)) (size_of base (e ∷ []))
+tested base e later is are =
+    subst (λ xs. EndsTested e.end (head base ++ xs) (size_of base (e ∷ []))) (sym (text_append base (e ∷ []) later))
+    (last_tested base (head base) (entries_text e.end later) [] e is.size are)
+
 -- what follows is cut off
 cut : (base : ℕ) (told later : List Entry) → IsHead base (head base)
     → IsCut (file base (told ++ later)) (size_of base told) (file base told) (may_leave (file base told))
@@ -451,6 +459,7 @@ module _ (any : MemoryFeed) (alone : any.ended.items ≡ []) where
         record {
           above = omega arith;
           found = found 0 (entry_10 ∷ []) (entry_11 ∷ entry_12 ∷ []) head_0 are_10;
+          tested = tested 0 entry_10 (entry_11 ∷ entry_12 ∷ []) head_0 are_10;
           cut = cut 0 (entry_10 ∷ []) (entry_11 ∷ entry_12 ∷ []) head_0;
         },
       );
@@ -509,6 +518,7 @@ module _ (any : MemoryFeed) (alone : any.ended.items ≡ []) where
         record {
           above = omega arith;
           found = found 560 (entry_13 ∷ []) [] head_560 are_13;
+          tested = tested 560 entry_13 [] head_560 are_13;
           cut = cut 560 (entry_13 ∷ []) [] head_560;
         },
       );

@@ -127,20 +127,24 @@ pub use Rattle.pgfeed.specs.Feeds.{IsHonestFeed, IsCutAt, IsFresh, OpenedFrom, f
 pub use Rattle.pgfeed.specs.Feeds.{OpensIn, AreEnded, NoneAt, SomeLeaves, MayHave, LeavesAt}
 pub use Rattle.pgfeed.specs.Feeds.{IsWhole, KeepsAll, LastsUpTo, BeginAt, BeginBelow, Follow}
 pub use Rattle.pgfeed.specs.Feeds.{IsLeftIn, ReopensAt}
-pub use Rattle.pgfeed.specs.Segments.{IsCut, IsFound, IsHead, KeepsEntries, Begins, IsFront}
-pub use Rattle.pgfeed.specs.Segments.{LastsAs, Lasts, IsFinished, IsEnded, HasWhatLasts}
 pub use Rattle.pglsn.specs.Texts.{upper_digit}
 unfoldable pub use Rattle.pglsn.specs.Texts.{half_text, lsn_text}
-pub use Rattle.pgfeed.specs.Texts.{commit_front, segment_front, change_front, row_data, change_line}
-pub use Rattle.pgfeed.specs.Texts.{sent_rows, sent_op, sent_text, missed_line, image_line}
-pub use Rattle.pgfeed.specs.Texts.{same_column as same_column_of_pgfeed, same_definition, is_told}
-pub use Rattle.pgfeed.specs.Texts.{column_data, columns_data, key_names, table_line, entry_body}
-pub use Rattle.pgfeed.specs.Texts.{padded, segment_rest, segment_object, segment_size, segment_head}
-pub use Rattle.pgfeed.specs.Texts.{unix_micros, about_text, commit_rest, commit_object, commit_size}
-pub use Rattle.pgfeed.specs.Texts.{commit_line, closing_object, closing_line}
+pub use Rattle.pgfeed.specs.Texts.{commit_front, crc_text, segment_front, change_front, row_data}
+pub use Rattle.pgfeed.specs.Texts.{change_line, sent_rows, sent_op, sent_text, missed_line}
+pub use Rattle.pgfeed.specs.Texts.{image_line, same_column as same_column_of_pgfeed}
+pub use Rattle.pgfeed.specs.Texts.{same_definition, is_told, column_data, columns_data, key_names}
+pub use Rattle.pgfeed.specs.Texts.{table_line, entry_body, padded, segment_rest, segment_object}
+pub use Rattle.pgfeed.specs.Texts.{segment_size, segment_head, unix_micros, about_text, commit_rest}
+pub use Rattle.pgfeed.specs.Texts.{commit_told, commit_object, commit_size, commit_line}
+pub use Rattle.pgfeed.specs.Texts.{closing_object, closing_line}
 unfoldable pub use Rattle.pgfeed.specs.Texts.{table_front, key_data, table_rest, body_text}
-unfoldable pub use Rattle.pgfeed.specs.Texts.{entry_text, entries_text}
-pub use Rattle.pgfeed.specs.Reading.{BeginsWith, Walks, AreEntries}
+unfoldable pub use Rattle.pgfeed.specs.Texts.{entry_crc, entry_text, entries_text}
+pub use Rattle.pgfeed.specs.Reading.{BeginsWith, HasItsCrc, Walks, AreEntries}
+pub use Rattle.pgcrc.specs.Crc.{differ, divisor, is_odd, message_bits, ones}
+unfoldable pub use Rattle.pgcrc.specs.Crc.{after_bit, after_bits, bits, crc32}
+pub use Rattle.pgfeed.specs.Segments.{most_tested, EndsTested, IsCut, IsFound, IsHead, KeepsEntries}
+pub use Rattle.pgfeed.specs.Segments.{Begins, IsFront, LastsAs, Lasts, IsFinished, IsEnded}
+pub use Rattle.pgfeed.specs.Segments.{HasWhatLasts}
 pub use Rattle.pgledger.specs.Images.{Line, lines, deleted_image, searched_row, updated_image}
 pub use Rattle.pgledger.specs.Images.{rows_or_none, change_image, images_after}
 unfoldable pub use Rattle.pgledger.specs.Images.{image_of, images}

@@ -37,7 +37,7 @@ def base_of_feed(feed: Path) -> Replay:
     while not is_last:
         text = (feed / "base" / f"{number:08}").read_bytes()
         head, body = json.loads(text[:1024]), text[1024:]
-        if (head["bytes"], head["crc"]) != (len(body), f"{zlib.crc32(body):08x}"):
+        if (head["bytes"], head["crc"]) != (len(body), zlib.crc32(body)):
             raise Failed(f"file {number} has other bytes than its head says")
         state = state or Replay(lsn_of(head["lsn"]))
         lines = [json.loads(it) for it in body.splitlines()]

@@ -35,7 +35,7 @@ pub entries_behind : (at : ℕ) (es fs : List Entry) → AreEntries at (es ++ fs
 entries_behind at [] fs are = are
 entries_behind at (e ∷ es) fs are = entries_behind e.end es fs are.2
 
-one_text : (at : ℕ) (e : Entry) → entries_text at (e ∷ []) ≡ entry_text at e
+pub one_text : (at : ℕ) (e : Entry) → entries_text at (e ∷ []) ≡ entry_text at e
 one_text at e = next_entry at e [] ∙ ap (λ text. entry_text at e ++ text) (no_entry e.end) ∙ append-nil (entry_text at e)
 
 -- the head and the entries are a front of the file

@@ -6,13 +6,15 @@ use Rattle.std.proofs.Common.{Option}
 use Rattle.std.proofs.Math.Seq.{take-append_seam, drop-append_seam}
 use Rattle.pgapply.specs.declared.commit.About.{About}
 use Rattle.pgledger.specs.Entries.{Entry, last_end}
-use Rattle.pgfeed.specs.Texts.{commit_front, commit_line, commit_object, commit_rest, entries_text}
-use Rattle.pgfeed.specs.Texts.{entry_body, entry_text}
+use Rattle.pgcrc.specs.Crc.{crc32}
+use Rattle.pgfeed.specs.Texts.{commit_front, commit_line, commit_object, commit_rest, commit_told}
+use Rattle.pgfeed.specs.Texts.{crc_text, entries_text, entry_body, entry_crc, entry_text}
 use Rattle.pgfeed.specs.Fits.{FitsLine}
 use Rattle.pgfeed.specs.declared.mark.Mark.{Mark}
-use Rattle.pgfeed.specs.Reading.{BeginsWith, LinesLeadOver, TextIsReadInOneWay, Walks, mark_of}
+use Rattle.pgfeed.specs.Reading.{BeginsWith, EntriesHaveTheirCrc, HasItsCrc, LinesLeadOver}
+use Rattle.pgfeed.specs.Reading.{TextIsReadInOneWay, Walks, mark_of}
 use Rattle.pgfeed.specs.Cutting.Fronts.{one_front}
-use Rattle.pgfeed.specs.Cutting.Widths.{line_length}
+use Rattle.pgfeed.specs.Cutting.Widths.{crc_small, line_length}
 
 -- a walk goes up
 pub walks_up : (at place size : ℕ) (marks : List Mark) (text : List ℕ) → Walks at marks text place size → at ≤ place
@@ -47,15 +49,26 @@ one_walk at place size other (mark ∷ marks) (second ∷ others) text small a b
 
 -- an entry is its line, and then so many bytes
 entry_splits : (at : ℕ) (e : Entry)
-    → entry_text at e ≡ commit_line e.end at (length (entry_body e)) (length e.lines) e.about ++ entry_body e
+    → entry_text at e ≡ commit_line e.end at (length (entry_body e)) (length e.lines) e.about (entry_crc at e) ++ entry_body e
 unfolding entry_text
 entry_splits at e = refl
+
+entry_crc_small : (at : ℕ) (e : Entry) → entry_crc at e < 2 ^ 32
+unfolding entry_crc
+entry_crc_small at e = crc_small (commit_told e.end at (length (entry_body e)) (length e.lines) e.about ++ entry_body e)
+
+-- the line of an entry
+abbrev own_line : ℕ → Entry → List ℕ
+own_line at e = commit_line e.end at (length (entry_body e)) (length e.lines) e.about (entry_crc at e)
+
+own_length : (at : ℕ) (e : Entry) → FitsLine e.end at (length (entry_body e)) (length e.lines) e.about → length (own_line at e) ≡ 256
+own_length at e fits = line_length e.end at (length (entry_body e)) (length e.lines) e.about (entry_crc at e) fits (entry_crc_small at e)
 
 pub entry_length : (at : ℕ) (e : Entry) → FitsLine e.end at (length (entry_body e)) (length e.lines) e.about
     → length (entry_text at e) ≡ 256 + length (entry_body e)
 entry_length at e fits =
-    ap length (entry_splits at e) ∙ length-append (commit_line e.end at (length (entry_body e)) (length e.lines) e.about) (entry_body e)
-    ∙ ap (λ k. k + length (entry_body e)) (line_length e.end at (length (entry_body e)) (length e.lines) e.about fits)
+    ap length (entry_splits at e) ∙ length-append (own_line at e) (entry_body e)
+    ∙ ap (λ k. k + length (entry_body e)) (own_length at e fits)
 
 -- the front of a text, and what is behind it
 pub take_front : (n : ℕ) (xs ys : List ℕ) → length xs ≡ n → take n (xs ++ ys) ≡ xs
@@ -73,21 +86,24 @@ unfolding entries_text
 no_entry at = refl
 
 -- the line of a commit is its front, and more
-line_more : (end prev bytes changes : ℕ) (about : Option About)
-    → (more : List ℕ) × (commit_line end prev bytes changes about ≡ commit_front end prev bytes ++ more)
-line_more end prev bytes changes about =
-    let blanks : List ℕ = replicate (256 - 1 - length (commit_object end prev bytes changes about)) 32 ++ 10 ∷ [] in
-    (commit_rest changes about ++ blanks, append_assoc (commit_front end prev bytes) (commit_rest changes about) blanks)
+line_more : (end prev bytes changes : ℕ) (about : Option About) (crc : ℕ)
+    → (more : List ℕ) × (commit_line end prev bytes changes about crc ≡ commit_front end prev bytes ++ more)
+line_more end prev bytes changes about crc =
+    let blanks : List ℕ = replicate (256 - 1 - length (commit_object end prev bytes changes about crc)) 32 ++ 10 ∷ [] in (
+      commit_rest changes about ++ (crc_text crc ++ blanks),
+      append_assoc (commit_told end prev bytes changes about) (crc_text crc) blanks
+          ∙ append_assoc (commit_front end prev bytes) (commit_rest changes about) (crc_text crc ++ blanks),
+    )
 
 -- a text that begins with an entry begins with its line
-begins : (at : ℕ) (e : Entry) (rest : List ℕ) → at < e.end → FitsLine e.end at (length (entry_body e)) (length e.lines) e.about
+pub begins : (at : ℕ) (e : Entry) (rest : List ℕ) → at < e.end → FitsLine e.end at (length (entry_body e)) (length e.lines) e.about
     → BeginsWith at (mark_of e) (entry_text at e ++ rest)
 begins at e rest above fits =
-    let line : List ℕ = commit_line e.end at (length (entry_body e)) (length e.lines) e.about in
-    let long = line_length e.end at (length (entry_body e)) (length e.lines) e.about fits in
+    let line : List ℕ = own_line at e in
+    let long = own_length at e fits in
     let whole : entry_text at e ++ rest ≡ line ++ (entry_body e ++ rest) =
     ap (λ text. text ++ rest) (entry_splits at e) ∙ append_assoc line (entry_body e) rest in
-    let parts = line_more e.end at (length (entry_body e)) (length e.lines) e.about in
+    let parts = line_more e.end at (length (entry_body e)) (length e.lines) e.about (entry_crc at e) in
     let size = entry_length at e fits in
     record {
       above = above;
@@ -96,6 +112,39 @@ begins at e rest above fits =
       more = parts.0;
       line = ap (take 256) whole ∙ take_front 256 line (entry_body e ++ rest) long ∙ parts.1;
       within = omega (arith, length-append (entry_text at e) rest);
+    }
+
+-- what stands behind the checksum
+crc_more : (end prev bytes changes : ℕ) (about : Option About) (crc : ℕ)
+    → (more : List ℕ) × (commit_line end prev bytes changes about crc ≡ commit_told end prev bytes changes about ++ (crc_text crc ++ more))
+crc_more end prev bytes changes about crc =
+    let blanks : List ℕ = replicate (256 - 1 - length (commit_object end prev bytes changes about crc)) 32 ++ 10 ∷ [] in
+    (blanks, append_assoc (commit_told end prev bytes changes about) (crc_text crc) blanks)
+
+crc_is : (at : ℕ) (e : Entry)
+    → entry_crc at e ≡ crc32 (commit_told e.end at (length (entry_body e)) (length e.lines) e.about ++ entry_body e)
+unfolding entry_crc
+crc_is at e = refl
+
+pub have_their_crc : EntriesHaveTheirCrc
+have_their_crc at e rest fits =
+    let body : List ℕ = entry_body e in
+    let told : List ℕ = commit_told e.end at (length body) (length e.lines) e.about in
+    let line : List ℕ = own_line at e in
+    let long : length line ≡ 256 = own_length at e fits in
+    let whole : entry_text at e ++ rest ≡ line ++ (body ++ rest) =
+    ap (λ text. text ++ rest) (entry_splits at e) ∙ append_assoc line body rest in
+    let parts = crc_more e.end at (length body) (length e.lines) e.about (entry_crc at e) in
+    let behind : take (length body) (drop 256 (entry_text at e ++ rest)) ≡ body =
+    ap (λ text. take (length body) (drop 256 text)) whole
+    ∙ ap (take (length body)) (drop_front 256 line (body ++ rest) long) ∙ take_front (length body) body rest refl in
+    let crc : entry_crc at e ≡ crc32 (told ++ take (length body) (drop 256 (entry_text at e ++ rest))) =
+    crc_is at e ∙ ap (λ text. crc32 (told ++ text)) (sym behind) in
+    record {
+      told = told;
+      more = parts.0;
+      line = ap (take 256) whole ∙ take_front 256 line (body ++ rest) long ∙ parts.1
+          ∙ ap (λ crc. told ++ (crc_text crc ++ parts.0)) crc;
     }
 
 pub over_entries : LinesLeadOver

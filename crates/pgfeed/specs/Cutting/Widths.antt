@@ -10,8 +10,9 @@ use Rattle.std.proofs.lemmas.List.{length-replicate}
 use Rattle.pglsn.specs.Texts.{lsn_text}
 use Rattle.pglsn.proofs.Printed.{text_reads}
 use Rattle.pgapply.specs.declared.commit.About.{About}
+use Rattle.pgcrc.specs.Crc.{after_bits, crc32, message_bits, ones}
 use Rattle.pgfeed.specs.Texts.{about_text, closing_object, commit_front, commit_line, commit_object}
-use Rattle.pgfeed.specs.Texts.{commit_rest, padded, unix_micros}
+use Rattle.pgfeed.specs.Texts.{commit_rest, commit_told, crc_text, padded, unix_micros}
 use Rattle.pgfeed.specs.Fits.{FitsAbout, FitsLine}
 
 pub lsn_length : (n : ℕ) → n < 2 ^ 64 → length (lsn_text n) ≤ 17
@@ -47,9 +48,9 @@ about_length None fits = omega (arith, untold_length)
 about_length (Some about) fits = told_length about fits
 
 -- the greatest values leave room
-pub object_length : (end prev bytes changes : ℕ) (about : Option About) → FitsLine end prev bytes changes about
-    → length (commit_object end prev bytes changes about) < 256
-object_length end prev bytes changes about fits =
+pub told_width : (end prev bytes changes : ℕ) (about : Option About) → FitsLine end prev bytes changes about
+    → length (commit_told end prev bytes changes about) < 238
+told_width end prev bytes changes about fits =
     let ends = lsn_length end fits.end_fits in
     let starts = lsn_length prev fits.prev_fits in
     let long = number_length bytes fits.bytes_fit in
@@ -59,16 +60,36 @@ object_length end prev bytes changes about fits =
     let rest : length (commit_rest changes about) ≤ 105 = omega (arith, length-append {A = ℕ}) in
     omega (arith, length-append (commit_front end prev bytes) (commit_rest changes about))
 
+pub crc_width : (crc : ℕ) → crc < 2 ^ 32 → length (crc_text crc) ≤ 18
+crc_width crc small =
+    let number : length (decimal crc) ≤ 10 = length-decimal-le 10 crc (omega arith) (omega arith) (omega arith) in
+    omega (arith, length-append {A = ℕ})
+
+pub object_length : (end prev bytes changes : ℕ) (about : Option About) (crc : ℕ) → FitsLine end prev bytes changes about → crc < 2 ^ 32
+    → length (commit_object end prev bytes changes about crc) < 256
+object_length end prev bytes changes about crc fits small =
+    omega (
+      arith,
+      told_width end prev bytes changes about fits,
+      crc_width crc small,
+      length-append (commit_told end prev bytes changes about) (crc_text crc),
+    )
+
+-- the complement of 32 bits has no more
+pub crc_small : (message : List ℕ) → crc32 message < 2 ^ 32
+unfolding crc32
+crc_small message = omega arith
+
 pub padded_length : (size : ℕ) (text : List ℕ) → length text < size → length (padded size text) ≡ size
 padded_length size text fits =
     let blanks : length (replicate {A = ℕ} (size - 1 - length text) 32) ≡ size - 1 - length text =
     length-replicate (size - 1 - length text) 32 in
     omega (arith, length-append {A = ℕ})
 
-pub line_length : (end prev bytes changes : ℕ) (about : Option About) → FitsLine end prev bytes changes about
-    → length (commit_line end prev bytes changes about) ≡ 256
-line_length end prev bytes changes about fits =
-    padded_length 256 (commit_object end prev bytes changes about) (object_length end prev bytes changes about fits)
+pub line_length : (end prev bytes changes : ℕ) (about : Option About) (crc : ℕ) → FitsLine end prev bytes changes about → crc < 2 ^ 32
+    → length (commit_line end prev bytes changes about crc) ≡ 256
+line_length end prev bytes changes about crc fits small =
+    padded_length 256 (commit_object end prev bytes changes about crc) (object_length end prev bytes changes about crc fits small)
 
 -- the line that ends a segment
 pub closing_length : (last : ℕ) → last < 2 ^ 64 → length (closing_object last) < 256

@@ -1,6 +1,7 @@
-use Rattle.std.proofs.Common.{◌≡◌, ◌≤◌, ◌+◌, ◌-◌, ℕ, List, drop, IsTrue}
+use Rattle.std.proofs.Common.{◌≡◌, ◌≤◌, ◌⊎◌, ◌+◌, ◌-◌, ℕ, List, drop, IsTrue}
 use Rattle.pgfeed.specs.declared.mark.Mark.{Mark}
 use Rattle.pgfeed.specs.Reading.{Walks}
+use Rattle.pgfeed.specs.Segments.{EndsTested}
 use Rattle.pgfeed.proofs.opening.find_end.Given as goal
 
 abbrev pub invariant-commits : goal.invariant-commits
@@ -17,6 +18,8 @@ invariant-commits g l =
       walk : IsTrue (g.D.Disk.is_clean l.disk) → (marks : List Mark) (place rest : ℕ)
           → Walks l.at marks (drop l.offset (seen l.fn.disk)) place rest
           → (all : List Mark) × Walks l.fn.base all (drop 1024 (seen l.fn.disk)) place (l.offset - 1024 + rest);
+      tested : IsTrue (g.D.Disk.is_clean l.disk)
+          → (l.at ≡ l.fn.base) ⊎ (l.at ≡ l.position → EndsTested l.position (seen l.fn.disk) l.offset);
     }
 
 abbrev pub decreases-commits : goal.decreases-commits
