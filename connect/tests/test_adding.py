@@ -285,9 +285,11 @@ class Altered(Case):
         self.alter(True)
 
         def wants_session(adder: Adder) -> bool:
-            if adder.ends_session:
+            # (its rows are stored then, which isn't so as soon as it ends the session)
+            wanted = real(adder)
+            if wanted and adder.ends_session:
                 run.follower.ending.stop_asked = True
-            return real(adder)
+            return wanted
 
         real = Adder.wants_session
         self.patch(Adder, "wants_session", wants_session)
