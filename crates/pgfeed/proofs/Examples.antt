@@ -126,7 +126,8 @@ truncated_text = refl
 
 -- the checksum is of what its line tells before it, and of the lines that follow
 truncated_crc : entry_crc 622871000 truncated ≡ 3568646337
-unfolding entry_crc body_text lsn_text half_text digits escape_byte table_front table_rest key_data lib.Utf8.encode crc32 after_bits after_bit bits
+unfolding entry_crc body_text lsn_text half_text digits escape_byte table_front table_rest key_data lib.Utf8.encode
+    crc32 after_bits after_bit bits
 truncated_crc = refl
 
 -- changes that found no row, with what was sent

@@ -9,7 +9,8 @@ use Rattle.pgledger.specs.Entries.{Entry, last_end}
 use Rattle.pgfeed.specs.declared.feed.Feed.{Feed}
 use Rattle.pgfeed.specs.declared.segment.Segment.{Segment}
 use Rattle.pgfeed.specs.Reading.{AreEntries}
-use Rattle.pgfeed.specs.Segments.{EndsTested, HasWhatLasts, IsCut, IsEnded, IsFinished, IsFound, KeepsEntries}
+use Rattle.pgfeed.specs.Segments.{EndsTested, HasWhatLasts, IsCut, IsEnded}
+use Rattle.pgfeed.specs.Segments.{IsFinished, IsFound, KeepsEntries}
 use Rattle.pgfeed.specs.Segments.{Lasts}
 
 -- ---- when a segment ends

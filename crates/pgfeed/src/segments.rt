@@ -179,9 +179,9 @@ impl<F: Folder + Drop> Feed<F> {
     /// # Errors
     ///
     /// `NotAFeed` where there are segments, but none of them begins at or below the position, none
-    /// of its commits ends there, or the one that does hasn't its checksum, and `TooLong` where the names don't fit the head of a
-    /// segment: then all is as it was. `Refused` where a call of the folder or of a file fails or
-    /// the bases don't rise, and `Memory`.
+    /// of its commits ends there, or the one that does hasn't its checksum, and `TooLong` where the
+    /// names don't fit the head of a segment: then all is as it was. `Refused` where a call of the
+    /// folder or of a file fails or the bases don't rise, and `Memory`.
     pub fn open(
         alloc: Global,
         mut folder: F,

@@ -1,5 +1,6 @@
 -- The entries of the index that were matched with rows so far.
-use Rattle.std.proofs.Common.{◌≡◌, ◌+◌, ◌++◌, ◌⊎◌, inl, inr, ℕ, List, [], ◌∷◌, length, refl, sym, ap, subst, ◌∙◌}
+use Rattle.std.proofs.Common.{◌≡◌, ◌+◌, ◌++◌, ◌⊎◌, inl, inr, ℕ, List, []}
+use Rattle.std.proofs.Common.{◌∷◌, length, refl, sym, ap, subst, ◌∙◌}
 use Rattle.std.proofs.Common.{append_assoc, append-nil, Bool, true, Ok, Result, eqb, eqb-true}
 use Rattle.std.proofs.lemmas.List.{length-append}
 use Rattle.sqlite_value.specs.Order.{Row}

@@ -1,5 +1,6 @@
 -- What was seen of the entries of a tree.
-use Rattle.std.specs.Prelude.{◌≡◌, ◌<◌, ◌^◌, ◌++◌, ◌⊎◌, ℕ, ℤ, List, [], ◌∷◌, length, Option, None, Some}
+use Rattle.std.specs.Prelude.{◌≡◌, ◌<◌, ◌^◌, ◌++◌, ◌⊎◌, ℕ, ℤ, List}
+use Rattle.std.specs.Prelude.{[], ◌∷◌, length, Option, None, Some}
 use Rattle.std.specs.Prelude.{map, ⊤}
 use Rattle.std.specs.Int.{w64, to_be_bytes}
 use Rattle.sqlite.specs.declared.types.Value.TheVariants.{Int}

@@ -1,4 +1,5 @@
-use Rattle.std.proofs.Common.{◌≡◌, ◌<◌, ◌++◌, ℕ, List, [], length, string_bytes, arith, ap, sym, ◌∙◌}
+use Rattle.std.proofs.Common.{◌≡◌, ◌<◌, ◌++◌, ℕ, List, [], length}
+use Rattle.std.proofs.Common.{string_bytes, arith, ap, sym, ◌∙◌}
 use Rattle.std.proofs.Common.{subst}
 use Rattle.pgledger.specs.Images.{lines}
 use Rattle.pgapply.specs.Works.{change_values}
@@ -24,8 +25,10 @@ returns c =
     c.crc_of-crc.ensures ∙ ap (λ xs. crc32 (xs ++ c.as_str-2.result.now)) c.as_str.ensures.value
     ∙ ap (λ xs. crc32 (front ++ xs)) c.as_str-2.ensures.value in
     let head : string_bytes c.in_ok-text.text ≡ padded 256 (front ++ crc_text c.crc_of-crc.result) = c.in_ok-text.ensures in
-    let whole : string_bytes c.push_str.new.self ≡ string_bytes c.in_ok-text.text ++ c.as_str-3.result.now = c.in_ok-push_str.ensures.bytes in
-    let body : own ≡ body_text [] 0 (lines (change_values c.definitions-definitions.result.now c.entries-entries.result) c.args.images.now) =
+    let whole : string_bytes c.push_str.new.self ≡ string_bytes c.in_ok-text.text ++ c.as_str-3.result.now =
+    c.in_ok-push_str.ensures.bytes in
+    let body : own ≡ body_text [] 0
+    (lines (change_values c.definitions-definitions.result.now c.entries-entries.result) c.args.images.now) =
     c.in_ok-body.ensures in
     let many = rw c.len.ensures at c.min-count.ensures in
     let lines_are = rw c.definitions-definitions.ensures.definitions at body in

@@ -1,4 +1,5 @@
-use Rattle.std.proofs.Common.{◌≡◌, ◌<◌, ◌≤◌, ◌⊎◌, inl, inr, ◌+◌, ◌-◌, ℕ, List, [], ◌∷◌, drop, take, length}
+use Rattle.std.proofs.Common.{◌≡◌, ◌<◌, ◌≤◌, ◌⊎◌, inl, inr, ◌+◌, ◌-◌}
+use Rattle.std.proofs.Common.{ℕ, List, [], ◌∷◌, drop, take, length}
 use Rattle.std.proofs.Common.{refl, ap, sym, ◌∙◌, subst, rules, arith, false, is_lt, nat_cmp}
 use Rattle.pgfeed.specs.declared.mark.Mark.{Mark}
 use Rattle.pgfeed.specs.Reading.{BeginsWith, HasItsCrc, Walks}

@@ -1,4 +1,5 @@
-use Rattle.std.proofs.Common.{◌≡◌, ◌+◌, Ok, List, [], length, sym, ap, subst, ◌∙◌, arith, true≢false}
+use Rattle.std.proofs.Common.{◌≡◌, ◌+◌, Ok, List, [], length}
+use Rattle.std.proofs.Common.{sym, ap, subst, ◌∙◌, arith, true≢false}
 use Rattle.std.specs.Prelude.{unwrap_or}
 use Rattle.sqlite_value.specs.Order.{Row}
 use Rattle.sqlite_trees.specs.View.{View, IsClean}
@@ -71,12 +72,14 @@ entries-preserved g c = (
       let entry = c.next.new.row in
       let step = rw c.if-not-branch.false at (c.in_ok-next.ensures.ok mid) in
       let given = still_given _ _ _ _ step.0 step.2 (c.entries.invariant.4 at) in
-      let reads = only_reads_then old (g.S.Store.view c.entries.store) next (c.entries.invariant.2 at) (c.in_ok-next.ensures.moves mid).same in
+      let reads = only_reads_then old (g.S.Store.view c.entries.store) next (c.entries.invariant.2 at)
+      (c.in_ok-next.ensures.moves mid).same in
       let other : ¬ IsSameKey c.entries.last entry = λ same. true≢false (sym (c.is_same_key.ensures same) ∙ c.if-is_same_key.false) in
       let one = subst (λ (rows : List Row). IsNamed g.C.RowCheck.accepts c.args.check.now rows entry) (ap (λ (v : View). v.trees 1) reads)
       (c.is_named.ensures.named clean (c.in_ok-is_named.was ∙ ap Ok c.if-not-branch-2.false) given) in
       let so_far = subst
-      (λ (left : List Row). IsMatching g.C.RowCheck.accepts c.args.check.now (old.trees 1) (old.trees 2) c.entries.last left c.entries.count)
+      (λ (left : List Row). IsMatching g.C.RowCheck.accepts c.args.check.now (old.trees 1) (old.trees 2)
+      c.entries.last left c.entries.count)
       (lemma.stepped _ _ 0 entry step) (c.entries.invariant.5 at) in
       let left : left_of next 0 ≡ left_of now 0 =
       ap (λ o. unwrap_or o []) (sym ((c.in_ok-is_named.ensures.reads clean).below 0 (omega arith))) in

@@ -8,7 +8,8 @@ returns-then-not-branch-clause-given g c clean given =
 
 pub returns-then-not-branch-clause-ended : goal.returns-then-not-branch-clause-ended
 returns-then-not-branch-clause-ended g c clean none given =
-    gave_all (g.S.Store.view c.args.store.now) (g.S.Store.view c.next.new.self) c.next.new.row c.args.self.now.row c.args.self.now.count given
+    gave_all (g.S.Store.view c.args.store.now) (g.S.Store.view c.next.new.self) c.next.new.row
+    c.args.self.now.row c.args.self.now.count given
     (rw c.if-not-branch.true at (c.in_ok-next.ensures.ok clean))
 
 pub returns-clause-given : goal.returns-clause-given
