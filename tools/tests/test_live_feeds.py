@@ -14,6 +14,7 @@ from pathlib import Path
 from unittest import mock
 
 from feed_replay import Replay
+from feed_text import compact, summed
 from stores.contents import Contents
 from stores.text import Writer
 
@@ -206,7 +207,8 @@ class OfTables(unittest.TestCase):
             change = {"op": "c", "oid": 1, "n": 0, "before": None, "after": ["1", b]}
             lines = "".join(json.dumps(it) + "\n" for it in ({"op": "table", **definition}, change))
             commit = {"end": f"0/{at:X}", "prev": f"0/{at - 0x100:X}", "changes": 1}
-            text += json.dumps({**commit, "bytes": len(lines)}).ljust(255) + "\n" + lines
+            line = compact({**commit, "bytes": len(lines), "crc": 0}).ljust(255) + "\n"
+            text += summed((line + lines).encode()).decode()
         (feed / f"{0x100:016X}").write_text(text)
         seen = self.replayed("1")
         seen.change({"op": "c", "oid": 1, "before": None, "after": ["1", "2"]})
