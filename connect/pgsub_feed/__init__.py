@@ -13,12 +13,14 @@ if TYPE_CHECKING:
     from .changes import Change, Commit, Delete, Insert, Missed, Row, Truncate, Update, python_value
     from .consumer import read
     from .errors import Damaged, FileError, Passing, Unfit
-    from .relation import Column, Relation
+    from .relation import BaseType, Column, ColumnType, Relation, TableTypes
     from .texts import lsn_text, parse_lsn
 
 __all__ = [
+    "BaseType",
     "Change",
     "Column",
+    "ColumnType",
     "Commit",
     "Damaged",
     "Delete",
@@ -28,6 +30,7 @@ __all__ = [
     "Passing",
     "Relation",
     "Row",
+    "TableTypes",
     "Truncate",
     "Unfit",
     "Update",
@@ -40,7 +43,7 @@ __all__ = [
 HOMES = {
     "consumer": ("read",),
     "errors": ("Damaged", "FileError", "Passing", "Unfit"),
-    "relation": ("Column", "Relation"),
+    "relation": ("BaseType", "Column", "ColumnType", "Relation", "TableTypes"),
     "texts": ("lsn_text", "parse_lsn"),
 }
 

@@ -8,7 +8,7 @@ from collections.abc import Callable, Iterator, Mapping
 
 from .reader import commits
 from .reader.commits import XID, Cell, Cells, Unsent
-from .relation import Column, Relation
+from .relation import BaseType, Column, Relation
 from .tables.values import BYTEA, FLOAT4, FLOAT8, KINDS, TEXTS, read_bytea
 from .texts import lsn_text
 
@@ -52,15 +52,17 @@ READ: dict[int, Callable[[str], object]] = {
 }
 
 
-def python_value(column: Column, cell: Cell) -> object:
+def python_value(column: Column, cell: Cell, base: BaseType | None = None) -> object:
     """A value as bool, int, float, Decimal, bytes, date, time, datetime or UUID. What Python's type
-    can't hold, as the date `infinity`, stays as it is, as do values of any other type."""
+    can't hold, as the date `infinity`, stays as it is, as do values of any other type. `base`: what
+    a domain is of."""
     if cell is None:
         return None
+    oid = base.oid if base else column.type_oid
     try:
         if isinstance(cell, bytes):
-            return read_binary(column.type_oid, cell)
-        return READ.get(column.type_oid, str)(cell)
+            return read_binary(oid, cell)
+        return READ.get(oid, str)(cell)
     except (ValueError, LookupError, ArithmeticError):
         return cell
 
@@ -101,7 +103,8 @@ class Row(Mapping[str, Cell]):
     def python(self) -> dict[str, object]:
         """The values as Python's: numbers, dates and the like."""
         pairs = zip(self.table.shape.columns, self.cells, strict=True)
-        return {column.name: python_value(column, cell) for column, cell in pairs}
+        table = self.table
+        return {it.name: python_value(it, cell, table.base_of(it.name)) for it, cell in pairs}
 
     def key(self) -> tuple[Cell, ...]:
         """The values of the columns by which the row is found; all where the table has no key."""
@@ -180,9 +183,8 @@ def sent_cells(table: Relation, cells: list[Cell | Unsent] | None) -> dict[str, 
     return {it.name: cell for it, cell in pairs if not isinstance(cell, Unsent)}
 
 
-def change_of(part: commits.Change | commits.Missed) -> Change:
-    """A change as the readers of lines have it."""
-    table = part.relation
+def change_of(part: commits.Change | commits.Missed, table: Relation) -> Change:
+    """A change as the readers of lines have it, of a table with what is known of it."""
     if isinstance(part, commits.Missed):
         return Missed(
             table, part.sent, sent_cells(table, part.old_cells()), sent_cells(table, part.new)

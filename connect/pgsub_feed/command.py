@@ -8,6 +8,7 @@ import sys
 from collections.abc import Callable, Iterator, Sequence
 
 from . import log
+from .column_types import FeedTypes
 from .debezium.envelopes import Debezium, Envelopes
 from .debezium.settings import DEBEZIUM, SCHEMAS, Settings, read_settings
 from .errors import Stopped, UsageError
@@ -174,7 +175,9 @@ def form_of(options: Options, is_chosen: Callable[[Relation], bool], check: Chec
         return ByName(is_chosen)
     known = known_beside(options.feed, options.store)
     if options.format == "debezium":
-        return Debezium(is_chosen, Envelopes(settings_of(options), known, check), options.keys)
+        types = FeedTypes(options.feed, check)
+        envelopes = Envelopes(settings_of(options), known, check, types)
+        return Debezium(is_chosen, envelopes, options.keys)
     command = Command(options.on_truncate, check) if options.on_truncate else None
     return Bulk(is_chosen, options.truncated, known, check, command)
 

@@ -3,11 +3,13 @@
 from __future__ import annotations
 
 import contextlib
+import dataclasses
 import datetime
 import os
 from collections.abc import Iterable, Iterator
 
 from .changes import Change, Commit, Truncate, change_of
+from .column_types import FeedTypes, KnownTypes
 from .errors import Damaged, UsageError
 from .interruption import Check, never
 from .pipe.following import SCHEME, Remote
@@ -41,6 +43,9 @@ def read(
     export with texts, or beside the feed. So it does after None, or with all commits that are there
     where it has no such rows.
 
+    The `types` of a change's table are what the server's catalog has said of it: names, labels, keys
+    and what is never null. A commit with a new definition is given once the follower has looked.
+
     `tables`: only changes of these, named as for `--table`. With a `reader`'s name the feed keeps
     what this one hasn't done: a commit is done once the next one is asked for, so what came of it
     has to be on the disk by then. `check` is called while nothing comes, and may raise to end it.
@@ -48,12 +53,14 @@ def read(
     An Unfit says that the feed lacks commits after the LSN, or has others there: begin anew. A
     Damaged says that the feed can't be read. Without `follow` a feed without segments has none.
     """
-    feed, build = os.fspath(folder), Build(tables)
-    if not feed.startswith(SCHEME):
+    feed = os.fspath(folder)
+    is_here = not feed.startswith(SCHEME)
+    build = Build(tables, FeedTypes(feed, check) if is_here else KnownTypes())
+    if is_here:
         return read_here(feed, after, follow, build, base, reader, mode, check)
     if base:
         raise UsageError(f"{feed}: its host has its base")
-    return Remote(feed, after, follow, reader, check, build).commits()
+    return Remote(feed, after, follow, reader, check, build, build.types).commits()
 
 
 def read_here(
@@ -87,25 +94,33 @@ class Build:
     """Makes commits of parts. Of rows from before each table is truncated first, since those of an
     earlier run may be there."""
 
-    def __init__(self, tables: Iterable[str]) -> None:
-        self.names = tuple(tables)
+    def __init__(self, tables: Iterable[str], types: KnownTypes) -> None:
+        self.names, self.types = tuple(tables), types
         self.chosen, self.cleared = Chosen(self.names), set[int]()
 
     def __call__(self, commit: commits.Commit, parts: Iterable[commits.Part]) -> Commit:
-        tables, changes = dict[Relation, None](), list[Change]()
+        tables, changes = dict[int, Relation](), list[Change]()
+        told = dict[Relation, None]()
         for part in parts:
             if not self.chosen(part.relation):
                 continue
             if isinstance(part, commits.TableLine):
-                tables[part.relation] = None
-                changes += self.clear(commit, part.relation)
+                table = tables[part.relation.oid] = self.typed(part.relation, commit)
+                told[table] = None
+                changes += self.clear(commit, table)
             else:
-                changes.append(change_of(part))
+                changes.append(change_of(part, tables[part.relation.oid]))
         time = None
         if commit.ts_us is not None:
             time = EPOCH + datetime.timedelta(microseconds=commit.ts_us)
-        told, is_base = (tuple(tables), tuple(changes)), commit.base is not None
-        return Commit(commit.end, commit.prev, commit.xid, time, *told, is_base)
+        is_base = commit.base is not None
+        about = commit.end, commit.prev, commit.xid, time
+        return Commit(*about, tuple(told), tuple(changes), is_base)
+
+    def typed(self, relation: Relation, commit: commits.Commit) -> Relation:
+        """A definition with what the catalog said of it."""
+        types = self.types.of(relation, commit)
+        return dataclasses.replace(relation, types=types) if types else relation
 
     def clear(self, commit: commits.Commit, relation: Relation) -> list[Truncate]:
         if commit.base == 0:

@@ -248,7 +248,7 @@ class Followed(BesideCase):
         """A store that was followed has rows that the first ones aren't."""
         self.checkpoint.known.phase = FOLLOWING
         self.begin(self.feeding())
-        self.assertEqual(os.listdir(self.feed), [])
+        self.assertEqual(os.listdir(self.feed), ["types"])
 
 
 del Case

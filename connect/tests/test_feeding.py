@@ -21,6 +21,7 @@ from pgsub_connect.drift.remembered import Remembered
 from pgsub_connect.follow import drift_watch, feed as feed_module, feed_keeper, process_beside
 from pgsub_connect.follow.feed import FeedSettings, Feeding
 from pgsub_connect.follow.feed_keeper import Keeper
+from pgsub_connect.follow.feed_types import TypesFile
 from pgsub_connect.follow.follower import Follower
 from pgsub_connect.follow.process_beside import Beside, TablesSettings
 from pgsub_connect.follow.retention import Limits
@@ -399,8 +400,18 @@ class Refused(Quiet):
         feeding.rows_beside().note()
         self.assertEqual(Remembered(self.store).feed, self.store + ".feed")
         feeding.checkpoint.note_tables.assert_called_once_with(self.folder + "/rows.db")  # type: ignore[attr-defined]
-        self.feeding().rows_beside().begin(5)
+        feeding = self.feeding()
+        feeding.make_folder()
+        feeding.rows_beside().begin(5)
         self.assertEqual(self.said, [])
+
+    def test_types_that_a_first_start_left(self) -> None:
+        """It ended before its slot was there for good."""
+        feeding = self.feeding()
+        feeding.make_folder()
+        feeding.types.begin()
+        self.feeding().check()
+        self.assertEqual(os.listdir(self.store + ".feed"), [])
 
     def test_a_new_store_and_an_old_feed(self) -> None:
         os.makedirs(self.store + ".feed/readers")
@@ -512,7 +523,8 @@ class Kept(FeedCase):
 
     def keeper(self, confirmed: int = 0x600, **settings: Any) -> Keeper:
         limits, reached = Limits(**settings), Reached(confirmed, 0x600)
-        return Keeper(str(self.path), limits, 0o600, self.progress, lambda: reached)
+        types = TypesFile(str(self.path), 0o600, Remembered(str(self.folder / "copy.db")))
+        return Keeper(str(self.path), limits, 0o600, self.progress, lambda: reached, types)
 
     def read(self, name: str, lsn: int) -> None:
         Noted(str(self.path), name, str(self.folder / "rows.db"), 0o600).note(lsn, is_last=True)

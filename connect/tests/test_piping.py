@@ -22,6 +22,7 @@ from feed_text import Writer
 
 import pgsub_feed
 from pgsub_feed import Commit, Damaged, FileError, Insert, Passing, Truncate, Unfit
+from pgsub_feed.column_types import KnownTypes
 from pgsub_feed.errors import Stopped, UsageError
 from pgsub_feed.interruption import never
 from pgsub_feed.pipe import following
@@ -93,7 +94,8 @@ class Pieces(FeedCase):
             commit = reader.next()
             assert commit
             expected = list(reader.parts(commit))
-        remote = Remote("ssh://h/feed", 0, False, None, never, lambda commit, parts: list(parts))
+        about = "ssh://h/feed", 0, False, None, never
+        remote = Remote(*about, lambda commit, parts: list(parts), KnownTypes())
         pipes: Any = SimpleNamespace(pieces=pieces)
         self.assertEqual(list(remote.parts(pipes, commit)), expected)
         self.assertLess(sum(added), 1000)
@@ -102,7 +104,8 @@ class Pieces(FeedCase):
 class Delays(unittest.TestCase):
     def delays(self, lasts: float) -> list[float]:
         """How long it waits after each of some cuts of ways that last so many seconds."""
-        remote = Remote("ssh://h/feed", 0, True, None, never, lambda commit, parts: None)
+        about = "ssh://h/feed", 0, True, None, never
+        remote = Remote(*about, lambda commit, parts: None, KnownTypes())
         remote.was_there, now, found = True, [0.0], list[float]()
 
         def received(_: object) -> Iterator[None]:

@@ -12,6 +12,7 @@ from unittest import mock
 
 from pgsub_connect.follow.process_beside import SinkSettings
 from pgsub_connect.store.export import ExportSettings, export_store
+from pgsub_feed.column_types import KnownTypes
 from pgsub_feed.errors import EngineError, FileError, Passing, Stopped, TooLarge, Unfit, UsageError
 from pgsub_feed.interruption import Check, never
 from pgsub_feed.sinks.engine import Alone
@@ -54,7 +55,7 @@ class KafkaCase(SinkCase):
         """The engine by itself."""
         alone = Alone(str(self.path), 0o600)
         self.addCleanup(alone.close)
-        return connect(self.url, None, (), False, None, check, alone)
+        return connect(self.url, None, (), False, None, KnownTypes(), check, alone)
 
     def position(self) -> Any:
         return json.loads(self.server.said("pgsub.position")[-1].value or b"")

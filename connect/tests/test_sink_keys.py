@@ -11,7 +11,9 @@ from unittest import mock
 
 from feed_text import About, Column, Line, Writer
 
+from pgsub_connect.drift.remembered import Remembered
 from pgsub_connect.follow.feed_keeper import Keeper
+from pgsub_connect.follow.feed_types import TypesFile
 from pgsub_connect.follow.retention import Limits
 from pgsub_connect.status.progress import Progress
 from pgsub_connect.stream.statuses import Reached
@@ -355,7 +357,8 @@ class BulkLines(KeysCase):
 
     def known_up_to(self, lsn: int) -> None:
         """As the follower tells it."""
-        keeper = Keeper(str(self.path), Limits(), 0o600, Progress(), lambda: Reached(0, 0))
+        types = TypesFile(str(self.path), 0o600, Remembered(self.store))
+        keeper = Keeper(str(self.path), Limits(), 0o600, Progress(), lambda: Reached(0, 0), types)
         keeper.tell_keys(Reached(lsn, lsn, lsn, True))
 
     def check_another(self, was: tuple[str, ...], now: tuple[str, ...]) -> None:

@@ -7,6 +7,7 @@ import os
 from collections.abc import Sequence
 
 from pgsub_feed import log
+from pgsub_feed.column_types import FeedTypes
 from pgsub_feed.debezium.settings import DEBEZIUM, SCHEMAS
 from pgsub_feed.errors import NoFeed, Passing, UsageError
 from pgsub_feed.interruption import Check
@@ -152,10 +153,9 @@ def engine_of(
     if kind == "kafka":
         if options.form or options.stream or options.replicas:
             raise UsageError("--as is for Redis, --stream and --replicas for NATS")
-        words = options.debezium
-        return kafka_engine.connect(
-            options.url, options.kafka_config, words, options.schemas, known, check, alone
-        )
+        words, types = options.debezium, FeedTypes(options.feed, check)
+        about = options.url, options.kafka_config, words, options.schemas
+        return kafka_engine.connect(*about, known, types, check, alone)
     if options.kafka_config or options.debezium or options.schemas:
         raise UsageError("--kafka-config, --debezium and --schemas are for Kafka")
     if kind == "nats":

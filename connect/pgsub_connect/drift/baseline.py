@@ -186,6 +186,11 @@ class Baseline:
         if table:
             catalog.tables[oid] = described(table, relation, bool(told))
 
+    def is_altered(self, relation: Relation) -> bool:
+        """Whether a Relation message has other columns than its table had at the last look."""
+        table = self.catalog.tables.get(relation.oid) if self.catalog else None
+        return table is not None and names_and_types(table.shape) != names_and_types(relation.shape)
+
     def has_name(self, oid: int) -> bool:
         """Whether no other table has the name by which this one was described last."""
         return oid in self.names.held
@@ -279,6 +284,10 @@ def described(table: Table, relation: Relation, is_told: bool) -> Table:
     # (the next look isn't to tell it in other words)
     altered, shape = "" if is_told else table.altered, Shape(relation.shape.identity, columns)
     return dataclasses.replace(table, **named, shape=shape, altered=altered)
+
+
+def names_and_types(shape: Shape) -> list[tuple[str, int, int]]:
+    return [(it.name, it.type_oid, it.modifier) for it in shape.columns]
 
 
 def text_of(it: object) -> str:

@@ -45,6 +45,7 @@ from ..stream.filter import Filter
 from ..stream.filter_end import FilterEnded
 from ..stream.statuses import Reached
 from .feed_keeper import Keeper
+from .feed_types import TypesBeside, TypesFile
 from .first_rows import BaseRows, FirstRows
 from .process_beside import Beside, ProcessBeside, Sink, SinkSettings, TablesSettings
 from .retention import Limits
@@ -92,6 +93,7 @@ class Feeding:
             FirstRows(settings.tables, self.checkpoint.file) if settings.tables else RowsBeside()
         )
         self.base = self.base_rows() if settings.has_base else None
+        self.types = TypesFile(self.folder, settings.mode, self.remembered)
         self.keeper: Keeper | None = None
         self.beside: Beside | None = None
         self.sinks: list[Sink] = []
@@ -108,7 +110,8 @@ class Feeding:
 
     def rows_beside(self, check: Check = never) -> Several:
         """What gets the rows of an initial copy."""
-        parts = (self.first_rows, self.base) if self.base else (self.first_rows,)
+        parts = [self.first_rows, *([self.base] if self.base else [])]
+        parts += [TypesBeside(self.types)] if self.folder else []
         return Several(parts, self.note_begun, lambda: self.words(check) if self.folder else ())
 
     def check(self) -> None:
@@ -146,6 +149,8 @@ class Feeding:
         one's, nor have its readers and tables."""
         if self.folder:
             remove_begun(self.folder)
+            if not self.goes_on() and not has_segments(self.folder):
+                self.types.forget()
         has_feed = os.path.isdir(self.folder) and bool(os.listdir(self.folder))
         self.check_left(has_feed and not self.goes_on())
 
@@ -197,9 +202,10 @@ class Feeding:
             # (readers find them once there is a segment)
             self.base.complete(self.checkpoint.known.phase == COPIED, check)
         self.remembered.note_feed(self.folder)
+        self.types.begin()
         child.add_words(self.words(check))
-        how = self.settings.limits, self.settings.mode
-        self.keeper = Keeper(self.folder, *how, self.progress, reached)
+        how = self.settings.limits, self.settings.mode, self.progress, reached
+        self.keeper = Keeper(self.folder, *how, self.types)
         if tables:
             self.beside = Beside(tables, self.progress, wake, self.first_rows.wait)
         self.sinks = [Sink(it, self.progress) for it in self.settings.sinks]

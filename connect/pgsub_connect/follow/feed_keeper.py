@@ -1,6 +1,6 @@
 """What is done in the folder of a feed while its store is followed: it tells readers what is
-confirmed and up to where the primary keys in `STORE.tables` are right, looks where they are, and
-removes old segments."""
+confirmed, up to where the primary keys in `STORE.tables` are right, and what the catalog says of
+types, looks where they are, and removes old segments."""
 
 from __future__ import annotations
 
@@ -18,6 +18,7 @@ from pgsub_feed.reader.segments import CONFIRMED, read_confirmed
 from pgsub_feed.texts import counted, lsn_text
 
 from ..stream.statuses import Reached
+from .feed_types import TypesFile
 from .retention import Limits, feed_bytes, read_readers, retire
 
 if TYPE_CHECKING:
@@ -39,9 +40,10 @@ class Keeper(threading.Thread):
         mode: int,
         progress: Progress,
         reached: Callable[[], Reached],
+        types: TypesFile,
     ) -> None:
         super().__init__(daemon=True)
-        self.folder, self.limits, self.mode = folder, limits, mode
+        self.folder, self.limits, self.mode, self.types = folder, limits, mode, types
         self.keys_file = os.path.join(folder, KEYS)
         self.progress, self.reached = progress, reached
         self.ended = threading.Event()
@@ -95,6 +97,8 @@ class Keeper(threading.Thread):
         if self.has_keys_to_tell(reached) and now - self.told_keys >= QUIET:
             self.told_keys = now
             self.attempt(self.tell_keys, reached)
+        if self.types.is_due():
+            self.attempt(self.tell_types, reached)
 
     def attempt(self, step: Callable[[Reached], None], reached: Reached) -> None:
         """Does one of these. What can't be done is told, once for each cause, and is tried again;
@@ -128,6 +132,10 @@ class Keeper(threading.Thread):
         """Tells readers up to which commit it is known which primary keys tables have."""
         replace_file(self.keys_file, f"{lsn_text(reached.keys)}\n".encode(), self.mode)
         self.keys = reached.keys
+
+    def tell_types(self, reached: Reached) -> None:
+        """Tells readers what a look at the catalog has found."""
+        self.types.write()
 
     def look(self, reached: Reached) -> None:
         """Shows how far behind each reader is, and how large the feed."""

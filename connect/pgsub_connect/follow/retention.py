@@ -15,6 +15,7 @@ import contextlib
 import dataclasses
 import os
 
+from pgsub_feed.column_types import TYPES
 from pgsub_feed.errors import Failure, FileError
 from pgsub_feed.files import NEW, remove
 from pgsub_feed.known_tables import KEYS
@@ -129,7 +130,7 @@ def remove_feed(folder: str) -> None:
     """Removes a feed and what its readers have noted. What else is there stays, with the folder."""
     readers = os.path.join(folder, READERS)
     names = [name for _, name in segments(folder)]
-    names += [it + end for it in (CONFIRMED, KEYS) for end in ("", NEW)]
+    names += [it + end for it in (CONFIRMED, KEYS, TYPES) for end in ("", NEW)]
     for path in [os.path.join(folder, it) for it in names]:
         remove(path)
     remove_base(folder)

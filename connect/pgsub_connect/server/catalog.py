@@ -6,7 +6,7 @@ from collections.abc import Iterable
 from typing import NamedTuple
 
 from pgsub_feed.known_tables import Index
-from pgsub_feed.relation import Column, Shape
+from pgsub_feed.relation import Column, ColumnType, Shape
 from pgsub_feed.texts import identifier
 
 ACTIONS = ("insert", "update", "delete", "truncate")
@@ -71,6 +71,9 @@ class Table:
     toast: int = 0
     primary: tuple[str, ...] = ()
     indexes: tuple[Index, ...] = ()
+    types: tuple[tuple[Column, ColumnType], ...] | None = dataclasses.field(
+        default=None, compare=False
+    )
     leaves: Leaves | None = None
 
     @property

@@ -10,6 +10,7 @@ from pgsub_feed.texts import literal, parse_lsn
 
 from ..errors import WrongAnswer, understood
 from .catalog import ACTIONS, Catalog, Part, Partition, Publication, Table, types_having
+from .column_types import read_column_types
 from .connection import QUICK, Connection
 from .libpq import Row
 
@@ -109,9 +110,15 @@ def read_tables(connection: Connection, names: list[str]) -> dict[int, Table]:
     for table in read_parts(connection, names, QUICK):
         tables.setdefault(table.oid, table).parts.update(table.parts)
     keys, indexes = read_keys(connection, list(tables)), read_indexes(connection, list(tables))
+    types = read_column_types(connection, list(tables))
     for oid, it in tables.items():
-        more = {"primary": tuple(keys.get(oid, ())), "indexes": tuple(indexes.get(oid, ()))}
-        tables[oid] = dataclasses.replace(it, **more)
+        typed = ((column, types.get((oid, column.number))) for column in it.columns)
+        tables[oid] = dataclasses.replace(
+            it,
+            primary=tuple(keys.get(oid, ())),
+            indexes=tuple(indexes.get(oid, ())),
+            types=tuple((column, found) for column, found in typed if found),
+        )
     return tables
 
 

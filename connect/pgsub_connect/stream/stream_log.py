@@ -105,6 +105,10 @@ class RelationLog:
                 self.remembered.note_again(oid, lsn)
             elif (relation := relation_of(body)) is not None:
                 self.compared[oid] = body
+                # (those that read a feed wait for what the catalog says of its types)
+                self.wants_look |= bool(self.remembered.feed) and self.remembered.is_altered(
+                    relation
+                )
                 self.remembered.note(relation, lsn, last)
 
 

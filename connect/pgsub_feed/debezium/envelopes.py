@@ -17,12 +17,13 @@ from collections.abc import Callable, Iterable, Iterator, Sequence
 from typing import Any, NamedTuple
 
 from .. import log
+from ..column_types import KnownTypes
 from ..formats.lines import Selected, json_line
 from ..interruption import Check, never
 from ..known_tables import KnownTables
 from ..reader.commits import XID, Cells, Change, Commit, Head, Missed
 from ..reader.segments import Reader
-from ..relation import Relation
+from ..relation import Relation, TableTypes
 from ..tables.indexes import OTHER, lacking, other_key
 from .settings import TOMBSTONES, TRANSACTIONS, Settings
 from .tables import Moment, Source, Table, field, schema_text, versioned
@@ -71,19 +72,27 @@ def with_schema(schema: bytes, payload: object) -> bytes:
 
 
 class Envelopes:
-    """Makes messages of changes. `known`: the store knows primary keys that no message tells."""
+    """Makes messages of changes. `known`: the store knows primary keys that no message tells;
+    `types`: the feed says what the catalog does."""
 
     def __init__(
-        self, settings: Settings, known: KnownTables | None = None, check: Check = never
+        self,
+        settings: Settings,
+        known: KnownTables | None = None,
+        check: Check = never,
+        types: KnownTypes | None = None,
     ) -> None:
         self.settings, self.known, self.check = settings, known, check
+        self.types = types or KnownTypes()
         self.tables = dict[int, Table]()
+        # the definitions of the commit by now, with what is known of them
+        self.typed = dict[int, tuple[Relation, TableTypes | None]]()
         self.told = set[str]()
         self.topics = dict[str, int]()
 
     def begin(self, head: Head, commit: Commit, is_base: bool = False) -> None:
         """Begins a commit, or the rows of a base."""
-        self.commit = commit
+        self.commit, self.typed = commit, {}
         moment = Moment(time.time_ns())
         self.source = Source(self.settings.prefix, head, commit, moment, is_base)
         self.times: dict[str, object] = moment.told
@@ -202,11 +211,21 @@ class Envelopes:
     # ---- tables
 
     def table(self, relation: Relation) -> Table:
-        found, primary = self.tables.get(relation.oid), self.primary(relation)
-        if found is None or (found.relation, found.primary) != (relation, primary):
-            found = self.tables[relation.oid] = Table(relation, primary, self.settings, self.told)
+        found, types = self.tables.get(relation.oid), self.types_of(relation)
+        primary = self.primary(relation, types)
+        now = relation, primary, types
+        if found is None or (found.relation, found.primary, found.types) != now:
+            told = self.settings, self.told
+            found = self.tables[relation.oid] = Table(relation, primary, *told, types)
             self.claim(found)
         return found
+
+    def types_of(self, relation: Relation) -> TableTypes | None:
+        """What the catalog says of a table where the commit changes it."""
+        known = self.typed.get(relation.oid)
+        if known is None or known[0] is not relation:
+            known = self.typed[relation.oid] = relation, self.types.of(relation, self.commit)
+        return known[1]
 
     def claim(self, table: Table) -> None:
         """Tells where another table has had the topic."""
@@ -218,15 +237,19 @@ class Envelopes:
             )
             self.topics[table.topic] = table.relation.oid
 
-    def primary(self, relation: Relation) -> tuple[str, ...]:
-        """The columns of a primary key that isn't the replica identity, by the store."""
-        if relation.shape.identity not in OTHER or self.known is None:
+    def primary(self, relation: Relation, types: TableTypes | None) -> tuple[str, ...]:
+        """The columns of a primary key that isn't the replica identity, by the store, or else by the
+        feed."""
+        if relation.shape.identity not in OTHER:
             return ()
-        if relation.oid in self.tables:
-            self.known.look()
+        if self.known is None:
+            found = types.primary if types else ()
         else:
-            self.known.wait(relation.oid, self.commit.end, self.check)
-        found = self.known.primary(relation.oid) or ()
+            if relation.oid in self.tables:
+                self.known.look()
+            else:
+                self.known.wait(relation.oid, self.commit.end, self.check)
+            found = self.known.primary(relation.oid) or ()
         return () if lacking(found, relation) else other_key(relation, found)
 
     def tell(self, what: str, text: str) -> None:

@@ -1,14 +1,15 @@
 """The types of PostgreSQL as types of Kafka Connect: the schema of each, and what reads a value.
 
-A type that isn't PostgreSQL's own, or has no form of its own in Debezium, is a string, as the
-server prints it.
+A type that isn't PostgreSQL's own, nor an enumeration or a domain, or has no form of its own in
+Debezium, is a string, as the server prints it.
 """
 
 import base64
 import re
-from collections.abc import Callable
+from collections.abc import Callable, Sequence
 from typing import Any, NamedTuple
 
+from ..relation import Column, ColumnType
 from ..tables.values import BOOL, BYTEA, FLOAT4, FLOAT8, INT2, INT4, INT8, NUMERIC
 from . import numbers, times
 from .settings import BINARIES, DECIMALS, INTERVALS, TIMES, Settings
@@ -219,8 +220,24 @@ def array(element: Kind) -> Kind:
     return Kind({"type": "array", "items": of(element.schema, True)}, read)
 
 
+def enumeration(labels: Sequence[str]) -> Kind:
+    return Kind(debezium("string", "data.Enum", allowed=",".join(labels)), text)
+
+
+def kind_of_column(column: Column, known: ColumnType | None, settings: Settings) -> Kind:
+    """What a column's type is in Connect: a domain is what it is of, an enumeration has its labels.
+    `known`: what the catalog says of it."""
+    name, type_oid, modifier = "", column.type_oid, column.modifier
+    if known:
+        name, type_oid, modifier = known.base or (known.name, type_oid, modifier)
+    if known and known.labels:
+        kind = enumeration(known.labels)
+        return array(kind) if name.endswith("[]") else kind
+    return kind_of(type_oid, modifier, settings)
+
+
 def kind_of(type_oid: int, modifier: int, settings: Settings) -> Kind:
-    """What a column's type is in Connect."""
+    """What a type is in Connect."""
     if type_oid in ARRAYS:
         return array(kind_of(ARRAYS[type_oid], modifier, settings))
     if type_oid in BY_SETTINGS:

@@ -11,11 +11,11 @@ from ..errors import Unfit
 from ..formats.keys import escaped, full, key_of
 from ..json_texts import compact
 from ..reader.commits import Cell, Commit, Head
-from ..relation import Column, Relation
+from ..relation import Column, ColumnType, Relation, TableTypes
 from ..tables.floats import printed_float
 from ..tables.values import BYTEA, FLOAT4
 from ..version import VERSION
-from .kinds import Schema, kind_of, of
+from .kinds import Schema, kind_of_column, of
 from .settings import DECIMALS, FAILURES, Settings
 
 CONNECTOR = "postgresql"
@@ -135,36 +135,39 @@ def schema_text(schema: Schema) -> bytes:
 
 class Table:
     """A relation with what its settings make of it. `primary`: the columns of its primary key,
-    where its replica identity is another."""
+    where its replica identity is another; `types`: what the catalog says of it."""
 
     def __init__(
-        self, relation: Relation, primary: Sequence[str], settings: Settings, told: set[str]
+        self,
+        relation: Relation,
+        primary: Sequence[str],
+        settings: Settings,
+        told: set[str],
+        types: TableTypes | None = None,
     ) -> None:
         self.relation, self.primary, self.settings, self.told = (relation, primary, settings, told)
-        self.columns = relation.shape.columns
-        self.kinds = [kind_of(it.type_oid, it.modifier, settings) for it in self.columns]
+        self.types, self.columns = types, relation.shape.columns
+        known: dict[str, ColumnType] = types.columns if types else {}
+        self.kinds = [kind_of_column(it, known.get(it.name), settings) for it in self.columns]
+        self.optional = [not (it.name in known and known[it.name].not_null) for it in self.columns]
         self.key = key_of(relation, primary)
         self.topic = topic_of(settings.prefix, relation)
         self.collection = f"{full(relation.namespace)}.{relation.name}"
 
-    def fields(self, places: Iterable[int], optional: bool) -> list[Schema]:
-        """(Which columns are never null isn't known, but of those of a key.)"""
-        return [of(self.kinds[at].schema, optional, field=self.columns[at].name) for at in places]
+    def field(self, at: int, optional: bool) -> Schema:
+        return of(self.kinds[at].schema, optional, field=self.columns[at].name)
 
     @functools.cached_property
     def key_schema(self) -> bytes:
-        fields = self.fields(self.key, False)
+        fields = [self.field(at, False) for at in self.key]
         name = f"{self.topic}.Key"
         return schema_text({"type": "struct", "fields": fields, "optional": False, "name": name})
 
     @functools.cached_property
     def schema(self) -> bytes:
         """That of an envelope."""
-        row = of(
-            {"type": "struct", "fields": self.fields(range(len(self.columns)), True)},
-            True,
-            name=f"{self.topic}.Value",
-        )
+        columns = [self.field(at, it) for at, it in enumerate(self.optional)]
+        row = of({"type": "struct", "fields": columns}, True, name=f"{self.topic}.Value")
         fields = [
             {**row, "field": "before"},
             {**row, "field": "after"},
@@ -192,11 +195,20 @@ class Table:
         found = dict[str, object]()
         for at, cell in enumerate(cells):
             try:
-                found[self.columns[at].name] = self.value(at, cell)
+                value = self.value(at, cell)
             except WRONG as error:
                 self.note_wrong(at, error)
-                found[self.columns[at].name] = None
+                value = None
+            if value is None and not self.optional[at]:
+                self.note_null(at)
+            found[self.columns[at].name] = value
         return found
+
+    def note_null(self, at: int) -> None:
+        """Has a column be optional that the catalog said is never null: rows may be from before it
+        was so, or had no such column."""
+        self.optional[at] = True
+        self.__dict__.pop("schema", None)
 
     def key_row(self, cells: Sequence[Cell]) -> dict[str, object] | None:
         """A row's key, None where the table has none, or null is in it."""

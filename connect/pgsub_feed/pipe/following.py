@@ -14,6 +14,7 @@ from collections.abc import Callable, Iterable, Iterator
 from typing import Generic, TypeVar
 
 from .. import errors, log
+from ..column_types import KnownTypes
 from ..interruption import Check
 from ..reader.base import sections_of
 from ..reader.commits import Closing, Commit, Head, Part
@@ -98,7 +99,8 @@ class Link:
 
 
 class Remote(Generic[Read]):
-    """A feed elsewhere. `at`: up to where its reader has all; `read` makes something of each."""
+    """A feed elsewhere. `at`: up to where its reader has all; `read` makes something of each;
+    `types` gets what the feed says of them."""
 
     def __init__(
         self,
@@ -108,9 +110,10 @@ class Remote(Generic[Read]):
         reader: str | None,
         check: Check,
         read: Callable[[Commit, Iterable[Part]], Read],
+        types: KnownTypes,
     ) -> None:
         self.url, self.at, self.follows, self.check = url, at, follows, check
-        self.read = read
+        self.read, self.types = read, types
         self.words = Address.of(url).words(follows, reader)
         self.decoder = Decoder()
         self.head: Head | None = None
@@ -144,6 +147,8 @@ class Remote(Generic[Read]):
             line = pipes.line()
             if line.startswith(b'{"feed"'):
                 self.check_head(line)
+            elif line.startswith(b'{"types"'):
+                self.take_types(pipes, line)
             elif line.startswith((b'{"done"', b'{"fault"')):
                 self.end(line)
                 return
@@ -168,6 +173,14 @@ class Remote(Generic[Read]):
         if self.is_cut:
             log.info(f"{self.url} is there again")
             self.is_cut = False
+
+    def take_types(self, pipes: Pipes, line: bytes) -> None:
+        """Takes what the commits that follow may need of the catalog."""
+        try:
+            self.types.take(b"".join(pipes.pieces(natural(read_object(line)["bytes"]))))
+        except (KeyError, ValueError) as error:
+            told = f"this says nothing of types: {error}: {shown(line)}"
+            raise errors.Damaged(errors.LINE, self.url, 0, told) from None
 
     def commit(self, line: bytes) -> Commit:
         try:

@@ -2,19 +2,22 @@
 
 import contextlib
 
+from ..column_types import FORMAT as TYPES_FORMAT
+from ..column_types import FeedTypes
 from ..errors import Damaged, Failure, Stopped, UsageError
 from ..interruption import Check
 from ..json_texts import compact
 from ..reader.commits import Commit, Head
-from ..reader.lines import FORMAT
+from ..reader.lines import FORMAT, MOST_DEFINITIONS, parsed, read_relation
 from ..reader.polling import Poll
 from ..reader.positions import noted_of
 from ..reader.whole import Whole
+from ..relation import Relation
 from ..texts import lsn_text, parse_lsn
 from .pipes import Cut, Pipes
 
-# The mode of a reader's file.
-MODE = 0o600
+# The mode of a reader's file, and how the line of a definition begins.
+MODE, DEFINITION = 0o600, b'{"op":"table",'
 
 
 def head_line(head: Head) -> bytes:
@@ -40,6 +43,10 @@ class Serving:
         self.reader = Whole(feed, self.at)
         self.poll = Poll(self.reader, follows, self.check)
         self.sent = self.at or 0
+        # what the catalog says, and which of it the reader has; definitions by their lines
+        self.types = FeedTypes(feed, self.check)
+        self.given = self.types.text
+        self.definitions = dict[bytes, Relation]()
 
     def first(self) -> int | None:
         line = self.pipes.line().strip()
@@ -80,15 +87,35 @@ class Serving:
         self.wait_for_end()
 
     def give(self, commit: Commit) -> None:
-        self.sent = commit.end
-        self.pipes.put(self.reader.own_line(commit))
         try:
+            self.give_types(commit)
+            self.sent = commit.end
+            self.pipes.put(self.reader.own_line(commit))
             for lines in self.reader.raw(commit):
                 self.pipes.put(b"\n".join([*lines, b""]))
         except Damaged as damaged:
             # (cut off by the filter: the reader, which lacks the rest, comes again)
             raise Cut(damaged.told()) from None
         self.check()
+
+    def give_types(self, commit: Commit) -> None:
+        """Writes what is new of the catalog, as soon as the commit's tables are known."""
+        for lines in self.reader.raw(commit):
+            for line in lines:
+                if line.startswith(DEFINITION) and (relation := self.defined(line)):
+                    self.types.of(relation, commit)
+        if (content := self.types.text) is not self.given:
+            self.pipes.put(told(types=TYPES_FORMAT, bytes=len(content)) + content)
+            self.given = content
+
+    def defined(self, line: bytes) -> Relation | None:
+        """What a line defines. (Of one that is spoiled the reader says so.)"""
+        if line not in self.definitions:
+            if len(self.definitions) >= MOST_DEFINITIONS:
+                self.definitions.clear()
+            with contextlib.suppress(KeyError, TypeError, ValueError):
+                self.definitions[line] = read_relation(parsed(line))
+        return self.definitions.get(line)
 
     def wait_for_end(self) -> None:
         """(The last that the reader has is still to come.)"""

@@ -16,6 +16,7 @@ import time
 from collections.abc import Iterator, Sequence
 from typing import Any
 
+from ..column_types import KnownTypes
 from ..debezium.envelopes import Envelopes, Message
 from ..debezium.settings import read_settings
 from ..errors import Stopped, TooLarge, Unfit
@@ -216,6 +217,7 @@ def connect(
     words: Sequence[str],
     schemas: bool,
     known: KnownTables | None,
+    types: KnownTypes,
     check: Check,
     alone: Alone,
 ) -> Kafka:
@@ -226,4 +228,4 @@ def connect(
     settings = read_settings([*words, *(f"{name}={it}" for name, it in parts.items())], told)
     properties = read_config(path) if path else {}
     cluster = Cluster(servers, properties, check)
-    return Kafka(cluster, Envelopes(settings, known, check), check, alone)
+    return Kafka(cluster, Envelopes(settings, known, check, types), check, alone)

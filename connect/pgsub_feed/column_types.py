@@ -1,0 +1,162 @@
+"""What a feed says of its tables beside their definitions, as the follower has found it in the
+server's catalog: the names of types, the labels of enumerations, what domains are of, which columns
+are never null, and primary keys.
+
+They are in the file `FOLDER/types`, which is replaced as a whole: a head, and a line for each table
+and each time from which on it was found so. A commit that came before the look at the server by
+which it is described is given once that was taken.
+"""
+
+from __future__ import annotations
+
+import os
+import time
+from collections.abc import Iterable
+from typing import Any, NamedTuple
+
+from . import json_texts, log
+from .interruption import Check, never
+from .reader.commits import Commit
+from .relation import BaseType, Column, ColumnType, Relation, TableTypes
+from .texts import parse_lsn
+
+FORMAT, TYPES = 1, "types"
+# For how long a look at the server is waited for, in seconds, and how often it is asked for.
+PATIENCE, OFTEN = 20.0, 0.05
+# Which file it is, when it was written, and its length.
+Stamp = tuple[int, int, int]
+# By the names of columns.
+Written = dict[str, Any]
+
+
+class Entry(NamedTuple):
+    """What is known of a table from an LSN on, of columns with these names, types and
+    modifiers."""
+
+    since: int
+    known: frozenset[tuple[str, int, int]]
+    types: TableTypes
+
+    def fits(self, columns: Iterable[Column]) -> bool:
+        """Whether it knows all of these columns, of these types."""
+        return self.known.issuperset((it.name, it.type_oid, it.modifier) for it in columns)
+
+
+def column_of(said: Written) -> ColumnType:
+    base = None
+    if "base" in said:
+        name, oid, modifier = json_texts.list_of(said["base"])
+        base = BaseType(json_texts.text_of(name), json_texts.oid_of(oid), signed(modifier))
+    labels = map(json_texts.text_of, json_texts.list_of(said.get("labels", [])))
+    name, not_null = json_texts.text_of(said["type"]), json_texts.flag_of(said["not_null"])
+    return ColumnType(name, not_null, tuple(labels), base)
+
+
+def signed(value: object) -> int:
+    return json_texts.whole_of(value, -(1 << 31), 1 << 31)
+
+
+def entry_of(said: Written) -> Entry:
+    """A line of a table. An Unreadable or a KeyError says that it is none."""
+    known, columns = set[tuple[str, int, int]](), dict[str, ColumnType]()
+    for it in map(json_texts.object_of, json_texts.list_of(said["columns"])):
+        name = json_texts.text_of(it["name"])
+        known.add((name, json_texts.oid_of(it["oid"]), signed(it["modifier"])))
+        columns[name] = column_of(it)
+    primary = tuple(map(json_texts.text_of, json_texts.list_of(said["primary"])))
+    return Entry(json_texts.lsn_of(said["from"]), frozenset(known), TableTypes(columns, primary))
+
+
+class KnownTypes:
+    """Those that such a file says. `lsn`: up to which commit its follower has looked."""
+
+    def __init__(self) -> None:
+        self.lsn = 0
+        self.entries = dict[int, list[Entry]]()
+
+    def take(self, content: bytes) -> None:
+        """Takes what a file says. A ValueError or a KeyError says that it is none."""
+        first, *lines = content.splitlines()
+        head = json_texts.object_of(json_texts.parsed(first))
+        if head.get("types") != FORMAT:
+            raise json_texts.Unreadable("of another version of this program")
+        entries = dict[int, list[Entry]]()
+        for line in lines:
+            said = json_texts.object_of(json_texts.parsed(line))
+            # (a later version may have lines of other kinds)
+            if "table" in said:
+                entries.setdefault(json_texts.oid_of(said["table"]), []).append(entry_of(said))
+        self.lsn, self.entries = parse_lsn(json_texts.text_of(head["lsn"])), entries
+
+    def at(self, relation: Relation, lsn: int) -> TableTypes | None:
+        """What was known last at an LSN of a table with this definition, or first after it; None
+        where nothing is."""
+        entries = self.entries.get(relation.oid, ())
+        fitting = [it for it in entries if it.fits(relation.shape.columns)]
+        before = [it for it in fitting if it.since <= lsn]
+        found = before[-1:] or fitting[:1]
+        return found[0].types if found else None
+
+    def of(self, relation: Relation, commit: Commit) -> TableTypes | None:
+        """What is known of a table where a commit changes it."""
+        return self.at(relation, reached(commit))
+
+
+def reached(commit: Commit) -> int:
+    """The LSN by which the tables of a commit are described; of rows from before the first one it is
+    theirs."""
+    return (commit.lsn or 0) if commit.base is not None else commit.end
+
+
+class FeedTypes(KnownTypes):
+    """Those of a feed's folder."""
+
+    def __init__(self, folder: str, check: Check = never) -> None:
+        super().__init__()
+        self.path, self.check = os.path.join(folder, TYPES), check
+        self.stamp: Stamp | None = None
+        self.text = b""
+        # what the file was when a look was waited for in vain, and why it can't be read
+        self.waited: Stamp | None = None
+        self.told = ""
+
+    def look(self) -> None:
+        """Reads the file, where it was written anew."""
+        try:
+            it = os.stat(self.path)
+            if (stamp := (it.st_ino, it.st_mtime_ns, it.st_size)) != self.stamp:
+                self.stamp = stamp
+                content = json_texts.read_plain(self.path, json_texts.LARGEST)
+                self.take(content)
+                self.text = content
+        except FileNotFoundError:
+            # (an earlier version of the follower doesn't write it)
+            self.stamp = None
+        except OSError as error:
+            self.tell(str(error.strerror))
+        except (KeyError, ValueError) as error:
+            self.tell(f"not a file of types: {error}")
+
+    def of(self, relation: Relation, commit: Commit) -> TableTypes | None:
+        """The same, once the server was looked at after that commit, or the table is known. Where no
+        follower looks any more, that is waited for once."""
+        self.look()
+        lsn, end = reached(commit), time.monotonic() + PATIENCE
+        while (found := self.at(relation, lsn)) is None and self.is_to_come(lsn):
+            self.check()
+            if time.monotonic() > end:
+                self.waited = self.stamp
+                break
+            time.sleep(OFTEN)
+            self.look()
+        return found
+
+    def is_to_come(self, lsn: int) -> bool:
+        return self.lsn < lsn and self.stamp not in (None, self.waited)
+
+    def tell(self, text: str) -> None:
+        """Tells once why nothing more is known, which nobody waits for."""
+        self.waited = self.stamp
+        if text != self.told:
+            self.told = text
+            log.warning(f"{self.path}: {text}: types and keys are those of the definitions alone")
