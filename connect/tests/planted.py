@@ -43,6 +43,62 @@ class Bug(NamedTuple):
 
 BUGS = (
     Bug(
+        "a commit is given before the server was looked at",
+        "pgsub_feed/column_types.py",
+        "return self.lsn < lsn and self.stamp not in (None, self.waited)",
+        "return False",
+        ("test_column_types",),
+    ),
+    Bug(
+        "a definition gets what is known of other columns",
+        "pgsub_feed/column_types.py",
+        "fitting = [it for it in entries if it.fits(relation.shape.columns)]",
+        "fitting = list(entries)",
+        ("test_column_types",),
+    ),
+    Bug(
+        "a commit gets what was found later",
+        "pgsub_feed/column_types.py",
+        "before = [it for it in fitting if it.since <= lsn]",
+        "before = fitting",
+        ("test_column_types",),
+    ),
+    Bug(
+        "a line of types goes while a segment needs it",
+        "pgsub_connect/follow/feed_types.py",
+        "json_texts.lsn_of(end) > first",
+        "json_texts.lsn_of(end) > first + 0x200",
+        ("test_column_types",),
+    ),
+    Bug(
+        "what a store remembers is taken for a look",
+        "pgsub_connect/follow/feed_types.py",
+        "is_read = catalog and all(",
+        "is_read = catalog or all(",
+        ("test_column_types",),
+    ),
+    Bug(
+        "altered columns are looked at ten minutes later",
+        "pgsub_connect/drift/baseline.py",
+        "return table is not None and names_and_types(table.shape) != names_and_types(relation.shape)",
+        "return False",
+        ("test_column_types",),
+    ),
+    Bug(
+        "types go to a reader elsewhere once",
+        "pgsub_feed/pipe/serving.py",
+        "if (content := self.types.text) is not self.given:",
+        "if (content := self.types.text) and not self.given:",
+        ("test_column_types",),
+    ),
+    Bug(
+        "a null breaks the schema of a column that the catalog says has none",
+        "pgsub_feed/debezium/tables.py",
+        "if value is None and not self.optional[at]:",
+        "if False:",
+        ("test_column_types",),
+    ),
+    Bug(
         "a follower that ends by itself leaves its sinks behind",
         "pgsub_connect/follow/feed.py",
         "        return not lacking",
