@@ -11,13 +11,12 @@ from __future__ import annotations
 
 import os
 import time
-from collections.abc import Iterable
 from typing import Any, NamedTuple
 
 from . import json_texts, log
 from .interruption import Check, never
 from .reader.commits import Commit
-from .relation import BaseType, Column, ColumnType, Relation, TableTypes
+from .relation import BaseType, ColumnType, Relation, TableTypes
 from .texts import parse_lsn
 
 FORMAT, TYPES = 1, "types"
@@ -29,17 +28,16 @@ Stamp = tuple[int, int, int]
 Written = dict[str, Any]
 
 
+# A column's name, type and modifier.
+Known = tuple[str, int, int]
+
+
 class Entry(NamedTuple):
-    """What is known of a table from an LSN on, of columns with these names, types and
-    modifiers."""
+    """What is known of a table from an LSN on, of these columns."""
 
     since: int
-    known: frozenset[tuple[str, int, int]]
+    known: frozenset[Known]
     types: TableTypes
-
-    def fits(self, columns: Iterable[Column]) -> bool:
-        """Whether it knows all of these columns, of these types."""
-        return self.known.issuperset((it.name, it.type_oid, it.modifier) for it in columns)
 
 
 def column_of(said: Written) -> ColumnType:
@@ -58,7 +56,7 @@ def signed(value: object) -> int:
 
 def entry_of(said: Written) -> Entry:
     """A line of a table. An Unreadable or a KeyError says that it is none."""
-    known, columns = set[tuple[str, int, int]](), dict[str, ColumnType]()
+    known, columns = set[Known](), dict[str, ColumnType]()
     for it in map(json_texts.object_of, json_texts.list_of(said["columns"])):
         name = json_texts.text_of(it["name"])
         known.add((name, json_texts.oid_of(it["oid"]), signed(it["modifier"])))
@@ -88,18 +86,32 @@ class KnownTypes:
                 entries.setdefault(json_texts.oid_of(said["table"]), []).append(entry_of(said))
         self.lsn, self.entries = parse_lsn(json_texts.text_of(head["lsn"])), entries
 
-    def at(self, relation: Relation, lsn: int) -> TableTypes | None:
-        """What was known last at an LSN of a table with this definition, or first after it; None
+    def exact(self, relation: Relation, lsn: int) -> TableTypes | None:
+        """What was known last at an LSN of a table with just these columns, or first after it; None
         where nothing is."""
-        entries = self.entries.get(relation.oid, ())
-        fitting = [it for it in entries if it.fits(relation.shape.columns)]
-        before = [it for it in fitting if it.since <= lsn]
-        found = before[-1:] or fitting[:1]
-        return found[0].types if found else None
+        columns = known_of(relation)
+        return at([it for it in self.entries.get(relation.oid, ()) if it.known == columns], lsn)
+
+    def nearest(self, relation: Relation, lsn: int) -> TableTypes | None:
+        """The same where it had these columns and more: as where the catalog is newer, or a
+        publication has fewer."""
+        columns = known_of(relation)
+        return at([it for it in self.entries.get(relation.oid, ()) if it.known >= columns], lsn)
 
     def of(self, relation: Relation, commit: Commit) -> TableTypes | None:
         """What is known of a table where a commit changes it."""
-        return self.at(relation, reached(commit))
+        lsn = reached(commit)
+        return self.exact(relation, lsn) or self.nearest(relation, lsn)
+
+
+def known_of(relation: Relation) -> set[Known]:
+    return {(it.name, it.type_oid, it.modifier) for it in relation.shape.columns}
+
+
+def at(entries: list[Entry], lsn: int) -> TableTypes | None:
+    before = [it for it in entries if it.since <= lsn]
+    found = before[-1:] or entries[:1]
+    return found[0].types if found else None
 
 
 def reached(commit: Commit) -> int:
@@ -142,14 +154,14 @@ class FeedTypes(KnownTypes):
         follower looks any more, that is waited for once."""
         self.look()
         lsn, end = reached(commit), time.monotonic() + PATIENCE
-        while (found := self.at(relation, lsn)) is None and self.is_to_come(lsn):
+        while (found := self.exact(relation, lsn)) is None and self.is_to_come(lsn):
             self.check()
             if time.monotonic() > end:
                 self.waited = self.stamp
                 break
             time.sleep(OFTEN)
             self.look()
-        return found
+        return found or self.nearest(relation, lsn)
 
     def is_to_come(self, lsn: int) -> bool:
         return self.lsn < lsn and self.stamp not in (None, self.waited)

@@ -52,15 +52,15 @@ BUGS = (
     Bug(
         "a definition gets what is known of other columns",
         "pgsub_feed/column_types.py",
-        "fitting = [it for it in entries if it.fits(relation.shape.columns)]",
-        "fitting = list(entries)",
+        "return at([it for it in self.entries.get(relation.oid, ()) if it.known == columns], lsn)",
+        "return at(self.entries.get(relation.oid, []), lsn)",
         ("test_column_types",),
     ),
     Bug(
         "a commit gets what was found later",
         "pgsub_feed/column_types.py",
-        "before = [it for it in fitting if it.since <= lsn]",
-        "before = fitting",
+        "before = [it for it in entries if it.since <= lsn]",
+        "before = entries",
         ("test_column_types",),
     ),
     Bug(

@@ -202,7 +202,8 @@ class Answers(TypesCase):
         known = KnownTypes()
         known.take((self.path / "types").read_bytes())
         shape = Shape("d", tuple(Column(name, kind, -1, False) for name, kind, _ in columns))
-        return known.at(Relation(1, "public", "stock", shape), lsn)
+        found = Relation(1, "public", "stock", shape)
+        return known.of(found, Passed(lsn, 0, 0, 0))
 
     def test_what_was_known_last_at_an_lsn(self) -> None:
         self.look(of_catalog(), lsn=0x200)
@@ -218,8 +219,8 @@ class Answers(TypesCase):
         self.look(of_catalog([ID]), lsn=0x200)
         self.look(of_catalog(), lsn=0x300)
         self.assertEqual(self.at(0x250), types_of())
-        self.assertEqual(self.at(0x400, [ID]), types_of())
-        self.assertEqual(self.at(0x250, [ID]), types_of([ID]))
+        self.assertEqual(self.at(0x400, [ID]), types_of([ID]))
+        self.assertEqual(self.at(0x400, [ID, ENUM]), types_of())
         self.assertIsNone(self.at(0x400, [*ALL, ("gone", 25, ColumnType("text"))]))
         self.assertIsNone(self.at(0x400, [("id", 20, ColumnType("bigint"))]))
 
@@ -277,6 +278,17 @@ class Reading(TypesCase):
 
         with mock.patch("pgsub_feed.column_types.time.sleep", look):
             self.assertEqual(self.read()[-1].changes[0].table.types, types_of([ID]))
+
+    def test_a_dropped_column_is_looked_at(self) -> None:
+        """What was known of more columns may be old."""
+        self.look(of_catalog([ID, ENUM]))
+        self.feed.commit(0x200, [insert("1", of=defined([ID]))])
+
+        def look(_: float) -> None:
+            self.look(of_catalog([ID], primary=()), lsn=0x300)
+
+        with mock.patch("pgsub_feed.column_types.time.sleep", look):
+            self.assertEqual(self.read()[-1].changes[0].table.types, types_of([ID], ()))
 
     def test_a_look_that_never_comes_is_waited_for_once(self) -> None:
         self.file.begin()

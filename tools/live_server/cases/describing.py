@@ -40,10 +40,11 @@ TABLE = (
     " d dear, y moody, t timestamptz(3) NOT NULL DEFAULT now(), PRIMARY KEY (a, b))"
 )
 ROW = "INSERT INTO {} VALUES ({}, 'k', 'ok', '{{sad,NULL}}', '{{a}}', 1.5, 2.5, 'sad')"
-# What the information schema says of the columns of a table: the name of each, whether it may be
-# null, and the type that a domain is of. (Its `numeric` has no scale.)
+BASES = {"p": "numeric(10,2)", "d": "numeric(10,2)", "y": "public.mood"}
+# What the information schema says of the columns of a table: the name of each, and whether it may
+# be null.
 COLUMNS = (
-    "SELECT json_agg(json_build_array(column_name, is_nullable = 'NO', domain_name IS NOT NULL, data_type))"
+    "SELECT json_agg(json_build_array(column_name, is_nullable = 'NO'))"
     " FROM information_schema.columns WHERE table_schema = 'public' AND table_name = '{}'"
 )
 LABELS = (
@@ -100,13 +101,11 @@ class Reader:
 
 def compare(place: Place, table: str, columns: dict[str, Any], primary: list[str]) -> None:
     labels = json.loads(place.value(LABELS.format(table)) or "{}")
-    for name, not_null, is_domain, kind in json.loads(place.value(COLUMNS.format(table))):
-        said_name, said_not_null, said_labels, base = columns[name]
-        expected = (not_null, labels.get(name, ["a"] if name == "x" else []), is_domain)
-        if (said_not_null, said_labels, base is not None) != expected:
+    for name, not_null in json.loads(place.value(COLUMNS.format(table))):
+        _, said_not_null, said_labels, base = columns[name]
+        expected = (not_null, labels.get(name, ["a"] if name == "x" else []), BASES.get(name))
+        if (said_not_null, said_labels, base and base[0]) != expected:
             raise Failed(f"{table}.{name}: {columns[name]} in place of {expected}")
-        if is_domain and not base[0].replace("public.mood", "USER-DEFINED").startswith(kind):
-            raise Failed(f"{table}.{name}: a domain of {base} in place of {kind}")
     names = {name: it[0] for name, it in columns.items()}
     if names != names_of(place, table):
         raise Failed(f"{table}: {names} in place of {names_of(place, table)}")
