@@ -128,6 +128,17 @@ class Probes(unittest.TestCase):
         self.progress.findings.note_adding({"s.u": "waits"})
         self.fails("\n  table s.u (7) joined: its rows are being copied: wait for that\n")
 
+    def test_an_altered_table_that_comes_anew(self) -> None:
+        """Nobody is told to do what is being done, unless another table was altered, too."""
+        text = "column a of public.t (16426) was added: rows that were there have nulls in it"
+        other = text.replace("public.t (16426)", "public.t2 (16427)")
+        self.progress.findings.note_adding({"public.t (16426)": "5001 rows, 10040 a second"})
+        self.progress.findings.note({"values": f"{text}; {text}"})
+        self.fails(f"\n  {text}; {text}: its rows are being copied: wait for that\n")
+        for more in (other, "and 3 more"):
+            self.progress.findings.note({"values": f"{text}; {more}"})
+            self.fails(f"{more}: `pgsub-connect add --store /s/copy.db --table T`, or")
+
     def test_a_follower_that_ended_says_how_it_goes_on(self) -> None:
         again = "`pgsub-connect follow --store /s/copy.db`, with its --dsn, goes on\n"
         self.status["state"] = "stopped"

@@ -106,12 +106,21 @@ def of_findings(status: dict[str, Any]) -> Iterator[Fault]:
         cure = UNWATCHED_CURE.format(store=store)
         yield Fault("the server wasn't watched all the time", f"{text}: {cure}")
     if found:
-        cures = dict(CURES, publication=ADDED) if status.get("adding") else CURES
+        cures = CURES | going_cures(found, status.get("adding") or {})
         texts = []
         for kind, text in sorted(found.items()):
             cure = cures.get(kind, COMPARED).format(store=store, kind=kind)
             texts.append(f"{kind}: {text}: {cure}" if len(found) > 1 else f"{text}: {cure}")
         yield Fault(f"the copy may be wrong: {', '.join(sorted(found))}", "\n".join(texts))
+
+
+def going_cures(found: dict[str, str], adding: Mapping[str, str]) -> dict[str, str]:
+    """What is to be done about what the follower itself is at."""
+    if not adding:
+        return {}
+    texts = found.get("values", "").split("; ")
+    is_whole = all(any(table in it for table in adding) for it in texts)
+    return dict.fromkeys(("publication", *(["values"] if is_whole else [])), ADDED)
 
 
 def of_tables(status: dict[str, Any]) -> Iterator[Fault]:
