@@ -59,6 +59,9 @@ PLACEHOLDER = re.compile(
 PARTS = ("src", "specs", "proofs", "must-fail", "mutants")
 OPTION = re.compile(r"(?<![\w-])--[a-z][a-z0-9-]*")
 LONG = re.compile(r"\.long\(\s*\"([a-z0-9-]+)\"")
+# The schemes of what sinks write to, in the connector.
+SCHEMES = re.compile(r"^SCHEMES = \{(.*?)^\}", re.M | re.S)
+SCHEME = re.compile(r'"([a-z+]+)"[,)]')
 # what PROOFS says of the definitions behind the statement is said of these clauses
 THEOREM = "pgsub_core::follow.safe"
 CLAUSES = (
@@ -404,3 +407,20 @@ def check_copies(tree: Tree) -> list[str]:
     ):
         return []
     return [f"{copy}: it differs from first.pgx"]
+
+
+def check_told(tree: Tree) -> list[str]:
+    """The documents have each command of the connector, and FEED each scheme of a sink's URL."""
+    whole = "".join(tree.text(it) for it in tree.documents() if it in SHARES)
+    names = (re.fullmatch(r"connect/pgsub_connect/commands/(\w+)\.py", it) for it in tree.files)
+    commands = sorted(it[1] for it in names if it and not it[1].startswith("_"))
+    wrong = [
+        f"no document has pgsub-connect {it}"
+        for it in commands
+        if not re.search(rf"pgsub-connect {it}\b|`{it}`", whole)
+    ]
+    found = SCHEMES.search(tree.text("connect/pgsub_feed/sinks/connecting.py"))
+    schemes = SCHEME.findall(found[1]) if found else []
+    told = tree.text("docs/FEED.md")
+    wrong += [f"docs/FEED.md hasn't {it}://" for it in schemes if f"{it}://" not in told]
+    return wrong if commands and schemes else ["there are no commands, or no schemes"]

@@ -154,6 +154,28 @@ class Groups(Made):
         self.assertEqual(len(self.groups_wrong(tests + "- **Wire**: `low`, `high`.\n")), 1)
 
 
+class Told(Made):
+    """Each command of the connector, and each scheme of a sink."""
+
+    def told_wrong(self, readme: str, feed: str) -> list[str]:
+        for name in ("__init__", "follow", "wait"):
+            self.write(f"connect/pgsub_connect/commands/{name}.py", "")
+        schemes = 'SCHEMES = {\n    **dict.fromkeys(("redis", "rediss"), "redis"),\n    "kafka": "kafka",\n}\n'
+        self.write("connect/pgsub_feed/sinks/connecting.py", schemes)
+        self.write("README.md", readme)
+        self.write("docs/FEED.md", feed)
+        return checks.check_told(checks.Tree(self.top))
+
+    def test_all(self) -> None:
+        schemes = "redis://, rediss://, kafka://"
+        self.assertEqual(self.told_wrong("`pgsub-connect follow`", f"`wait`; {schemes}"), [])
+
+    def test_some(self) -> None:
+        found = self.told_wrong("pgsub-connect following", "`wait`, rediss://, kafka://h")
+        expected = ["no document has pgsub-connect follow", "docs/FEED.md hasn't redis://"]
+        self.assertEqual(sorted(set(found)), sorted(expected))
+
+
 # prints that a statement has one module
 STATEMENT = """#!/bin/sh
 echo "low.specs.Texts: 1 definitions, 2 lines"
