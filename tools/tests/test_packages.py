@@ -103,6 +103,15 @@ class Case(unittest.TestCase):
         self.assertIn("Thu, 01 Jan 1970 00:00:00 +0000", changes)
         self.assertIn("Linked into /usr/lib/pgsub/pgsub", (self.room / "copyright").read_text())
 
+    def test_what_sinks_need_is_suggested(self) -> None:
+        """Each library that is imported once it is needed is of a package that is named."""
+        told = " ".join(re.findall(r"Suggests: (.*)", packages.CONTROL))
+        texts = (it.read_text() for it in (TOP / "connect/pgsub_feed").rglob("*.py"))
+        found = {it for text in texts for it in re.findall(r'import_module\("(\w+)', text)}
+        self.assertEqual(found, {"redis", "confluent_kafka"})
+        for it in found:
+            self.assertIn(f"python3-{it.replace('_', '-')}", told.split(", "))
+
     def test_packages_made_in_the_checkout_are_no_change_of_it(self) -> None:
         for name, status in (
             ("pgsub_0.1.0+1.gabc_amd64.deb", 0),

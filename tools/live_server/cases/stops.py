@@ -187,15 +187,15 @@ def filter_killed(place: Place) -> None:
     place.equal()
 
 
-def disk_full(place: Place) -> None:
-    """A disk that is full passes: it goes on once there is room."""
+def disk_full(place: Place, *more: str) -> None:
+    """A disk that is full passes: it goes on once there is room, and that is told."""
     folder = place.small_disk(16)
     place.store, filler = folder / "copy.db", folder / "filler"
     place.run(
         "CREATE TABLE more (id int PRIMARY KEY, word text)",
         "CREATE PUBLICATION pgsub FOR TABLE more",
     )
-    place.follow("--create")
+    place.follow("--create", *more)
     fill(filler)
     place.run("INSERT INTO more SELECT it, repeat('y', 1000) FROM generate_series(1, 200) it")
     child = place.start()
@@ -207,14 +207,23 @@ def disk_full(place: Place) -> None:
         30,
     )
     filler.unlink()
-    if "store 8 Refused" in child.said() and "pgsub: the disk is full" not in child.said():
+    ends = ("store 8 Refused", "feed 3 Refused")
+    if any(it in child.said() for it in ends) and "pgsub: the disk is full" not in child.said():
         raise Failed(f"it doesn't tell that the disk is full: {child.said()}")
-    if not child.is_running():
+    try:
+        place.catch_up(child)
+    except Failed:
+        # (what the connector itself has to write may end it)
         place.has_ended(child, PASSING, "No space")
         child = place.start()
-    place.catch_up(child)
+        place.catch_up(child)
     child.stop()
     place.equal()
+
+
+def disk_full_of_a_feed(place: Place) -> None:
+    """So does one that has a feed, too."""
+    disk_full(place, "--feed", str(place.beside(".feed")))
 
 
 def fill(file: Path) -> None:
@@ -276,4 +285,5 @@ CASES = (
     Case("filter-killed-twice-in-a-transaction", filter_killed),
     Case("signal-twice", interrupted_twice),
     Case("disk-that-is-full", disk_full, root=True),
+    Case("disk-that-is-full-of-a-feed", disk_full_of_a_feed, root=True),
 )
