@@ -177,6 +177,7 @@ class Case(unittest.TestCase):
         status, _, err = self.run_it("--build")
         self.assertEqual(status, 126)
         self.assertIn("it is broken", err)
+        self.assertRegex(err, "building failed; the whole log is /\\S+\\n")
         self.assertEqual(self.run_it("a")[1], "first a\n")
         self.program.unlink()
         self.assertEqual(self.run_it("a")[:2], (126, ""))
