@@ -71,6 +71,8 @@ class KnownTypes:
     def __init__(self) -> None:
         self.lsn = 0
         self.entries = dict[int, list[Entry]]()
+        # by OID: a definition, and what is known of it from an LSN on
+        self.newest = dict[int, tuple[Relation, int, TableTypes]]()
 
     def take(self, content: bytes) -> None:
         """Takes what a file says. A ValueError or a KeyError says that it is none."""
@@ -85,12 +87,20 @@ class KnownTypes:
             if "table" in said:
                 entries.setdefault(json_texts.oid_of(said["table"]), []).append(entry_of(said))
         self.lsn, self.entries = parse_lsn(json_texts.text_of(head["lsn"])), entries
+        self.newest.clear()
 
     def exact(self, relation: Relation, lsn: int) -> TableTypes | None:
         """What was known last at an LSN of a table with just these columns, or first after it; None
         where nothing is."""
+        known = self.newest.get(relation.oid)
+        if known and known[0] is relation and known[1] <= lsn:
+            return known[2]
         columns = known_of(relation)
-        return at([it for it in self.entries.get(relation.oid, ()) if it.known == columns], lsn)
+        entries = [it for it in self.entries.get(relation.oid, ()) if it.known == columns]
+        found = at(entries, lsn)
+        if found and entries[-1].since <= lsn:
+            self.newest[relation.oid] = relation, lsn, found
+        return found
 
     def nearest(self, relation: Relation, lsn: int) -> TableTypes | None:
         """The same where it had these columns and more: as where the catalog is newer, or a

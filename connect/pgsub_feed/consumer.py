@@ -96,6 +96,8 @@ class Build:
 
     def __init__(self, tables: Iterable[str], types: KnownTypes) -> None:
         self.names, self.types = tuple(tables), types
+        # by OID the last definition, and what was made of it
+        self.last = dict[int, tuple[Relation, Relation]]()
         self.chosen, self.cleared = Chosen(self.names), set[int]()
 
     def __call__(self, commit: commits.Commit, parts: Iterable[commits.Part]) -> Commit:
@@ -120,7 +122,11 @@ class Build:
     def typed(self, relation: Relation, commit: commits.Commit) -> Relation:
         """A definition with what the catalog said of it."""
         types = self.types.of(relation, commit)
-        return dataclasses.replace(relation, types=types) if types else relation
+        before, made = self.last.get(relation.oid, (None, relation))
+        if before is not relation or made.types is not types:
+            made = dataclasses.replace(relation, types=types)
+            self.last[relation.oid] = relation, made
+        return made
 
     def clear(self, commit: commits.Commit, relation: Relation) -> list[Truncate]:
         if commit.base == 0:

@@ -52,8 +52,8 @@ BUGS = (
     Bug(
         "a definition gets what is known of other columns",
         "pgsub_feed/column_types.py",
-        "return at([it for it in self.entries.get(relation.oid, ()) if it.known == columns], lsn)",
-        "return at(self.entries.get(relation.oid, []), lsn)",
+        "entries = [it for it in self.entries.get(relation.oid, ()) if it.known == columns]",
+        "entries = self.entries.get(relation.oid, [])",
         ("test_column_types",),
     ),
     Bug(
@@ -61,6 +61,13 @@ BUGS = (
         "pgsub_feed/column_types.py",
         "before = [it for it in entries if it.since <= lsn]",
         "before = entries",
+        ("test_column_types",),
+    ),
+    Bug(
+        "a commit gets what was found before the last look",
+        "pgsub_feed/column_types.py",
+        "if found and entries[-1].since <= lsn:",
+        "if found:",
         ("test_column_types",),
     ),
     Bug(

@@ -254,6 +254,18 @@ class Reading(TypesCase):
         self.assertEqual(python["price"], decimal.Decimal("9.50"))
         self.assertEqual(python["mood"], "ok")
 
+    def test_each_commit_has_those_of_its_time(self) -> None:
+        self.look(of_catalog([ID]))
+        self.look(of_catalog([ID], ()), lsn=0x250)
+        self.look(of_catalog([ID]), lsn=0x450)
+        for end in (0x200, 0x300, 0x400, 0x500, 0x600):
+            self.feed.commit(end, [insert("1", of=defined([ID]))])
+        found = [it.changes[0].table.types for it in self.read()[1:]]
+        first, other = types_of([ID]), types_of([ID], ())
+        self.assertEqual(found, [first, other, other, first, first])
+        # (what is the same is made once)
+        self.assertIs(found[1], found[2])
+
     def test_first_rows_have_them(self) -> None:
         self.look(of_catalog(), lsn=0x40)
         rows = [(defined(), ("1", "ok", "{}", "9.50"))]
