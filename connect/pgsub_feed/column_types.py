@@ -3,8 +3,25 @@ server's catalog: the names of types, the labels of enumerations, what domains a
 are never null, and primary keys.
 
 They are in the file `FOLDER/types`, which is replaced as a whole: a head, and a line for each table
-and each time from which on it was found so. A commit that came before the look at the server by
-which it is described is given once that was taken.
+and each time from which on it was found so.
+
+    {"types":1,"lsn":"0/1959000"}
+    {"table":16384,"from":"0/1958B68","primary":["id"],"columns":[{"name":"m","oid":16390,
+     "modifier":-1,"type":"public.mood","not_null":false,"labels":["sad","ok"]},..]}
+
+| Field | Means |
+|---|---|
+| `lsn` | of commits up to there all is known: the follower has looked since |
+| `table`, `from` | the OID of a table, and the LSN of the look that found it so |
+| `until` | that of a look by which it wasn't published any more |
+| `primary` | the columns of its primary key, in the key's order; none where that is deferrable |
+| `name`, `oid`, `modifier` | a column, as its definition has it |
+| `type` | as `format_type` prints it, with the schema of any that isn't PostgreSQL's own |
+| `not_null` | whether it is never null |
+| `labels` | those of an enumeration, in order, or of the one that an array's elements are |
+| `base` | what a domain is of at the end: the type's name, OID and modifier |
+
+A commit with a definition that isn't there yet is given once the follower has looked.
 """
 
 from __future__ import annotations

@@ -105,6 +105,9 @@ TYPES = (
     Typed("oid", "(random() * 4e9)::int8::oid", PLAIN),
     Typed("tsvector", "to_tsvector('simple', md5(random()::text) || ' a')", PLAIN),
     Typed("mood", "(ARRAY['calm', 'it''s fine'])[1 + (random() * 1)::int]::mood", PLAIN),
+    Typed("mood[]", "ARRAY['calm', NULL, 'it''s fine']::mood[]", "array_to_json({}::text[])::text", same, json.loads),
+    Typed("price", "random() * 1000", "{}::numeric::text", lambda it: scaled(whole(it), 2)),
+    Typed("several", "ARRAY[(random() * 1000)::int, NULL]", "array_to_json({}::int[])::text", same, json.loads),
     Typed("int[]", "ARRAY[(random() * 1000)::int, NULL]", LIST, same, json.loads),
     Typed("text[]", "ARRAY['a,b', NULL, '\"', '', 'NULL', E'\\\\', random()::text]", LIST, same, json.loads),
     Typed("boolean[]", "ARRAY[random() < 0.5, NULL]", LIST, same, json.loads),
@@ -119,6 +122,9 @@ NAMES = [f"c{at}" for at in range(len(TYPES))]
 COLUMNS = ", ".join(f"{name} {it.kind}" for name, it in zip(NAMES, TYPES))
 SCHEMA = (
     "CREATE TYPE mood AS ENUM ('calm', 'it''s fine')",
+    "CREATE DOMAIN cost AS numeric(8, 2)",
+    "CREATE DOMAIN price AS cost CHECK (value >= 0)",
+    "CREATE DOMAIN several AS int[]",
     f"CREATE TABLE typed (id int PRIMARY KEY, {COLUMNS})",
     "CREATE TABLE bag (word text, n int)",
     "ALTER TABLE bag REPLICA IDENTITY FULL",
