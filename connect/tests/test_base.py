@@ -47,6 +47,7 @@ from .feeds import STOCK, FeedCase, insert, table, truncate, update
 from .test_consumer import CONNECT, EXAMPLE, OTHER, random_lines
 from .test_copying import POINT, STOCK as COPIED
 from .test_first_rows import EMPTY, KINDS, NOTHING, Case, frames
+from .vectors import logged
 
 P = 0x100
 NONE = table(3, "none")
@@ -369,6 +370,14 @@ class Tables(BaseCase):
         self.assertEqual(self.kept("sales.other"), [(it, None) for it in range(5)])
         self.assertEqual(self.kept("none"), [])
 
+    def test_how_far_it_is(self) -> None:
+        self.make(100, room=10, least=10)
+        with logged() as lines, mock.patch("pgsub_feed.log.WRITTEN", -1.0):
+            self.follow()
+        told = [it for it in lines if "making the tables: " in it]
+        self.assertGreater(len(told), 3)
+        self.assertRegex(told[-1], r"making the tables: 200 of 200 rows, \d+ a second")
+
     def test_chosen_tables(self) -> None:
         self.make()
         self.follow(table=["stock"])
@@ -482,6 +491,13 @@ class Sinks(BaseCase):
         other = [[str(it), None] for it in range(100)]
         self.assertEqual(self.base_of(), (P, {"stock": stock, "other": other, "none": []}))
         self.assertEqual(self.base_of("stock"), (P, {"stock": stock}))
+
+    def test_how_far_it_is(self) -> None:
+        self.make(1500)
+        with logged() as lines, mock.patch("pgsub_feed.log.WRITTEN", -1.0):
+            self.base_of("stock")
+        self.assertEqual(len(lines), 2)
+        self.assertRegex(lines[-1], r"writing public.stock \(1\): 1000 rows, \d+ a second")
 
     def test_none(self) -> None:
         with self.assertRaisesRegex(Unfit, "there may be rows from before"):

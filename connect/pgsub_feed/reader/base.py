@@ -238,6 +238,10 @@ class BaseFiles:
         for file in self.files():
             yield from file.sections()
 
+    def count(self) -> int:
+        """How many rows there are, by the heads of the files."""
+        return sum(it.head.rows for it in self.files())
+
     def spans(self, check: Check) -> list[tuple[Relation, Span]]:
         """Where the rows of each definition are."""
         found, known = [], dict[bytes, Relation]()

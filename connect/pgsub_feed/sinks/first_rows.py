@@ -56,8 +56,13 @@ class OfFeed(Base):
         return [it for it in found if self.chosen(it)]
 
     def rows(self, relation: Relation) -> Iterator[Cells]:
-        for told, span in self.parts[relation.oid]:
-            yield from self.files.rows(told, span)
+        meter = Meter(f"writing {relation.text()}")
+        spans = self.parts[relation.oid]
+        rows = (row for told, span in spans for row in self.files.rows(told, span))
+        for done, row in enumerate(rows):
+            if done % NOTED == 0:
+                meter.note(done)
+            yield row
 
 
 def numbered(base: Base, relations: Iterable[Relation]) -> Iterator[tuple[Relation, int, Cells]]:

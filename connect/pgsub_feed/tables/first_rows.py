@@ -12,6 +12,7 @@ from ..errors import FileError, Passing, Unfit
 from ..files import copy, own_name, placed, remove
 from ..interruption import Check
 from ..known_tables import KnownTables
+from ..log import Meter
 from ..ownership import real
 from ..reader.base import BaseFiles, base_of_feed
 from ..reader.commits import Head
@@ -111,8 +112,11 @@ def fill(new: str, files: BaseFiles, form: str, check: Check, keys: KnownTables 
     try:
         applier = Applier(rows, check)
         rows.begin()
+        meter, total = Meter("making the tables"), files.count()
+        meter.note(0, total)
         while commit := sections.next():
             applier.apply(commit, sections.inserts())
+            meter.note(sections.n + commit.changes, total)
         applier.finish()
         rows.settle(files.lsn)
         is_orderly = True
