@@ -1,6 +1,7 @@
 """Reads a feed of commits: `read` gives them to a program of one's own, with what is in `changes`.
 
-`reader` has a feed's folder, lines and commits, `relation` and `changes` what is in them;
+`reader` has a feed's folder, lines and commits, `relation` and `changes` what is in them,
+`column_types` and `known_tables` what the server's catalog says beside that;
 `pipe` carries it to other hosts, `tables` keeps tables of SQLite that follow a feed, `sinks` Redis,
 NATS and Kafka, and `formats`, `debezium` and `undo` are texts of commits, which `command` prints.
 `errors` says why something ends.

@@ -91,6 +91,14 @@ class TypesCase(FeedCase):
             self.remembered.look(found)
         self.file.write()
 
+    def make_first_rows(self) -> None:
+        self.look(of_catalog(), lsn=0x40)
+        rows = [(defined(), ("1", "ok", "{}", "9.50"))]
+        make_base(self.path, 0x40, [defined()], rows)
+        (self.path / f"{0:016X}").unlink()
+        self.feed = Writer(self.path, 0x40)
+        self.feed.commit(0x200)
+
     def written(self) -> list[dict[str, Any]]:
         return [json.loads(it) for it in (self.path / "types").read_text().splitlines()]
 
@@ -267,12 +275,7 @@ class Reading(TypesCase):
         self.assertIs(found[1], found[2])
 
     def test_first_rows_have_them(self) -> None:
-        self.look(of_catalog(), lsn=0x40)
-        rows = [(defined(), ("1", "ok", "{}", "9.50"))]
-        make_base(self.path, 0x40, [defined()], rows)
-        (self.path / f"{0:016X}").unlink()
-        self.feed = Writer(self.path, 0x40)
-        self.feed.commit(0x200)
+        self.make_first_rows()
         changes = self.read(after=0)[0].changes
         self.assertEqual([it.table.types for it in changes], [types_of(), types_of()])
 
@@ -350,6 +353,11 @@ class Elsewhere(PipeCase, TypesCase):
         self.feed.commit(0x300, [insert("2", of=defined([ID])), delete("2", of=defined([ID]))])
         found = [it.table.types for commit in self.read() for it in commit.changes]
         self.assertEqual(found, [types_of([ID])] * 3)
+
+    def test_first_rows_have_them(self) -> None:
+        self.make_first_rows()
+        changes = self.read(after=0)[0].changes
+        self.assertEqual([it.table.types for it in changes], [types_of(), types_of()])
 
     def test_what_is_new_comes_before_its_commit(self) -> None:
         self.look(of_catalog([ID]))
