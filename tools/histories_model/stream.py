@@ -278,7 +278,7 @@ class Session:
         """Goes on with the transaction that commits next."""
         transaction = self.history[index]
         plan, as_blocks = self.plans[index]
-        time = self.values.signed(64)
+        time = self.time_of(index)
         if not as_blocks:
             self.place = "pair"
             self.data(wire.begin(transaction.lsn, time, transaction.xid))
@@ -296,6 +296,10 @@ class Session:
                     index,
                     wire.stream_commit(transaction.xid, transaction.lsn, transaction.end, time),
                 )
+
+    def time_of(self, index):
+        """When a transaction was committed. What a subscriber does is the same whenever it was."""
+        return self.values.signed(64)
 
     def complete(self, index, body):
         self.place = None

@@ -12,14 +12,17 @@ from pathlib import Path
 from unittest import mock
 
 from built import TOP
+from watches_model import repeat_bugs, repeating, set_back
 from watches_model.bugs import BUGS, Watcher
 from watches_model.by_bytes import ROW
 from watches_model.cases import STREAMS, Found, made, planted, unbroken
+from watches_model.comparing import Compared
 from watches_model.edits import EDITS
 from watches_model.frames import abort, block, insert, keepalive, next_block, relation
 from watches_model.frames import stream_commit
 from watches_model.judging import RULES, judged
 from watches_model.nesting import Entry, misfit, survivors
+from watches_model.past import Commit
 from watches_model.printed import session_difference
 
 from .scripts import loaded
@@ -154,6 +157,52 @@ class Model(unittest.TestCase):
             self.assertIsNotNone(session_difference(changed, judged(content, 2)))
 
 
+class Repeats(unittest.TestCase):
+    def test_what_is_expected_of_streams(self) -> None:
+        """By the model, which isn't where that is from."""
+        live = repeat_bugs.Program().live
+        self.assertEqual(
+            [set_back.difference(it, live) for it in set_back.STREAMS[::3]], [None] * 27
+        )
+
+    def test_there_are_ten_streams_for_each_kind(self) -> None:
+        counts = Counter(it.told for it in set_back.STREAMS)
+        self.assertEqual(sum(counts.values()), 10 * len(set_back.KINDS))
+        self.assertGreaterEqual(min(counts.values()), 10)
+        self.assertEqual(len({it.shows for it in set_back.STREAMS}), len(set_back.STREAMS))
+
+    def test_histories_repeat_and_lose_and_are_set_back(self) -> None:
+        """Commits come again, whole and streamed, a crash loses what is noted, and others come."""
+        equal, told, lost = 0, 0, 0
+        for name in repeating.names("1", 60):
+            made, model = repeating.repeated(name), repeating.Model()
+            for life, word in zip(made.lives, made.words):
+                lines = model.lines(life, word)
+                equal += int(lines[-1].split()[2])
+                told += len(lines) > 2
+                lost += word == repeating.LOST
+                self.assertTrue(len(lines) == 2 or not made.is_well, name)
+        self.assertGreater(min(equal, told, lost), 5)
+
+    def test_records_that_a_crash_has_lost(self) -> None:
+        """The front of them is right, too."""
+        made = [Commit(it.end, it.lsn, it.xid, 0, (1, 7)) for it in set_back.HISTORY]
+        compared = Compared(made[:50])
+        self.assertEqual([compared.hear(it) for it in made[40:]], [None] * (len(made) - 40))
+        self.assertEqual((compared.equal, len(compared.past.noted)), (10, len(made)))
+
+    def test_more_than_is_noted_and_held(self) -> None:
+        compared = Compared(limit=3, held=2)
+        one, rest = set_back.HISTORY[0], set_back.HISTORY[1:6]
+        for it in rest:
+            frames = it._replace(changes=it.changes[:2]).whole()
+            self.assertEqual([repeating.taken(compared, it) for it in frames], [None] * len(frames))
+        self.assertEqual((compared.past.forgotten, len(compared.past.noted)), (2, 3))
+        for frame in one.whole():
+            self.assertIsNone(repeating.taken(compared, frame))
+        self.assertEqual((compared.past.forgotten, len(compared.past.noted)), (5, 0))
+
+
 class Tool(unittest.TestCase):
     def run_it(self, *words: str) -> tuple[int, list[str]]:
         with contextlib.redirect_stdout(io.StringIO()) as out:
@@ -192,8 +241,21 @@ class Tool(unittest.TestCase):
 
     def test_each_planted_bug_is_found(self) -> None:
         status, lines = self.run_it("--planted", "--count", "60")
-        self.assertEqual((status, lines[-1]), (0, f"{len(BUGS) + 1} passed, 0 failed"))
-        self.assertEqual(lines[-2], "no bug: nothing differs")
+        bugs = len(BUGS) + len(repeat_bugs.BUGS) + 2
+        self.assertEqual((status, lines[-1]), (0, f"{bugs} passed, 0 failed"))
+        self.assertIn("no bug: nothing differs", lines)
+        self.assertEqual(lines[-2], "no bug in comparing: nothing differs")
+
+    def test_lives_that_repeat_commits(self) -> None:
+        """Each kind of history, by a program without a bug, and by one that tells of no other
+        commits."""
+        for program, status in ((repeat_bugs.Program(), 0), (repeat_bugs.BUGS[0], 1)):
+            by = mock.patch.object(watches, "live", lambda _, *it, by=program: by.live(*it))
+            with by, tempfile.TemporaryDirectory() as room:
+                words = "--program", "/bin/true", "--keep", room, "--only"
+                told = [self.run_it(*words, f"{it}-1-0") for it in "rb"]
+            self.assertEqual(max(it for it, _ in told), status)
+            self.assertEqual([len(lines) for _, lines in told if lines], [2, 2 + status])
 
     def test_each_kind_of_edit_is_made(self) -> None:
         kinds = {kind for number in range(10) for kind, _, _ in made(f"w-1-{number}").sessions}
