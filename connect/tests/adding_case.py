@@ -15,6 +15,7 @@ from typing import Any
 from unittest import mock
 
 from pgsub_connect.add import adder, requests
+from pgsub_connect.drift.findings import REPEAT, UNWATCHED
 from pgsub_connect.drift.remembered import Remembered
 from pgsub_connect.follow import drift_watch, filter_life, follower, schedule, session, upkeep
 from pgsub_connect.follow.follower import Follower
@@ -23,6 +24,7 @@ from pgsub_connect.follow.snapshots import Snapshots
 from pgsub_connect.server import libpq
 from pgsub_connect.status.progress import Progress
 from pgsub_connect.store.checkpoint import Checkpoint, read_known
+from pgsub_connect.store.repeats_file import RepeatsFile
 from pgsub_connect.stream import statuses
 from pgsub_connect.stream.filter import Filter
 from pgsub_feed.texts import lsn_text
@@ -90,6 +92,7 @@ class Run:
         sizes: dict[str, Any] = {"max_buffered": 1 << 26, "max_frame": 1 << 24, **options}
         most = sizes["max_buffered"]
         self.filter = Filter([*words, "--max-buffered", str(most)], (self.checkpoint.file,))
+        self.filter.note_repeats(RepeatsFile(case.store, self.checkpoint, lambda: ["pgsub"]))
         self.progress, self.remembered = Progress(), Remembered(case.store)
         if self.remembered.catalog is None:
             self.remembered.begin_copy(
@@ -277,3 +280,5 @@ class Case(Quiet):
             ),
             (0, {}, {}),
         )
+        # (no commit is taken for another one, whatever was left out of it meanwhile)
+        self.assertEqual({REPEAT, UNWATCHED} & set(Remembered(self.store).found), set())

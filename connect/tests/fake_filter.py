@@ -2,7 +2,7 @@
 """A filter in the place of `pgsub follow`: it stores nothing but its position, and says what the
 tests ask it to.
 
-usage: fake_filter follow --store FILE [--load] [--proto N] [--feed FOLDER --feed-system TEXT --feed-database TEXT --feed-slot TEXT] ..
+usage: fake_filter follow --store FILE [--load] [--proto N] [--feed FOLDER --feed-system TEXT --feed-database TEXT --feed-slot TEXT] [--repeats FILE] ..
 
 The file holds the position as text. Of a commit the feed has the line alone. A Delete finds no row,
 and anything else does. Each table of a load is a part. FAKE_FILTER in its first line's place: a file FILE.says may hold one of
@@ -35,6 +35,7 @@ if TYPE_CHECKING:
     from collections.abc import Iterator
 
     from feed_text import Writer
+    from .noted_commits import NotedCommits
 
 # The signal that can't be handled.
 KILL = 9
@@ -186,6 +187,18 @@ class Fake:
             self.status()
 
 
+def noted_of(words: list[str]) -> NotedCommits | None:
+    """What is to note commits."""
+    if "--repeats" not in words:
+        return None
+    from importlib import import_module
+
+    path = words[words.index("--repeats") + 1]
+    sys.path.append(os.path.dirname(os.path.abspath(__file__)).removesuffix("/__pycache__"))
+    found: NotedCommits = import_module("noted_commits").NotedCommits(path)
+    return found
+
+
 def said(store: str) -> list[str]:
     if not os.path.exists(store + ".says"):
         return []
@@ -211,6 +224,7 @@ def main(words: list[str]) -> int:
         if not fake.open_feed(folder, (named[0], named[1], named[2])):
             print("pgsub: feed 1 NotAFeed", file=sys.stderr, flush=True)
             return 3
+    noted = noted_of(words)
     if says[:1] == ["slow"]:
         time.sleep(float(says[1]))
     if says[:1] == ["bytes"]:
@@ -221,8 +235,12 @@ def main(words: list[str]) -> int:
         if says[:1] == ["status"]:
             print(says[2], file=sys.stderr, flush=True)
             return int(says[1])
+        if noted:
+            noted.begin_session() if tag == b"c" else noted.take(payload)
         if tag == b"d":
             fake.take(payload)
+    if noted:
+        noted.end()
     return MISSED if fake.count else 0
 
 

@@ -2,7 +2,7 @@
 """A filter in the place of `pgsub follow` that keeps rows, in a file of the store's format: for
 tests that compare rows.
 
-usage: row_filter follow --store FILE [--load] [--proto N] [--max-buffered N] [--max-frame N] ..
+usage: row_filter follow --store FILE [--load] [--proto N] [--max-buffered N] [--max-frame N] [--repeats FILE] ..
        row_filter dump --store FILE
 
 It is a plain reading of docs/PROTOCOL.md, slow, and checks no more than it needs to. The file
@@ -23,6 +23,8 @@ import sys
 TYPE_CHECKING = False
 if TYPE_CHECKING:
     from collections.abc import Iterator
+
+    from .noted_commits import NotedCommits
 
 # The signal that can't be handled.
 KILL = 9
@@ -375,7 +377,22 @@ def pieces(limit: int) -> Iterator[tuple[bytes, bytes]]:
             yield head[:1], payload
 
 
-def follow(store: Store, most: int, limit: int) -> None:
+def noted_of(words: list[str]) -> NotedCommits | None:
+    """What is to note commits."""
+    if "--repeats" not in words:
+        return None
+    from importlib import import_module
+
+    path = words[words.index("--repeats") + 1]
+    sys.path.append(os.path.dirname(os.path.abspath(__file__)).removesuffix("/__pycache__"))
+    try:
+        found: NotedCommits = import_module("noted_commits").NotedCommits(path)
+        return found
+    except (OSError, ValueError) as error:
+        raise Fault(3, f"pgsub: repeats: can't use {path}: {error}") from None
+
+
+def follow(store: Store, most: int, limit: int, noted: NotedCommits | None = None) -> None:
     subscriber = Subscriber(store, most)
 
     def status() -> None:
@@ -384,10 +401,14 @@ def follow(store: Store, most: int, limit: int) -> None:
 
     status()
     for tag, payload in pieces(limit):
+        if noted:
+            noted.begin_session() if tag == b"c" else noted.take(payload)
         if tag == b"c":
             subscriber.begin_session()
         elif subscriber.take(payload):
             status()
+    if noted:
+        noted.end()
 
 
 ESCAPES = {b"b": b"\b", b"f": b"\f", b"n": b"\n", b"r": b"\r", b"t": b"\t", b"v": b"\v"}
@@ -466,7 +487,7 @@ def main(words: list[str]) -> int:
             limit = value("--max-frame", 1 << 24)
             if "--load" in words:
                 load(store, limit)
-            follow(store, value("--max-buffered", 1 << 26), limit)
+            follow(store, value("--max-buffered", 1 << 26), limit, noted_of(words))
     except Fault as fault:
         print(fault, file=sys.stderr, flush=True)
         return fault.status

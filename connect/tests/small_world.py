@@ -136,20 +136,21 @@ class World:
 
 
 class WorldServer(SmallServer):
-    """A server on a socket that sends what is committed. `started`: from where each session began,
-    and with which options."""
+    """A server on a socket that sends what is committed. `started`: from where each session was
+    asked for, and with which options; `slot_at`: where its slot is, whatever is confirmed."""
 
     def __init__(self, folder: str, brain: FakeServer, world: World) -> None:
         self.world = world
         self.started: list[tuple[int, str]] = []
+        self.slot_at = 0
         super().__init__(folder, brain)
 
     def copy(self, peer: socket.socket) -> None:
         self.sessions += 1
         found = re.search(r"LOGICAL (\S+) \((.*)\)", self.brain.commands[-1])
         assert found
-        start = parse_lsn(found[1])
-        self.started.append((start, found[2]))
+        self.started.append((parse_lsn(found[1]), found[2]))
+        start = max(parse_lsn(found[1]), self.slot_at)
         peer.sendall(COPY_BOTH)
         ended, asked, sent, at = threading.Event(), threading.Event(), set[int](), 0
         world = self.world

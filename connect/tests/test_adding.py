@@ -144,6 +144,7 @@ class Added(Case):
 
     def test_requests_that_are_rejected(self) -> None:
         self.followed()
+        self.server.slot_at = self.world.end
         run = Run(self, max_buffered=10)
         self.assertTrue(run.until(lambda: run.progress.state == "following"))
         for asked, text in (

@@ -13,7 +13,7 @@ from unittest import mock
 from pgsub_connect import cli
 from pgsub_connect.commands import follow
 from pgsub_connect.commands.arguments.session import ACCEPTED
-from pgsub_connect.drift.findings import RULE, UNWATCHED
+from pgsub_connect.drift.findings import REPEAT, RULE, UNWATCHED
 from pgsub_connect.drift.remembered import Remembered
 from pgsub_connect.follow.follower import Follower
 from pgsub_connect.server.connection import Connection
@@ -45,7 +45,39 @@ STRANGE_TEXT = "what the filter said of it can't be read: rule 9 is new"
 THREE = [
     it for lsn in (0x100, 0x110, 0x120) for it in (begin(lsn, 7), insert(1), commit(lsn, lsn + 8))
 ]
-KINDS = {LINE: (RULE, TEXT), FULL: (UNWATCHED, FULL_TEXT), STRANGE: (UNWATCHED, STRANGE_TEXT)}
+# What is told of commits that came again.
+AGAIN_TEXT = "the commit that ends at 0/118 came before with another xid"
+AGAIN = f"pgsub: repeats: {AGAIN_TEXT}"
+LOST = "pgsub: repeats: not compared from 77 on: memory"
+LOST_TEXT = "commits that came again from the frame at byte 77 on: memory"
+UNKEPT = "pgsub: repeats: can't write /x/copy.db.repeats: not kept"
+UNKEPT_TEXT = (
+    "commits that come again after the filter's end: can't write /x/copy.db.repeats: not kept"
+)
+KINDS = {
+    LINE: (RULE, TEXT),
+    AGAIN: (REPEAT, AGAIN_TEXT),
+    FULL: (UNWATCHED, FULL_TEXT),
+    STRANGE: (UNWATCHED, STRANGE_TEXT),
+    LOST: (UNWATCHED, LOST_TEXT),
+    UNKEPT: (UNWATCHED, UNKEPT_TEXT),
+}
+
+
+CONTRADICTIONS = (
+    *(f"the commit that ends at 0/118 came before with another {it}" for it in ("LSN", "time")),
+    "the commit that ends at FFFFFFFF/FFFFFFF8 came before with another list of changes",
+    "the commit that ends at 0/118 wasn't between those that came before",
+    "the commit that ends at 0/118 came before and is left out",
+    "a commit's LSN 0/110 is below the end 0/118 of one that came before",
+)
+NOTED = (
+    "pgsub: repeats: 1 commits are noted, up to 0/118",
+    "pgsub: repeats: 0 commits are noted, up to 0/0",
+    "pgsub: repeats: 65536 commits are noted, up to 1/118, 2 records unreadable",
+)
+COUNTED = "pgsub: repeats: 3 equal, 0 unknown, 1 forgotten"
+UNUSABLE = "pgsub: repeats: can't use /x/copy.db.repeats: it is no file of noted commits"
 
 
 class Lines(unittest.TestCase):
@@ -58,6 +90,12 @@ class Lines(unittest.TestCase):
             ("pgsub: watch: ", UNWATCHED, None),
             ("pgsub: watch: rule 4 broken at 345: ", UNWATCHED, None),
             ("pgsub: watch: rule 1 broken at 3: more", UNWATCHED, None),
+            *((f"pgsub: repeats: {it}", REPEAT, it) for it in CONTRADICTIONS),
+            (LOST, UNWATCHED, LOST_TEXT),
+            (UNKEPT, UNWATCHED, UNKEPT_TEXT),
+            ("pgsub: repeats: ", UNWATCHED, None),
+            ("pgsub: repeats: the commit that ends at 0/118 is new", UNWATCHED, None),
+            ("pgsub: repeats: 3 equal, 4 unknown", UNWATCHED, None),
         ):
             told = told_of(line)
             assert told
@@ -65,8 +103,19 @@ class Lines(unittest.TestCase):
             self.assertIn(told.text, (text or told.text,))
 
     def test_others(self) -> None:
-        for line in ("pgsub: read", "pgsub: store 1 Clash", "", "pgsub: watched: no"):
+        said = "pgsub: read", "pgsub: store 1 Clash", "", "pgsub: watched: no", "pgsub: repeats"
+        for line in (*said, *NOTED, COUNTED, UNUSABLE):
             self.assertIsNone(told_of(line))
+
+    def test_what_is_noted_is_no_reason_of_an_end(self) -> None:
+        """The fault that it told before is."""
+        for line, end in zip(NOTED, (0x118, 0, 0x100000118)):
+            said = FilterSaid()
+            for it in (line, "pgsub: store 1 Clash", COUNTED):
+                said.hear(it)
+            self.assertEqual((said.noted, said.reason(1)), (end, "pgsub: store 1 Clash"))
+        said.hear(UNUSABLE)
+        self.assertEqual(said.reason(3), UNUSABLE)
 
     def test_the_reason_of_an_end(self) -> None:
         """After it has told of a rule, a filter says that it can't read more."""
@@ -163,18 +212,27 @@ class Ends(FollowCase):
 
     def test_at_the_first(self) -> None:
         """It has what came before, and tells what it was; the next start says it again."""
-        self.says(f"stops {0x118} {LINE}")
-        self.server.to_send = list(THREE)
+        for line in (LINE, AGAIN):
+            with self.subTest(line):
+                self.check_end(line, *KINDS[line])
+
+    def check_end(self, line: str, kind: str, text: str) -> None:
+        self.says(f"stops {0x118} {line}")
+        self.server.to_send, sessions = list(THREE), self.server.sessions + 1
         with self.assertRaises(Unfit) as raised:
             self.follower(strict=True).run()
-        told = f"the copy may be wrong .*--accept KIND.*\nrule: {TEXT}; nothing of that is stored"
+        told = f"the copy may be wrong .*--accept KIND.*\n{kind}: {text}; nothing of that is stored"
         self.assertRegex(str(raised.exception), told)
-        self.assertEqual((self.stored(), self.server.sessions), (0x108, 1))
-        self.assertEqual(len(self.lines_of(RULE)), 1)
+        self.assertEqual((self.stored(), self.server.sessions), (0x108, sessions))
+        self.assertEqual(len(self.lines_of(kind)), 1)
         self.assertEqual((self.progress.restarts, self.counted()), (0, self.checkpoint.counted))
         with self.assertRaisesRegex(Unfit, told):
             self.follower(strict=True).run()
-        self.assertEqual(self.server.sessions, 1)
+        self.assertEqual(self.server.sessions, sessions)
+        for suffix in ("", ".connector", ".tables"):
+            os.unlink(self.store + suffix)
+        self.said.clear()
+        self.server.forget()
 
     def test_whichever_is_seen_first(self) -> None:
         """The line, or that the filter has ended."""
@@ -269,7 +327,7 @@ class Words(FollowCase):
         self.assertEqual(self.command(*accepted), 0)
 
     def test_they_can_be_accepted(self) -> None:
-        self.assertLessEqual({RULE, UNWATCHED}, set(ACCEPTED))
+        self.assertLessEqual({RULE, REPEAT, UNWATCHED}, set(ACCEPTED))
 
 
 class Shown(FollowCase):
@@ -294,14 +352,15 @@ class Ending(unittest.TestCase):
     def test_which_kinds(self) -> None:
         for accept, strict, stops, ends in (
             ((), False, False, set[str]()),
-            ((), True, True, {"rule", "values", "missing"}),
-            (("rule",), True, False, {"values", "missing"}),
-            (("all",), True, False, {"values", "missing"}),
-            (("values",), True, True, {"rule", "values", "missing"}),
+            ((), True, True, {"rule", "repeat", "values", "missing"}),
+            (("rule",), True, False, {"repeat", "values", "missing"}),
+            (("all",), True, False, {"repeat", "values", "missing"}),
+            (("values", "repeat"), True, True, {"rule", "repeat", "values", "missing"}),
         ):
             tolerance = Tolerance(accept, strict)
             tolerance.end()
-            found = {it for it in (RULE, UNWATCHED, "values", "missing") if tolerance.ends_at(it)}
+            kinds = RULE, REPEAT, UNWATCHED, "values", "missing"
+            found = {it for it in kinds if tolerance.ends_at(it)}
             self.assertEqual((tolerance.stops, found), (stops, ends))
 
 

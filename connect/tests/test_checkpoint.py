@@ -149,9 +149,9 @@ class File(FileCase):
                     read_known(self.store + ".connector")
 
     def test_a_later_version(self) -> None:
-        with mock.patch("pgsub_connect.store.checkpoint_lines.VERSION", 4):
+        with mock.patch("pgsub_connect.store.checkpoint_lines.VERSION", 5):
             self.open().write(True, position=5)
-        with self.assertRaisesRegex(FileError, r"of another version of this program \(4\)"):
+        with self.assertRaisesRegex(FileError, r"of another version of this program \(5\)"):
             self.open_again()
 
     def test_too_long(self) -> None:

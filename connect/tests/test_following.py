@@ -778,10 +778,10 @@ class Fits(Case):
                 connection.version.return_value, connection.value.return_value = 170000, status
                 connection.run.side_effect = ServerError("no", sqlstate)
                 with self.assertRaises(ServerError) as raised:
-                    follower.start.start_replication(connection, server)
+                    follower.start.start_replication(connection, server, 0)
                 self.assertEqual(raised.exception.is_lasting(), lasts)
                 with self.assertRaises(ServerError) as raised:
-                    follower.start.start_replication(connection, self.server_now(1))
+                    follower.start.start_replication(connection, self.server_now(1), 0)
                 self.assertTrue(raised.exception.is_lasting())
 
     def follower_alone(self, **options: Any) -> Follower:

@@ -13,8 +13,9 @@ from pgsub_feed.texts import lsn_text, parse_lsn, shortened
 from ..server.catalog import Catalog, types_having
 
 NAMES, PUBLICATION, VALUES = "names", "publication", "values"
-# The server broke a rule of a well-formed one; it wasn't watched all the time.
-RULE, UNWATCHED = "rule", "unwatched"
+# The server broke a rule of a well-formed one; it sent other commits than before; it wasn't watched
+# all the time.
+RULE, REPEAT, UNWATCHED = "rule", "repeat", "unwatched"
 # How many texts of one kind are kept, but for the first one of each table.
 MOST = 100
 

@@ -10,7 +10,7 @@ from pgsub_feed.errors import Passing, Unfit
 from pgsub_feed.interruption import Check
 
 from ..drift.doubts import resolved, warnings
-from ..drift.findings import NAMES, RULE
+from ..drift.findings import NAMES, REPEAT, RULE
 from ..errors import ServerError
 from ..server.catalog import Catalog
 from ..server.catalog_reader import read_catalog
@@ -32,6 +32,8 @@ PART, LITTLE = 20, 0.005
 # For how many milliseconds a look waits for a lock. From 16 on the server opens each table for it.
 PATIENCE = 500
 LOCK_TIMEOUT = "55P03"
+# The kinds that a filter which is to be strict ends at.
+STOPPING = (RULE, REPEAT)
 
 
 class Watch:
@@ -55,6 +57,9 @@ class Watch:
         kinds = [it for it in found if self.tolerance.accepts(it)]
         self.checkpoint.accept(kinds)
         self.remembered.found.accept(kinds)
+        if REPEAT in kinds:
+            # (the server's commits are those that came last)
+            self.checkpoint.forget_repeats()
         if self.remembered.unsaved.is_urgent:
             self.remembered.save()
         self.note_kinds()
@@ -193,7 +198,7 @@ class Watch:
         ends the following later, where that is to be strict."""
         stays = "; nothing of that is stored" if self.tolerance.stops else ""
         for kind, text in told:
-            self.remembered.find(kind, position, text + (stays if kind == RULE else ""))
+            self.remembered.find(kind, position, text + (stays if kind in STOPPING else ""))
         # (the checkpoint can be written also where a disk is full)
         self.note_kinds()
         if self.remembered.unsaved.is_urgent:

@@ -10,11 +10,13 @@ from pgsub_feed.errors import FileError, Passing, Stopped
 from pgsub_feed.log import Meter
 from pgsub_feed.texts import counted
 
+from ..drift.findings import UNWATCHED
 from ..errors import FilterFault
 from ..stream.awake import Awake, Numbers, Served
 from ..stream.filter_end import BREACH, MISSED, FilterEnded
 from ..stream.memory_limit import BufferLimits, Kills, limit_text
 from ..stream.statuses import Confirming
+from ..stream.watch_lines import Told, is_unusable
 from .drift_watch import Watch
 from .feed import Feeding
 from .settings import Ending, StreamForm
@@ -78,6 +80,9 @@ class FilterLife:
             try:
                 return self.filter.start(check)
             except FilterEnded as ended:
+                if is_unusable(ended.said):
+                    self.note_unusable(ended.said)
+                    continue
                 if not ended.is_unopened():
                     raise
                 self.progress.note_restart(str(ended))
@@ -87,6 +92,16 @@ class FilterLife:
             )
             self.sleep(delay)
         raise AssertionError
+
+    def note_unusable(self, said: str) -> None:
+        """The file in which commits are noted can't be used: it is made anew, and where that can't
+        be none are noted."""
+        log.warning(said)
+        if self.watch.checkpoint.known.repeats:
+            self.watch.checkpoint.forget_repeats()
+        else:
+            self.filter.note_repeats(None)
+            self.watch.hear([Told(UNWATCHED, f"commits that come again: {said}")], 0)
 
     def sleep(self, seconds: float) -> None:
         until = time.monotonic() + seconds

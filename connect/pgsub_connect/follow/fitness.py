@@ -101,7 +101,8 @@ class Fitting:
             f"the server went on from the timeline {known.timeline} to {server.timeline} at {lsn_text(left or 0)}"
         )
         confirmed = min(known.confirmed, shared)
-        self.checkpoint.write(True, timeline=server.timeline, confirmed=confirmed)
+        # (nor is what a filter has noted above of this history)
+        self.checkpoint.write(True, timeline=server.timeline, confirmed=confirmed, repeats=0)
         self.watch.show()
         return shared
 

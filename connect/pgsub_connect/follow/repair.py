@@ -163,6 +163,8 @@ class Repairing:
             return
         lsn, clock = self.hold.point - 1, round((time.time() - EPOCH) * 1000000)
         self.hold.note_sent()
+        # (a session that begins below P might describe the tables otherwise)
+        self.checkpoint.forget_repeats()
         try:
             self.push([frame(lsn, begin(lsn, XID, clock)), *(frame(lsn, it) for it in first)])
             for lot in lots:

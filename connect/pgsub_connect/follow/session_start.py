@@ -8,6 +8,7 @@ from ..record.recording import Aside, Session as Recorded
 from ..server.connection import COPY_BOTH, Connection
 from ..server.session import Server, identify, is_lost, log_end, sender_timeout, settle
 from ..server.slot import lost_error
+from .comparing import Comparing
 from .fitness import Fitting
 from .requests import Requests
 from .settings import FollowSettings
@@ -33,6 +34,7 @@ class SessionStart:
         self.life = life = requests.upkeep.life
         self.filter, self.confirming, self.form = life.filter, life.confirming, life.form
         self.progress, self.ending = life.progress, life.ending
+        self.comparing = Comparing(life)
         self.was_connected = False
 
     def note_connected(self, was_connected: bool) -> None:
@@ -53,9 +55,11 @@ class SessionStart:
         self.progress.note_login(connection.version(), server.timeline)
         self.progress.server.note_start(server.started, server.is_standby)
         self.life.use_proto(self.form.choose(connection.version()))
-        at, slot_at = self.filter.confirmed(), self.fit(connection, server)
+        slot_at = self.fit(connection, server)
         self.prepare(connection)
-        self.start_replication(connection, server)
+        is_whole = not (self.requests.adder.leaving.points or self.form.skipping.is_pending)
+        at = self.comparing.begin_session(is_whole)
+        self.start_replication(connection, server, at)
         self.fitting.check_slot(self.confirming.position, self.ending.check_stop)
         # (what comes later isn't what was accepted)
         self.tolerance.end()
@@ -110,11 +114,10 @@ class SessionStart:
             self.ending.note_log_end(log_end(connection))
         self.schedule.begin_session(sender_timeout(connection))
 
-    def start_replication(self, connection: Connection, server: Server) -> None:
-        """Asks for the changes, which a standby without slots of its own rejects."""
+    def start_replication(self, connection: Connection, server: Server, at: int) -> None:
+        """Asks for the changes from an LSN on, which a standby without slots of its own rejects."""
         slot, store = self.subscription.slot, self.settings.store
-        at, publications = self.filter.confirmed(), self.subscription.publications
-        command = self.form.command(slot, publications, at)
+        command = self.form.command(slot, self.subscription.publications, at)
         try:
             connection.run(command, wanted=COPY_BOTH, limit=self.settings.silence)
         except ServerError as error:

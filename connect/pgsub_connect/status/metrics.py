@@ -12,7 +12,10 @@ from .state import Counted, StreamCounters
 
 GAUGE, COUNTER = "gauge", "counter"
 # The kinds of findings, and what the server says of a slot's log.
-KINDS = ("history", "slot", "names", "publication", "values", "rule", "unwatched", "missing")
+KINDS = (
+    *("history", "slot", "names", "publication", "values", "rule", "repeat", "unwatched"),
+    "missing",
+)
 WAL_STATUSES = ("reserved", "extended", "unreserved", "lost")
 
 Value = int | float | None

@@ -22,6 +22,8 @@ What is known of the store:
 | `adding` | where there are any: the OIDs of tables whose changes are left out until their rows are stored, as the module `add.replacement` says, each with the LSN at which these will be, 0 where that isn't known |
 | `encrypted` | connections were encrypted, so that none follows that isn't, unless somebody accepts it |
 | `tables` | the file of the tables that follow the store's feed, "" where there is none |
+| `repeats` | the LSN from which on commits that come again are compared with what the filter has noted of them, as the module `store.repeats_file` says; 0 where none are |
+| `publications` | a checksum of the names of those by which these commits were asked for |
 
 What is counted of changes that found no row. Where an earlier version of this program has counted
 none, they are from the store's position on then.
@@ -70,6 +72,7 @@ KINDS = (
     "publication",
     "values",
     "rule",
+    "repeat",
     "unwatched",
     MISSING,
 )
@@ -248,6 +251,12 @@ class Checkpoint:
         self.write(True, found={**self.known.found, kind: lsn_text(lsn)})
         return True
 
+    def forget_repeats(self) -> None:
+        """Notes durably that what a filter has noted of commits isn't compared with what comes from
+        now on."""
+        if self.known.repeats:
+            self.write(True, repeats=0)
+
     def adding(self) -> dict[int, int]:
         """The tables that are being added, each with the LSN at which its rows are stored, 0 where
         that isn't known."""
@@ -261,9 +270,10 @@ class Checkpoint:
     def has_room_for(self, oid: int) -> bool:
         """Whether one more table can be noted, whatever else the file will say."""
         most, adding = GREATEST, {**self.known.adding, str(oid): GREATEST}
-        numbers = dict.fromkeys(("confirmed", "position", "started"), most)
+        numbers = dict.fromkeys(("confirmed", "position", "started", "repeats"), most)
         texts = {"found": dict.fromkeys({*self.known.found, *KINDS}, lsn_text(most))}
-        more = {"skipped": lsn_text(most), "timeline": (1 << 32) - 1, **numbers, **texts}
+        numbers |= dict.fromkeys(("timeline", "publications"), (1 << 32) - 1)
+        more: dict[str, Any] = {"skipped": lsn_text(most), **numbers, **texts}
         known = spelled(dataclasses.replace(self.known, adding=adding, **more))
         counted = Counted(most, most, most, most, most, (most, most))
         return len(line_of(most, known, counted)) < SIZE

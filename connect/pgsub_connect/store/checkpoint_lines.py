@@ -5,7 +5,7 @@ turns: as long as one isn't whole the other one counts. A line is one object of 
 
 | Field | Means |
 |---|---|
-| `version` | 3 |
+| `version` | 4 |
 | `crc32` | the checksum of the version and of what follows in the line, as eight digits |
 | `number` | the line with the higher one was written last |
 | `known` | what is known of the store |
@@ -14,7 +14,7 @@ turns: as long as one isn't whole the other one counts. A line is one object of 
 A text ends with a line feed and blanks fill the rest, which nobody reads: so one that is shorter
 than a sector of the disk is there or not, as the disk finishes each sector it begins.
 
-Version 2 had no `tables` in `known`. Version 1 had `known` and `counted` as lines of 512 bytes,
+Version 3 had no `repeats` and `publications` in `known`, version 2 no `tables`, either. Version 1 had `known` and `counted` as lines of 512 bytes,
 without a checksum. Both are read, and their lines stay until a line of this version, which is
 written behind them, is on the disk.
 """
@@ -32,8 +32,8 @@ from pgsub_feed.json_texts import Unreadable, object_of, parsed, whole_of
 
 from ..status.state import Counted
 
-VERSION, SIZE, OLD_SIZE = 3, 4096, 512
-READ = (2, VERSION)
+VERSION, SIZE, OLD_SIZE = 4, 4096, 512
+READ = (2, 3, VERSION)
 TEXT = json.JSONEncoder(separators=(",", ":"))
 LINE = re.compile(rb'\{"version":([0-9]{1,9}),"crc32":"([0-9a-f]{8})",(.*)', re.DOTALL)
 NEW, COPYING, SLOT, COPIED, FOLLOWING = "new", "copying", "slot", "copied", "following"
@@ -59,6 +59,8 @@ class Known:
     adding: dict[str, int] = dataclasses.field(default_factory=dict)
     encrypted: bool = False
     tables: str = ""
+    repeats: int = 0
+    publications: int = 0
 
     def move(self, confirmed: int, position: int) -> None:
         """The store is further."""

@@ -9,6 +9,7 @@ from pgsub_feed.errors import FileError, UsageError
 from pgsub_feed.files import OF_FILE, meant
 from pgsub_feed.ownership import real
 
+from .repeats_file import SUFFIX as REPEATS
 from .snapshot import EARLIER, NEW
 from .socket_file import SUFFIX
 
@@ -18,7 +19,7 @@ OF_COPY = (*(EARLIER + it for it in OF_FILE), EARLIER + NEW)
 # start tells what is missing. (`.request` is one of earlier versions of this program.)
 OF_STORE = (
     *(*OF_COPY, NEW, *OF_FILE[1:], "", SUFFIX, ".request"),
-    *(".tables.new", ".tables", ".connector"),
+    *(REPEATS, ".tables.new", ".tables", ".connector"),
 )
 Identity = str | tuple[int, int]
 

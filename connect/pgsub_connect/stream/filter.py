@@ -14,6 +14,7 @@ from pgsub_feed.interruption import Check, never
 
 from .. import version
 from ..errors import FilterFault
+from ..store.repeats_file import RepeatsFile
 from .awake import Awake, Numbers, Served
 from .filter_end import FilterEnded, Missing
 from .filter_input import PIECE, ROOM, FilterInput
@@ -25,6 +26,8 @@ from .messages import COPY_DONE, HEADERS, STATUS, STATUS_HEAD, flushed, without_
 LOOK = 0.5
 # What has it read tables before its first session, and what has it watch its server.
 LOAD, WATCH = "--load", "--watch"
+# What has it compare commits that come again with those that came before.
+REPEATS = "--repeats"
 # What a filter needs of the environment: not the passwords of a server.
 KEPT = ("PATH", "LANG", "LC_ALL", "LC_MESSAGES", "TMPDIR", "TZ", "HOME")
 
@@ -46,6 +49,9 @@ class Filter:
         self.words, self.proto, self.kept_open, self.mode = words, proto, kept_open, mode
         self.runs = self.in_session = False
         self.input, self.said = FilterInput(), FilterSaid()
+        # where it is to note commits, and whether the one that runs does
+        self.repeats: RepeatsFile | None = None
+        self.compares = False
         # the last status, and the beginning of the next one
         self.status = self.partial = b""
         # whether the last one that had opened its store has said it of all that it stored
@@ -84,17 +90,19 @@ class Filter:
         """Whether it is to end where its server breaks a rule."""
         return WATCH in self.words and self.words[self.words.index(WATCH) + 1] == "stop"
 
+    def note_repeats(self, file: RepeatsFile | None) -> None:
+        """The next one compares commits that come again with what this file has of them."""
+        self.repeats = file
+
+    def compares_by(self) -> RepeatsFile | None:
+        """What the one that runs compares commits with, None where it doesn't."""
+        return self.repeats if self.compares else None
+
     def launch(self, *more: str) -> None:
         """Starts the filter, once with more words. Its first status comes once it has opened its
         store, and has read what is to come before its first session."""
         version.check_program(self.words[0])
-        words = self.words
-        if LOAD in more and WATCH in words:
-            # (it would take a load for a session)
-            log.info(
-                "the server isn't watched by the filter that makes the copy, but by the next one"
-            )
-            words = without(words, WATCH)
+        words = self.watching(LOAD in more)
         try:
             # (a session of its own: an interrupt at the terminal is for the connector, which ends
             # the filter in its own time)
@@ -118,6 +126,18 @@ class Filter:
         os.set_blocking(self.up, False)
         self.status, self.partial, self.in_session = b"", b"", False
         self.runs = True
+
+    def watching(self, loads: bool) -> list[str]:
+        """Its words, without those by which the server is watched where it reads a load first,
+        which it would take for a session."""
+        self.compares = self.repeats is not None and not loads
+        if self.repeats and self.compares:
+            self.repeats.prepare()
+            return [*self.words, REPEATS, self.repeats.path]
+        if not loads or WATCH not in self.words:
+            return self.words
+        log.info("the server isn't watched by the filter that makes the copy, but by the next one")
+        return without(self.words, WATCH)
 
     def start(self, check: Check = never) -> int:
         """Starts the filter, waits for its first status, and returns the LSN up to which its store

@@ -8,7 +8,7 @@ from pgsub_feed import log
 
 from .filter_end import BREACH, Missing, missing_of
 from .filter_input import PIECE
-from .watch_lines import Told, told_of
+from .watch_lines import Told, counted_in, told_of
 
 
 class FilterSaid:
@@ -23,6 +23,8 @@ class FilterSaid:
         # what it has said of the server since the caller looked last, and the last of that
         self.news: list[Told] = []
         self.told = ""
+        # where the last commit ends that it had noted when it began
+        self.noted = 0
         self.hearing = select.poll()
         if file:
             os.set_blocking(self.number, False)
@@ -55,6 +57,8 @@ class FilterSaid:
         if told := told_of(line):
             self.news.append(told)
             self.told = told.text
+        elif (noted := counted_in(line)) is not None:
+            self.noted = max(noted, self.noted)
         else:
             self.said = line
 

@@ -1,16 +1,33 @@
 """What a filter says of the server that it watches: which rule of a well-formed one a session
-breaks, and from where on one isn't watched. A frame's place is in bytes from the first one of the
-session that the filter was given."""
+breaks, and from where on one isn't watched; and of commits that come again: which of them aren't
+those that came before, and from where on they aren't compared. A frame's place is in bytes from the
+first one of the session that the filter was given."""
 
 import re
 from typing import NamedTuple
 
-from ..drift.findings import RULE, UNWATCHED
+from pgsub_feed.texts import parse_lsn
+
+from ..drift.findings import REPEAT, RULE, UNWATCHED
 
 # How each of its lines begins.
-WATCH = "pgsub: watch: "
+WATCH, REPEATS = "pgsub: watch: ", "pgsub: repeats: "
 BROKEN = re.compile(r"(order|rule [2-7]) broken at ([0-9]{1,20}): (.+)")
 LEFT = re.compile(r"not watched from ([0-9]{1,20}) on: (.+)")
+LSN = r"[0-9A-F]{1,8}/[0-9A-F]{1,8}"
+# How a commit isn't one of those that came before.
+CONTRADICTED = re.compile(
+    f"the commit that ends at {LSN} (?:came before with another .+|wasn't between those that came before"
+    f"|came before and is left out)|a commit's LSN {LSN} is below the end {LSN} of one that came before"
+)
+UNCOMPARED = re.compile(r"not compared from ([0-9]{1,20}) on: (.+)")
+UNKEPT = re.compile(r"can't write .+: not kept")
+# What it has noted, at its beginning, and what it found, at its end.
+NOTED = re.compile(f"[0-9]{{1,20}} commits are noted, up to ({LSN})(?:, .+)?")
+COUNTED = re.compile("[0-9]{1,20} equal, [0-9]{1,20} unknown, [0-9]{1,20} forgotten")
+# Why it can't begin.
+UNUSABLE = re.compile("can't use .+: .+")
+UNREAD = "what the filter said of it can't be read: "
 
 
 class Told(NamedTuple):
@@ -23,6 +40,8 @@ class Told(NamedTuple):
 def told_of(line: str) -> Told | None:
     """What a line on standard error says of the server, None where it says something else. One that
     can't be read may tell of anything."""
+    if line.startswith(REPEATS):
+        return told_of_repeats(line.removeprefix(REPEATS))
     if not line.startswith(WATCH):
         return None
     said = line.removeprefix(WATCH)
@@ -31,4 +50,33 @@ def told_of(line: str) -> Told | None:
         return Told(RULE, f"{rule} broken by the frame at byte {place} of a session: {what}")
     if left := LEFT.fullmatch(said):
         return Told(UNWATCHED, f"a session from its frame at byte {left[1]} on: {left[2]}")
-    return Told(UNWATCHED, f"what the filter said of it can't be read: {said}")
+    return Told(UNWATCHED, UNREAD + said)
+
+
+def told_of_repeats(said: str) -> Told | None:
+    """What a line on standard error says of commits that came again, None where it counts them, or
+    none can be noted."""
+    if NOTED.fullmatch(said) or COUNTED.fullmatch(said) or UNUSABLE.fullmatch(said):
+        return None
+    if CONTRADICTED.fullmatch(said):
+        return Told(REPEAT, said)
+    if left := UNCOMPARED.fullmatch(said):
+        place, why = left.groups()
+        return Told(UNWATCHED, f"commits that came again from the frame at byte {place} on: {why}")
+    if UNKEPT.fullmatch(said):
+        return Told(UNWATCHED, f"commits that come again after the filter's end: {said}")
+    return Told(UNWATCHED, UNREAD + said)
+
+
+def counted_in(line: str) -> int | None:
+    """Where the last of the commits ends that a filter has noted before, 0 where a line counts those
+    that came again; None where it is another one."""
+    said = line.removeprefix(REPEATS) if line.startswith(REPEATS) else ""
+    if found := NOTED.fullmatch(said):
+        return parse_lsn(found[1])
+    return 0 if COUNTED.fullmatch(said) else None
+
+
+def is_unusable(line: str) -> bool:
+    """Whether it says that the file can't be used in which commits are noted."""
+    return line.startswith(REPEATS) and bool(UNUSABLE.fullmatch(line.removeprefix(REPEATS)))

@@ -77,6 +77,7 @@ ACCEPTED = (
     "values",
     "missing",
     "rule",
+    "repeat",
     "unwatched",
     "gap",
     "all",

@@ -1,0 +1,52 @@
+"""`STORE.repeats`: what the filter has noted of the commits that came last, by which it tells
+whether those that a server sends again are the same.
+
+What it has of a commit is of what was passed on. So it is of use as long as that is all of the
+publications that are followed, as the checkpoint says: `repeats` is an LSN, and all that is noted
+of commits that end above it is of whole ones. Sessions ask for nothing below it. It is 0 where
+changes are left out, as of a table whose rows are added, or where the server has another history:
+a filter that begins then notes anew.
+"""
+
+import os
+import zlib
+from collections.abc import Callable, Iterable
+
+from pgsub_feed.errors import FileError
+from pgsub_feed.files import remove
+
+from .checkpoint import Checkpoint
+
+SUFFIX = ".repeats"
+
+
+class RepeatsFile:
+    """It. `publications`: the names of those that are followed."""
+
+    def __init__(
+        self, store: str, checkpoint: Checkpoint, publications: Callable[[], Iterable[str]]
+    ) -> None:
+        self.path = os.path.abspath(store + SUFFIX)
+        self.checkpoint, self.publications = checkpoint, publications
+
+    def checksum(self) -> int:
+        """That of the names of the publications."""
+        return zlib.crc32("\0".join(sorted(self.publications())).encode())
+
+    def since(self) -> int:
+        """The LSN from which on commits can be compared; 0 where none can be."""
+        known = self.checkpoint.known
+        return known.repeats if known.publications == self.checksum() else 0
+
+    def begin_at(self, lsn: int) -> None:
+        """Notes durably that all that is noted of commits that end above an LSN is of whole ones."""
+        self.checkpoint.write(True, repeats=max(lsn, 1), publications=self.checksum())
+
+    def prepare(self) -> None:
+        """Removes what isn't of use, before a filter begins."""
+        if self.since():
+            return
+        try:
+            remove(self.path)
+        except OSError as error:
+            raise FileError(f"{self.path}: {error.strerror}") from None
