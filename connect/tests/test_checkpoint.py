@@ -6,6 +6,7 @@ from __future__ import annotations
 import contextlib
 import dataclasses
 import fcntl
+import gc
 import os
 import unittest
 from typing import Any
@@ -300,6 +301,8 @@ class File(FileCase):
             [drop_and_begin, lambda: os.close(files.pop())],
         ):
             begin()
+            # (what is left of other tests may have files open)
+            gc.collect()
             before, calls = len(os.listdir("/proc/self/fd")), iter(checks)
             with mock.patch("time.sleep"):
                 checkpoint = Checkpoint(self.store, lambda calls=calls: next(calls, lambda: None)())  # type: ignore[misc]
