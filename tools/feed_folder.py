@@ -62,8 +62,8 @@ class Segment:
         self.ends[end] = len(self.text)
 
     def cut(self, end: int) -> None:
-        """Takes away all behind the commit that ends there."""
-        self.text = self.text[: self.ends[end]]
+        """Takes away all behind the commit that ends there, or where it begins there, its head."""
+        self.text = self.text[: self.ends.get(end, SEGMENT_SIZE)]
         self.ends = {it: length for it, length in self.ends.items() if it <= end}
 
 
@@ -87,11 +87,11 @@ class Folder:
         base = self.base_at(position)
         self.asked, self.at = asked, position
         self.segments = {it: segment for it, segment in self.segments.items() if it <= base}
-        if base == position:
-            self.begin()
-        else:
+        if self.segments:
             self.segments[base].cut(position)
-            self.first = None
+        else:
+            self.begin()
+        self.first = None
 
     def base_at(self, position: int) -> int:
         """The base of the segment that a store with this position goes on with."""

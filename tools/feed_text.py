@@ -11,6 +11,8 @@ from pathlib import Path
 from typing import Any
 
 SEGMENT_SIZE, COMMIT_SIZE = 1024, 256
+# what a segment is named until it has its head
+NEW_NAME = "segment.new"
 # from 1970 to 2000, in microseconds
 EPOCH = 946684800000000
 
@@ -183,11 +185,11 @@ class Writer:
         self.begin()
 
     def begin(self) -> None:
-        """Makes the segment that begins here."""
-        self.path = self.folder / segment_name(self.at)
-        self.size = 0
+        """Makes the segment that begins here, which has its head before it has its name."""
+        self.path, new = self.folder / segment_name(self.at), self.folder / NEW_NAME
+        self.size = new.write_bytes(segment_head(self.at, *self.named))
         self.is_empty = True
-        self.put(segment_head(self.at, *self.named))
+        new.replace(self.path)
 
     def put(self, text: bytes) -> None:
         with open(self.path, "ab") as file:

@@ -182,14 +182,14 @@ class Reads(BaseCase):
         found = next(pgsub_feed.read(self.path, 0, follow=True, check=check))
         self.assertTrue(found.is_base)
 
-    def test_a_first_segment_that_has_no_head_yet(self) -> None:
+    def test_a_first_segment_that_has_no_name_yet(self) -> None:
         """What the rows are of isn't known then."""
         self.make()
-        text = self.feed.path.read_bytes()
-        self.feed.path.write_bytes(text[:100])
+        new = self.path / "segment.new"
+        self.feed.path.rename(new)
         with contextlib.closing(Whole(str(self.path), 0)) as reader:
             self.assertIsNone(reader.next())
-            self.feed.path.write_bytes(text)
+            new.rename(self.feed.path)
             commit = reader.next()
             self.assertEqual(commit and commit.base, 0)
             self.assertEqual(reader.head and reader.head.slot, "pgsub")

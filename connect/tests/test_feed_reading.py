@@ -9,7 +9,16 @@ import re
 from pathlib import Path
 from unittest import mock
 
-from feed_text import UNSENT, About, Column, Line, closing_line, segment_head, summed
+from feed_text import (
+    SEGMENT_SIZE,
+    UNSENT,
+    About,
+    Column,
+    Line,
+    closing_line,
+    segment_head,
+    summed,
+)
 from hypothesis import given, settings, strategies as st
 
 from pgsub_feed.errors import Damaged, FileError, Unfit
@@ -152,7 +161,8 @@ class Taking(Case):
             reader.next()
 
     def test_each_prefix_of_a_feed(self) -> None:
-        """Bytes that aren't all there are waited for, wherever they end."""
+        """Bytes that aren't all there are waited for, wherever they end. A segment has its head
+        before it has its name."""
         self.feed.commit(0x100, [insert("1", "a")])
         self.feed.end()
         self.feed.commit(0x200, [insert("2", "b"), truncate()])
@@ -162,7 +172,12 @@ class Taking(Case):
         reader, got, total = self.reader(), list[int](), 0
         self.assertIsNone(reader.next())
         for name, text in texts:
-            for at in range(0, len(text), 7):
+            new = self.path / "segment.new"
+            for at in range(0, SEGMENT_SIZE, 512):
+                new.write_bytes(text[: at + 512])
+                self.assertIsNone(reader.next())
+            new.rename(self.path / name)
+            for at in range(SEGMENT_SIZE, len(text), 7):
                 with open(self.path / name, "ab") as file:
                     file.write(text[at : at + 7])
                 total += 1
@@ -170,6 +185,13 @@ class Taking(Case):
                     got.append(commit.end)
                     self.assertTrue(list(reader.parts(commit)))
         self.assertEqual(got, [0x100, 0x200])
+
+    def test_a_part_of_a_head_is_none(self) -> None:
+        head = self.file().read_bytes()
+        for part in (b"", head[:1], head[:-1], bytes(len(head))):
+            self.file().write_bytes(part)
+            with self.assertRaisesRegex(Damaged, "reading 1 NotAFeed.*no head"):
+                self.reader().next()
 
     def test_zeros_at_the_end_are_waited_for(self) -> None:
         self.feed.commit(0x100)

@@ -11,8 +11,16 @@ from dataclasses import replace
 from functools import partial
 
 from built import TOP
-from feed_folder import LAST_LSN, SECOND, SEGMENT_BYTES, Asked, Folder, NotOpened
-from feed_text import SEGMENT_SIZE, closing_line, entry_text, segment_name
+from feed_folder import (
+    LAST_LSN,
+    SECOND,
+    SEGMENT_BYTES,
+    TOO_LONG,
+    Asked,
+    Folder,
+    NotOpened,
+)
+from feed_text import NEW_NAME, SEGMENT_SIZE, closing_line, entry_text, segment_name
 
 from . import history
 from . import tables as model
@@ -125,6 +133,8 @@ class Runs:
                 folder.open(read.position, self.asked)
         except NotOpened as unopened:
             why = str(unopened)
+        if keeps and why != TOO_LONG:
+            self.beside.pop(NEW_NAME, None)
         read.writer = folder if keeps else None
         words = [
             "--store",
@@ -213,7 +223,7 @@ class Runs:
 
     def crash(self):
         """What a crash may leave: a store that lacks the feed's last commits, a rest behind these,
-        or a part of a head alone."""
+        a part of the head of a segment that hasn't its name yet."""
         rng, folder = self.rng, self.read.writer
         if self.saved and rng.random() < 0.6:
             self.read, files = rng.choice(self.saved)
@@ -221,19 +231,19 @@ class Runs:
             self.program.put_back(self.store, files)
         if folder.segments and rng.random() < 0.6:
             segment = folder.last()
-            if segment.ends or rng.random() < 0.5:
-                rest = rng.choice(
-                    (
-                        rng.randbytes(300),
-                        closing_line(folder.at),
-                        entry_text(folder.at, folder.at + 9, ()),
-                        b"{",
-                    )
+            rest = rng.choice(
+                (
+                    rng.randbytes(300),
+                    closing_line(folder.at),
+                    entry_text(folder.at, folder.at + 9, ()),
+                    b"{",
                 )
-                segment.text += rest[: rng.randint(1, len(rest))]
-            else:
-                segment.text = segment.text[: rng.randrange(SEGMENT_SIZE)]
+            )
+            segment.text += rest[: rng.randint(1, len(rest))]
             self.program.put_beside(self.feed, segment_name(max(folder.segments)), segment.text)
+        if folder.segments and rng.random() < 0.3:
+            self.beside[NEW_NAME] = self.asked.head(folder.at)[: rng.randint(0, SEGMENT_SIZE)]
+            self.program.put_beside(self.feed, NEW_NAME, self.beside[NEW_NAME])
         if rng.random() < 0.2:
             # (what the connector keeps there)
             self.beside["confirmed"] = b"0/100\n"

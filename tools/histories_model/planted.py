@@ -5,6 +5,7 @@ They are the model's reader with a bug, in place of the program.
 """
 
 import feed_folder
+from feed_text import NEW_NAME
 
 from . import tables as model
 from .followed import Followed, exit_status
@@ -330,8 +331,10 @@ class Planted:
             asked = {
                 name[1:].replace("-", "_"): value for name, value in {**told, **numbers}.items()
             }
-            folder = self.feeds.get(path) or reader.folder()
-            folder.open(reader.position, feed_folder.Asked(**asked))
+            folder, wanted = self.feeds.get(path) or reader.folder(), feed_folder.Asked(**asked)
+            if not wanted.is_too_long():
+                self.beside.get(path, {}).pop(NEW_NAME, None)
+            folder.open(reader.position, wanted)
             self.feeds[path] = reader.writer = folder
 
     def reader_for(self, words):

@@ -103,8 +103,8 @@ class Case(unittest.TestCase):
         self.run_once(0)
         self.check({"0" * 16: HEAD})
         self.run_once(0, *COMMITS, segment_bytes=0)
-        # the segment that begins there is made again
-        self.folder.segments[0x130].text = b"{"
+        # the segment that begins there keeps its head
+        self.folder.segments[0x130].text += b"rest"
         self.run_once(0x130)
         self.check(one(0, TEXTS[0], ends=0x130), one(0x130))
         self.run_once(0x130, SECOND)

@@ -96,7 +96,7 @@ class Listing:
 
 
 class Segment:
-    """An open segment. `head` is None until all of it is there."""
+    """An open segment, which has its head before it has its name."""
 
     def __init__(self, folder: str, base: int, name: str) -> None:
         self.base, self.path = base, os.path.join(folder, name)
@@ -107,10 +107,8 @@ class Segment:
             self.close()
             raise
 
-    def read_head(self) -> Head | None:
+    def read_head(self) -> Head:
         line = self.read(0, HEAD_SIZE)
-        if len(line) < HEAD_SIZE or not line.strip(b"\0"):
-            return None
         try:
             head = read_head(line)
         except ValueError as error:
@@ -183,14 +181,12 @@ class Segment:
 
 
 def read_source(folder: str) -> Head | None:
-    """What a feed is a feed of, by the head of its last segment that has one; None where none has
-    yet."""
+    """What a feed is a feed of, by the head of its last segment; None where there is none yet."""
     for base, name in reversed(segments(folder)):
         with contextlib.suppress(FileNotFoundError), contextlib.closing(
             Segment(folder, base, name)
         ) as segment:
-            if segment.head:
-                return segment.head
+            return segment.head
     return None
 
 
@@ -309,13 +305,10 @@ class Reader:
         return self.open(*before[-1])
 
     def open(self, base: int, name: str) -> Segment | None:
-        """Opens a segment in the place of the one before. None where it isn't there yet."""
+        """Opens a segment in the place of the one before. None where it is gone."""
         try:
             segment = Segment(self.folder, base, name)
         except FileNotFoundError:
-            return None
-        if segment.head is None:
-            segment.close()
             return None
         if self.head and segment.head.source() != self.head.source():
             segment.close()

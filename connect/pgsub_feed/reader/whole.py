@@ -78,7 +78,7 @@ class Whole(Reader):
     def next(self) -> Commit | None:
         if not self.at and not self.has_looked:
             bases = [base for base, _ in segments(self.folder)]
-            # (first rows are there before the first segment is, and before that has its head)
+            # (first rows are there before the first segment is)
             if not bases or not self.look(bases):
                 return None
         if self.at or not self.sections:

@@ -12,7 +12,7 @@ use Rattle.pgfeed.specs.declared.feed.Feed.{Feed}
 use Rattle.pgfeed.specs.declared.segment.Segment.{Segment}
 use Rattle.pgfeed.specs.Beside.{FeedsBegin, FeedsGoOn, KeepsRest, LastsFrom}
 use Rattle.pgfeed.specs.Beside.{LeftIsReopened, RestsLead}
-use Rattle.pgfeed.specs.Feeds.{CutsIn, Goes, IsFresh, KeepsAll, LastsUpTo, OpenedFrom, OpensIn}
+use Rattle.pgfeed.specs.Feeds.{CutsIn, Goes, IsFresh, KeepsAll, LastsUpTo, OpensIn}
 use Rattle.pgfeed.specs.Feeds.{ReopensAt, first_of}
 use Rattle.pgfeed.specs.Segments.{Lasts}
 use Rattle.pgfeed.specs.Cutting.Beside.{begins_low, cut_ledger, split_at}
@@ -108,19 +108,15 @@ module _ {F D : Type 0} (seen : D → List ℕ) (may_leave : D → List ℕ → 
     | inr none ↦ ([], omega (arith, none), (refl, omega (arith, none)))
   ]
 
-  fresh_of : (folder : F) (place : ℕ) (l : Feed F D) → l.segment.base ≡ place → OpenedFrom seen may_leave has folder place l.segment
-      → IsFresh seen may_leave l.segment
-  fresh_of folder place l at (inl fresh) = fresh.1
-  fresh_of folder place l at (inr cuts) = absurd (let above = cuts.2.above in omega (arith, at))
-
   no_list : (bases above : List ℕ) (base : ℕ) → [] ≡ bases ++ (base ∷ above) → ⊥
   no_list [] above base e = cc
   no_list (b ∷ bases) above base e = cc
 
-  none_there : (found bases above : List ℕ) (base place : ℕ) → found ≡ []
-      → (found ≡ bases ++ (base ∷ above)) ⊎ ((found ≡ []) × (bases ≡ []) × (base ≡ place)) → (bases ≡ []) × (base ≡ place)
-  none_there found bases above base place none (inl some) = absurd (no_list bases above base (sym none ∙ some))
-  none_there found bases above base place none (inr new) = (new.1, new.2)
+  none_there : {P Q : Type 0} (found bases above : List ℕ) (base place : ℕ) → found ≡ []
+      → ((found ≡ bases ++ (base ∷ above)) × P) ⊎ ((found ≡ []) × (bases ≡ []) × (base ≡ place) × Q)
+      → (bases ≡ []) × (base ≡ place) × Q
+  none_there found bases above base place none (inl some) = absurd (no_list bases above base (sym none ∙ some.0))
+  none_there found bases above base place none (inr new) = (new.1, new.2, new.3)
 
   new_keeps : (folder : F) (place : ℕ) (l : Feed F D) → (opens : OpensIn seen may_leave is_clean is_true places has folder place l)
       → (c : CutsIn seen may_leave is_clean is_true places has folder place l.folder l.begins l.segment) → c.bases ≡ []
@@ -152,7 +148,7 @@ module _ {F D : Type 0} (seen : D → List ℕ) (may_leave : D → List ℕ → 
   begins_with folder l tables place reach opens honest empty =
       let c = opens.cuts honest in
       let new = none_there (places folder) c.bases c.above l.segment.base place empty c.there in
-      let fresh = fresh_of folder place l new.1 c.opened in
+      let fresh : IsFresh seen may_leave l.segment = new.2 in
       let keeps = new_keeps folder place l opens c new.0 fresh in
       let first = first_told tables place in
       let at = new.1 in

@@ -10,8 +10,10 @@ use Rattle.pgfeed.specs.declared.feed.Feed.{Feed}
 use Rattle.pgfeed.specs.declared.segment.Segment.{Segment}
 use Rattle.pgfeed.specs.Folders.{AreBelow, HasNoMoreElse, MakesAtMost}
 use Rattle.pgfeed.specs.Reading.{AreEntries}
-use Rattle.pgfeed.specs.Segments.{IsEnded, IsFinished, KeepsEntries, Lasts, LastsAs}
-use Rattle.pgfeed.specs.Feeds.{AreEnded, BeginBelow, Ends, Follow, Goes, IsFresh, IsHonestFeed}
+use Rattle.pgfeed.specs.Segments.{HasHead, IsEnded, IsFinished, IsFront, KeepsEntries, Lasts}
+use Rattle.pgfeed.specs.Segments.{LastsAs}
+use Rattle.pgfeed.specs.Feeds.{AreEnded, BeginBelow, Ends, Follow, Goes, HasHeadAt, IsFresh}
+use Rattle.pgfeed.specs.Feeds.{IsHonestFeed}
 use Rattle.pgfeed.specs.Feeds.{IsLeftIn, IsTimed, IsWhole, KeepsAll, LeavesAt, MayEnd, MayHave}
 use Rattle.pgfeed.specs.Feeds.{NoneAt, SomeLeaves, StaysTimed, first_time}
 use Rattle.pgfeed.specs.Cutting.Kept.{end_append, entries_append}
@@ -144,7 +146,7 @@ module _ {F D : Type 0} (seen : D → List ℕ) (may_leave : D → List ℕ → 
     pub finished : IsTrue (is_clean new.segment.disk) → (es : List Entry)
         → KeepsEntries old.segment.base old.segment.last old.segment.size (seen old.segment.disk) es
         → IsFinished old.segment.base old.segment.last es (seen new.segment.disk) (may_leave new.segment.disk)
-    pub made : is_true new.folder → MakesAtMost has is_true places old.segment.last old.folder new.folder
+    pub made : is_true new.folder → MakesAtMost has is_true places old.segment.last (HasHead old.segment.last) old.folder new.folder
     pub was : old.segment.is_stuck ≡ false
     pub stuck : new.segment.is_stuck ≡ true
 
@@ -167,12 +169,12 @@ module _ {F D : Type 0} (seen : D → List ℕ) (may_leave : D → List ℕ → 
       )
 
   -- it has the same segments, or the one that is to follow
-  ends_places : (bases found after : List ℕ) (base last : ℕ) → found ≡ bases ++ base ∷ []
-      → (after ≡ found) ⊎ (after ≡ found ++ last ∷ [])
-      → (above : List ℕ) × (after ≡ bases ++ (base ∷ above)) × ((above ≡ []) ⊎ (above ≡ last ∷ []))
+  ends_places : {H : Type 0} (bases found after : List ℕ) (base last : ℕ) → found ≡ bases ++ base ∷ []
+      → (after ≡ found) ⊎ ((after ≡ found ++ last ∷ []) × H)
+      → (above : List ℕ) × (after ≡ bases ++ (base ∷ above)) × ((above ≡ []) ⊎ ((above ≡ last ∷ []) × H))
   ends_places bases found after base last had (inl same) = ([], same ∙ had, inl refl)
   ends_places bases found after base last had (inr one) =
-      (last ∷ [], one ∙ ap (λ xs. xs ++ last ∷ []) had ∙ append_assoc bases (base ∷ []) (last ∷ []), inr refl)
+      (last ∷ [], one.0 ∙ ap (λ xs. xs ++ last ∷ []) had ∙ append_assoc bases (base ∷ []) (last ∷ []), inr (refl, one.1))
 
   under_last : (bases found : List ℕ) (base last : ℕ) → AllByRecursion (λ b. b < base) bases → base < last → found ≡ bases ++ base ∷ []
       → AreBelow last found
@@ -180,11 +182,11 @@ module _ {F D : Type 0} (seen : D → List ℕ) (may_leave : D → List ℕ → 
       subst (AllByRecursion (λ b. b < last)) (sym had)
       (all_one (λ b. b < last) bases base (all_under base last bases (omega arith) low) rises)
 
-  ends_over : (above now : List ℕ) (base last : ℕ) (own : List Entry) (outcomes : List ℕ → Type 0) → IsEnded base last own outcomes
-      → (above ≡ []) ⊎ (above ≡ last ∷ [])
-      → (above ≡ []) ⊎ ((above ≡ last ∷ []) × IsEnded base last own outcomes)
-  ends_over above now base last own outcomes e (inl none) = inl none
-  ends_over above now base last own outcomes e (inr one) = inr (one, e)
+  ends_over : {H : Type 0} (above : List ℕ) (base last : ℕ) (own : List Entry) (outcomes : List ℕ → Type 0)
+      → IsEnded base last own outcomes → (above ≡ []) ⊎ ((above ≡ last ∷ []) × H)
+      → (above ≡ []) ⊎ ((above ≡ last ∷ []) × IsEnded base last own outcomes × H)
+  ends_over above base last own outcomes e (inl none) = inl none
+  ends_over above base last own outcomes e (inr one) = inr (one.0, e, one.1)
 
   ends_ended : (old new : Feed F D) (now : List Entry) → EndsOn old new → IsTrue (is_clean new.segment.disk)
       → KeepsEntries old.segment.base old.segment.last old.segment.size (seen old.segment.disk) now
@@ -198,7 +200,7 @@ module _ {F D : Type 0} (seen : D → List ℕ) (may_leave : D → List ℕ → 
     pub had : places old.folder ≡ was.bases ++ old.segment.base ∷ []
     pub above : List ℕ
     pub there : places new.folder ≡ was.bases ++ (old.segment.base ∷ above)
-    pub over : (above ≡ []) ⊎ (above ≡ old.segment.last ∷ [])
+    pub over : (above ≡ []) ⊎ ((above ≡ old.segment.last ∷ []) × HasHeadAt has new.folder old.segment.last)
 
   ends_both : (old new : Feed F D) (before now : List Entry) → EndsOn old new → is_true new.folder
       → (was : IsWhole seen may_leave is_clean is_true places has old before now) → Both old new before now was
@@ -231,10 +233,10 @@ module _ {F D : Type 0} (seen : D → List ℕ) (may_leave : D → List ℕ → 
               (subst (AllByRecursion (λ (e : Segment D). e.base < old.segment.base)) (sym w.ended_is) was.below);
           ended = subst (λ x. AreEnded (LeavesAt may_leave has new) new.begins was.bases x k.before) (sym w.writes.base_is)
               (subst (λ x. AreEnded (LeavesAt may_leave has new) x was.bases old.segment.base k.before) (sym w.begins_is) less);
-          over = ends_over both.above [] new.segment.base new.segment.last k.now (may_leave new.segment.disk)
+          over = ends_over both.above new.segment.base new.segment.last k.now (may_leave new.segment.disk)
               (ended_at old.segment.base new.segment.base old.segment.last new.segment.last k.now k.now
               (λ _. may_leave new.segment.disk) (sym w.writes.base_is) (sym w.last_is) refl (ends_ended old new k.now w honest.file k.kept))
-              (subst (λ l. (both.above ≡ []) ⊎ (both.above ≡ l ∷ [])) (sym w.last_is) both.over);
+              (subst (λ l. (both.above ≡ []) ⊎ ((both.above ≡ l ∷ []) × HasHeadAt has new.folder l)) (sym w.last_is) both.over);
           free = λ stands. let never : ⊥ = true_false (sym w.stuck ∙ stands) in absurd never;
         };
   }
@@ -274,6 +276,7 @@ module _ {F D : Type 0} (seen : D → List ℕ) (may_leave : D → List ℕ → 
         done = λ at.
             ended_at new.segment.base old.segment.base new.segment.last old.segment.last k.now k.now (has folder) base w.last_is refl
             (left.done (at_as new.segment.last old.segment.last left.more w.last_is at));
+        heads = left.heads;
       }
 
   pub goes_ends : (old new : Feed F D) → EndsOn old new → Goes seen may_leave is_clean is_true places has old new
@@ -457,6 +460,13 @@ module _ {F D : Type 0} (seen : D → List ℕ) (may_leave : D → List ℕ → 
         done = λ at. ended_less old.segment.base old.segment.last k.now (may_leave w.done.disk) (has folder old.segment.base)
             (λ text had. done_leaves old new text w was.below (left.each old.segment.base text less had))
             (done_ended old new k.now w clean k.kept);
+        heads = λ at text had.
+            let front : List ℕ = w.fresh.1.0 in
+            let lasting = subst (λ q. LastsAs new.segment.base new.segment.size (may_leave new.segment.disk) q front) at w.fresh.1.1 in (
+              front,
+              subst (λ q. IsFront q q front) at w.fresh.1.1.is_front,
+              left.lasting text (subst (λ b. has folder b text) (sym at) had) front lasting,
+            );
       }
 
   pub goes_begins : (old new : Feed F D) → BeginsOn old new → Goes seen may_leave is_clean is_true places has old new

@@ -8,6 +8,7 @@ use Rattle.std.specs.List.{AllByRecursion}
 use Rattle.pgfeed.specs.declared.segment.Segment.{Segment}
 use Rattle.pgfeed.specs.Folders.{AreBelow, HasNoMore, MakesAtMost, RemovesAll, Stays, StaysElse}
 use Rattle.pgfeed.specs.Folders.{TakesBack}
+use Rattle.pgfeed.specs.Segments.{HasHead}
 use Rattle.pgfeed.specs.Feeds.{CutsIn, IsFresh, MayHave, OpenedFrom, TakesAllBack, first_of}
 
 -- ---- files that are given back
@@ -56,6 +57,35 @@ module _ {F D : Type 0} (may_leave : D → List ℕ → Type 0) (is_clean : D �
       subst (λ es. TakesAllBack may_leave is_clean is_true places has es old new)
       (sym (some.split ∙ ap (λ xs. xs ++ some.taken) none)) some.back
 
+-- ---- the segment that is made
+
+module _ {F : Type 0} (has : F → ℕ → List ℕ → Type 0) (is_true : F → Type 0) (places : F → List ℕ) where
+  at_most_named : (folder mid after : F) (base : ℕ) (outcomes : List ℕ → Type 0) → places mid ≡ places folder
+      → ((text : List ℕ) → outcomes text → HasHead base text)
+      → (places after ≡ places mid) ⊎ ((places after ≡ places mid ++ base ∷ []) × ((text : List ℕ) → has after base text → outcomes text))
+      → (places after ≡ places folder)
+      ⊎ ((places after ≡ places folder ++ base ∷ []) × ((text : List ℕ) → has after base text → HasHead base text))
+  at_most_named folder mid after base outcomes same heads (inl none) = inl (none ∙ same)
+  at_most_named folder mid after base outcomes same heads (inr one) =
+      inr (one.0 ∙ ap (λ bs. bs ++ base ∷ []) same, λ text had. heads text (one.1 text had))
+
+  -- the file that was made has a head, and is named
+  pub named : (folder mid after : F) (base : ℕ) (outcomes : List ℕ → Type 0) → Stays has is_true places folder mid
+      → MakesAtMost has is_true places base outcomes mid after → ((text : List ℕ) → outcomes text → HasHead base text)
+      → MakesAtMost has is_true places base (HasHead base) folder after
+  named folder mid after base outcomes stays most heads = record {
+    was_true = stays.was_true;
+    at_most = λ low. at_most_named folder mid after base outcomes stays.places_are heads
+        (most.at_most (subst (AreBelow base) (sym stays.places_are) low));
+    others = λ b text other had. stays.files b text (most.others b text other had);
+  }
+
+-- what lasts of a segment of no commits begins with its head
+pub fresh_heads : {D : Type 0} (seen : D → List ℕ) (may_leave : D → List ℕ → Type 0) (s : Segment D) (base : ℕ) → s.base ≡ base
+    → IsFresh seen may_leave s → (text : List ℕ) → may_leave s.disk text → HasHead base text
+fresh_heads seen may_leave s base begins fresh text may =
+    subst (λ b. HasHead b text) begins (fresh.1.0, fresh.1.1.is_front, fresh.1.1.each text may)
+
 -- ---- the segment that is opened
 
 -- some LSNs end with their last one
@@ -84,13 +114,12 @@ module _ {F D : Type 0} (seen : D → List ℕ) (may_leave : D → List ℕ → 
     (places : F → List ℕ) (has : F → ℕ → List ℕ → Type 0) where
   from_mid : (folder mid : F) (p : ℕ) (s : Segment D) → HasNoMore has folder mid → OpenedFrom seen may_leave has mid p s
       → OpenedFrom seen may_leave has folder p s
-  from_mid folder mid p s less (inl fresh) = inl fresh
-  from_mid folder mid p s less (inr cuts) = inr (cuts.0, less s.base cuts.0 cuts.1, cuts.2)
+  from_mid folder mid p s less cuts = (cuts.0, less s.base cuts.0 cuts.1, cuts.2)
 
   -- in a folder without segments
   pub first_cuts : (folder mid after : F) (p : ℕ) (s : Segment D) → places folder ≡ [] → Stays has is_true places folder mid
       → (AreBelow p (places mid) → places after ≡ places mid ++ p ∷ [])
-      → MakesAtMost has is_true places p mid after → s.base ≡ p → IsFresh seen may_leave s
+      → MakesAtMost has is_true places p (HasHead p) mid after → s.base ≡ p → IsFresh seen may_leave s
       → CutsIn seen may_leave is_clean is_true places has folder p after p s
   first_cuts folder mid after p s none stays made most begins fresh =
       let nothing : places mid ≡ [] = stays.places_are ∙ none in
@@ -98,13 +127,12 @@ module _ {F D : Type 0} (seen : D → List ℕ) (may_leave : D → List ℕ → 
       record {
         bases = [];
         above = [];
-        there = inr (none, refl, begins);
+        there = inr (none, refl, begins, fresh);
         removed = tt;
         stay = one ∙ ap (λ xs. xs ++ p ∷ []) nothing ∙ ap (λ b. b ∷ []) (sym begins);
         first = sym begins;
         same = λ b text other had.
             stays.files b text (most.others b text (λ one. let never : ⊥ = other (begins ∙ one) in never) had);
-        opened = inl (begins, fresh);
       }
 
   -- where the last one at or below the LSN was opened
@@ -121,11 +149,13 @@ module _ {F D : Type 0} (seen : D → List ℕ) (may_leave : D → List ℕ → 
       record {
         bases = ends.0;
         above = above;
-        there = inl (split ∙ ap (λ bs. bs ++ above) last_is ∙ append_assoc ends.0 (s.base ∷ []) above);
+        there = inl (
+          split ∙ ap (λ bs. bs ++ above) last_is ∙ append_assoc ends.0 (s.base ∷ []) above,
+          from_mid folder mid p s stays.files from,
+        );
         removed = high;
         stay = gone.left below stands ∙ last_is;
         first = sym (begins_with ends.0 below s.base first last_is is_first);
         same = λ b text other had.
             stays.files b text (away.others b text (λ one. let never : ⊥ = other (begins ∙ one) in never) (gone.others b text had));
-        opened = from_mid folder mid p s stays.files from;
       }

@@ -15,7 +15,8 @@ use Rattle.pgfeed.specs.Reading.{AreEntries}
 use Rattle.pgfeed.specs.Segments.{IsEnded, IsFinished, KeepsEntries, Lasts, LastsAs}
 use Rattle.pgfeed.specs.Segments.{HasWhatLasts, WritesBehind}
 use Rattle.pgfeed.specs.Texts.{entry_text}
-use Rattle.pgfeed.specs.Feeds.{AreEnded, BeginAt, BeginBelow, Ends, Follow, Goes, IsFresh}
+use Rattle.pgfeed.specs.Feeds.{AreEnded, BeginAt, BeginBelow, Ends, Follow, Goes, HasHeadAt}
+use Rattle.pgfeed.specs.Feeds.{IsFresh}
 use Rattle.pgfeed.specs.Feeds.{IsHonestFeed, IsLeftIn, IsWhole, KeepsAll, LastsUpTo, LeavesAt}
 use Rattle.pgfeed.specs.Feeds.{IsTimed, MayEnd, MayHave, NoneAt, ReopensAt, SomeLeaves, StaysTimed}
 use Rattle.pgfeed.specs.Feeds.{TakesAllBack, first_time}
@@ -103,6 +104,18 @@ module _ {F D : Type 0} (may_leave : D → List ℕ → Type 0) (has : F → ℕ
   of_none [] folder b text none (inl some) = absurd some
   of_none [] folder b text none (inr had) = had.1
   of_none (e ∷ ended) folder b text none had = cc
+
+  none_above : (ended : List (Segment D)) (base b : ℕ) (text : List ℕ) → AllByRecursion (λ (e : Segment D). e.base < base) ended → base < b
+      → SomeLeaves may_leave ended b text → ⊥
+  none_above [] base b text low up some = some
+  none_above (e ∷ ended) base b text low up (inl here) = let first = low.0 in let same = here.0 in omega arith
+  none_above (e ∷ ended) base b text low up (inr more) = none_above ended base b text low.1 up more
+
+  -- of a segment above these the folder's is what is left
+  pub of_folder : (ended : List (Segment D)) (folder : F) (base b : ℕ) (text : List ℕ)
+      → AllByRecursion (λ (e : Segment D). e.base < base) ended → base < b → MayHave may_leave has ended folder b text → has folder b text
+  of_folder ended folder base b text low up (inl some) = absurd (none_above ended base b text low up some)
+  of_folder ended folder base b text low up (inr had) = had.1
 
 pub true_false : true ≡ false → ⊥
 true_false e = cc
@@ -216,8 +229,10 @@ module _ {F D : Type 0} (seen : D → List ℕ) (may_leave : D → List ℕ → 
       subst (KeepsEntries new.base new.last new.size (seen new.disk)) (sym (append-nil es)) (segment_stays old new w stays ends es k)
 
   over_stays : (old new : Feed F D) (above : List ℕ) (now : List Entry) → StaysOn old new
-      → (above ≡ []) ⊎ ((above ≡ old.segment.last ∷ []) × IsEnded old.segment.base old.segment.last now (may_leave old.segment.disk))
-      → (above ≡ []) ⊎ ((above ≡ new.segment.last ∷ []) × IsEnded new.segment.base new.segment.last now (may_leave new.segment.disk))
+      → (above ≡ []) ⊎ ((above ≡ old.segment.last ∷ []) × IsEnded old.segment.base old.segment.last now (may_leave old.segment.disk)
+      × HasHeadAt has old.folder old.segment.last)
+      → (above ≡ []) ⊎ ((above ≡ new.segment.last ∷ []) × IsEnded new.segment.base new.segment.last now (may_leave new.segment.disk)
+      × HasHeadAt has new.folder new.segment.last)
   over_stays old new above now w (inl none) = inl none
   over_stays old new above now w (inr one) =
       let less = ended_less old.segment.base old.segment.last now (may_leave old.segment.disk) (may_leave new.segment.disk) w.less one.1 in
@@ -225,6 +240,7 @@ module _ {F D : Type 0} (seen : D → List ℕ) (may_leave : D → List ℕ → 
         one.0 ∙ ap (λ l. l ∷ []) (sym w.last_is),
         ended_at old.segment.base new.segment.base old.segment.last new.segment.last now now (λ _. may_leave new.segment.disk)
             (sym w.on.writes.base_is) (sym w.last_is) refl less,
+        subst (λ f. HasHeadAt has f new.segment.last) (sym w.on.folder_is) (subst (HasHeadAt has old.folder) (sym w.last_is) one.2),
       )
 
   pub all_stays : (old new : Feed F D) → StaysOn old new → (es : List Entry) → Keeps old es → Keeps new es
@@ -280,6 +296,7 @@ module _ {F D : Type 0} (seen : D → List ℕ) (may_leave : D → List ℕ → 
         ended_at new.segment.base old.segment.base new.segment.last old.segment.last later now (has folder) w.writes.base_is ends
         (same ends)
         (left.done (at_as new.segment.last old.segment.last left.more ends at));
+    heads = left.heads;
   }
 
   lasts_before : (old new : Feed F D) (p : ℕ) → WritesOn old new → LastsUpTo seen may_leave is_clean is_true places has old p
@@ -376,6 +393,22 @@ module _ {F D : Type 0} (seen : D → List ℕ) (may_leave : D → List ℕ → 
   returned_leaves old new b text r honest other (inr away) =
       inr (other, (r.back honest).files b text (of_none may_leave has new.ended.items new.folder b text r.alone away.1))
 
+  over_returned : (old new : Feed F D) (above : List ℕ) (now : List Entry) → Returned old new → is_true new.folder
+      → AllByRecursion (λ (e : Segment D). e.base < old.segment.base) old.ended.items
+      → (above ≡ []) ⊎ ((above ≡ old.segment.last ∷ []) × IsEnded old.segment.base old.segment.last now (may_leave old.segment.disk)
+      × HasHeadAt has old.folder old.segment.last)
+      → (above ≡ []) ⊎ ((above ≡ new.segment.last ∷ []) × IsEnded new.segment.base new.segment.last now (may_leave new.segment.disk)
+      × HasHeadAt has new.folder new.segment.last)
+  over_returned old new above now r honest low (inl none) = inl none
+  over_returned old new above now r honest low (inr one) =
+      inr (
+        subst (λ (s : Segment D). above ≡ s.last ∷ []) (sym r.segment_is) one.0,
+        subst (λ (s : Segment D). IsEnded s.base s.last now (may_leave s.disk)) (sym r.segment_is) one.1,
+        subst (λ (s : Segment D). HasHeadAt has new.folder s.last) (sym r.segment_is)
+            (λ text had. one.2 text (of_folder may_leave has old.ended.items old.folder old.segment.base old.segment.last text low
+            one.1.rises ((r.back honest).files old.segment.last text had))),
+      )
+
   pub all_returned : (old new : Feed F D) → Returned old new → (es : List Entry) → Keeps old es → Keeps new es
   all_returned old new r es k =
       let base : new.segment.base ≡ old.segment.base = ap (λ (s : Segment D). s.base) r.segment_is in
@@ -399,8 +432,7 @@ module _ {F D : Type 0} (seen : D → List ℕ) (may_leave : D → List ℕ → 
               below = subst (AllByRecursion (λ (e : Segment D). e.base < new.segment.base)) (sym r.alone) tt;
               ended = subst (λ x. AreEnded (LeavesAt may_leave has new) new.begins was.bases x k.before) (sym base)
                   (subst (λ x. AreEnded (LeavesAt may_leave has new) x was.bases old.segment.base k.before) (sym r.begins_is) less);
-              over = subst (λ (s : Segment D). (was.above ≡ [])
-                  ⊎ ((was.above ≡ s.last ∷ []) × IsEnded s.base s.last k.now (may_leave s.disk))) (sym r.segment_is) was.over;
+              over = over_returned old new was.above k.now r honest.folder was.below was.over;
               free = λ stands. was.free (ap (λ (s : Segment D). s.is_stuck) (sym r.segment_is) ∙ stands);
             };
       }
@@ -426,6 +458,7 @@ module _ {F D : Type 0} (seen : D → List ℕ) (may_leave : D → List ℕ → 
         lasting = subst (λ (s : Segment D). (text : List ℕ) → has folder s.base text
             → HasWhatLasts s.base s.size (may_leave s.disk) p text) r.segment_is left.lasting;
         done = subst (λ (s : Segment D). BeginAt s.last left.more → IsEnded s.base s.last now (has folder s.base)) r.segment_is left.done;
+        heads = left.heads;
       }
 
   pub goes_returned : (old new : Feed F D) → Returned old new → Goes seen may_leave is_clean is_true places has old new

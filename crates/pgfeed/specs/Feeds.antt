@@ -9,7 +9,7 @@ use Rattle.pgledger.specs.Entries.{Entry, last_end}
 use Rattle.pgfeed.specs.declared.feed.Feed.{Feed}
 use Rattle.pgfeed.specs.declared.segment.Segment.{Segment}
 use Rattle.pgfeed.specs.Reading.{AreEntries}
-use Rattle.pgfeed.specs.Segments.{EndsTested, HasWhatLasts, IsCut, IsEnded}
+use Rattle.pgfeed.specs.Segments.{EndsTested, HasHead, HasWhatLasts, IsCut, IsEnded}
 use Rattle.pgfeed.specs.Segments.{IsFinished, IsFound, KeepsEntries}
 use Rattle.pgfeed.specs.Segments.{Lasts}
 
@@ -113,16 +113,14 @@ module _ {D : Type 0} (seen : D → List ℕ) (may_leave : D → List ℕ → Ty
   -- What opening at an LSN makes of the text that a file had: what lies behind the commit that ends
   -- there is cut off.
   pub record IsCutAt (p : ℕ) (text : List ℕ) (s : Segment D) : Type 0 where
-    pub above : s.base < p
+    pub up : s.base ≤ p
     pub found : IsFound s.base p text s.size
-    pub tested : EndsTested p text s.size
+    pub tested : s.base < p → EndsTested p text s.size
     pub cut : IsCut text s.size (seen s.disk) (may_leave s.disk)
 
-  -- The segment was opened at an LSN in a folder: a new one that begins there, or the one that was
-  -- found, cut off there.
+  -- The segment was found in a folder, and cut off at an LSN.
   abbrev pub OpenedFrom : {F : Type 0} → (F → ℕ → List ℕ → Type 0) → F → ℕ → Segment D → Type 0
-  OpenedFrom has folder p s =
-      ((s.base ≡ p) × IsFresh s) ⊎ ((text : List ℕ) × has folder s.base text × IsCutAt p text s)
+  OpenedFrom has folder p s = (text : List ℕ) × has folder s.base text × IsCutAt p text s
 
   -- The open segment ends, and the other one begins there. The ended one is kept behind those that
   -- stay. Its file has a head, its entries and the line that ends it, and nothing else, also after
@@ -154,6 +152,10 @@ module _ {F D : Type 0} (may_leave : D → List ℕ → Type 0) (is_clean : D �
 
 -- ---- all segments of a feed
 
+-- what a folder has of the segment that begins there begins with its head
+abbrev pub HasHeadAt : {F : Type 0} → (F → ℕ → List ℕ → Type 0) → F → ℕ → Type 0
+HasHeadAt has folder base = (text : List ℕ) → has folder base text → HasHead base text
+
 module _ {F D : Type 0} (seen : D → List ℕ) (may_leave : D → List ℕ → Type 0) (is_clean : D → Bool) (is_true : F → Type 0)
     (places : F → List ℕ) (has : F → ℕ → List ℕ → Type 0) where
   -- The folder's answers were true, and the disks have given back what was written.
@@ -171,7 +173,8 @@ module _ {F D : Type 0} (seen : D → List ℕ) (may_leave : D → List ℕ → 
     pub below : AllByRecursion (λ (e : Segment D). e.base < l.segment.base) l.ended.items
     pub ended : AreEnded (LeavesAt may_leave has l) l.begins bases l.segment.base before
     pub over : (above ≡ [])
-        ⊎ ((above ≡ l.segment.last ∷ []) × IsEnded l.segment.base l.segment.last now (may_leave l.segment.disk))
+        ⊎ ((above ≡ l.segment.last ∷ []) × IsEnded l.segment.base l.segment.last now (may_leave l.segment.disk)
+        × HasHeadAt has l.folder l.segment.last)
     pub free : l.segment.is_stuck ≡ false → above ≡ []
 
   -- The feed keeps these entries: those of the segments that have ended, and then those of the open
@@ -192,7 +195,8 @@ module _ {F D : Type 0} (seen : D → List ℕ) (may_leave : D → List ℕ → 
 
   -- A folder has what a crash left of a feed whose open segment had these entries, but for a front
   -- of segments that had ended, which others removed. The last one of these ended below the LSN.
-  -- What follows the open one is free; where it begins at its end, the open one has ended.
+  -- What follows the open one is free; where it begins at its end, the open one has ended. One that
+  -- begins at the LSN has a head.
   pub record IsLeftIn (l : Feed F D) (p : ℕ) (now : List Entry) (gone : List ℕ) (folder : F) : Type 0 where
     pub honest : IsHonestFeed l
     pub stay : List ℕ
@@ -207,20 +211,21 @@ module _ {F D : Type 0} (seen : D → List ℕ) (may_leave : D → List ℕ → 
     pub lasting : (text : List ℕ) → has folder l.segment.base text
         → HasWhatLasts l.segment.base l.segment.size (may_leave l.segment.disk) p text
     pub done : BeginAt l.segment.last more → IsEnded l.segment.base l.segment.last now (has folder l.segment.base)
+    pub heads : BeginAt p more → HasHeadAt has folder p
 
   -- A folder was opened at an LSN: it is left with this open segment, and the feed begins there.
-  -- That is the one in which the LSN lies, cut off there, or a new one that begins at it, where one
-  -- did or there was none. Those above the LSN were removed, those before the open one stay as they
-  -- were, and there is nothing else.
+  -- That is the one in which the LSN lies, cut off there, or where there was none, a new one that
+  -- begins at it. Those above the LSN were removed, those before the open one stay as they were,
+  -- and there is nothing else.
   pub record CutsIn (folder : F) (p : ℕ) (left : F) (begins : ℕ) (s : Segment D) : Type 0 where
     pub bases : List ℕ
     pub above : List ℕ
-    pub there : (places folder ≡ bases ++ (s.base ∷ above)) ⊎ ((places folder ≡ []) × (bases ≡ []) × (s.base ≡ p))
+    pub there : ((places folder ≡ bases ++ (s.base ∷ above)) × OpenedFrom seen may_leave has folder p s)
+        ⊎ ((places folder ≡ []) × (bases ≡ []) × (s.base ≡ p) × IsFresh seen may_leave s)
     pub removed : AllByRecursion (λ b. p < b) above
     pub stay : places left ≡ bases ++ s.base ∷ []
     pub first : begins ≡ first_of bases s.base
     pub same : (b : ℕ) (text : List ℕ) → s.base ≢ b → has left b text → has folder b text
-    pub opened : OpenedFrom seen may_leave has folder p s
 
   pub record OpensIn (folder : F) (p : ℕ) (l : Feed F D) : Type 0 where
     pub alone : l.ended.items ≡ []

@@ -43,10 +43,12 @@ module _ {F : Type 0} (has : F → ℕ → List ℕ → Type 0) where
       pub places_are : places new ≡ places old
       pub others : HasNoMoreElse base old new
 
-    -- it has one segment more behind all others, or as many as before
-    pub record MakesAtMost (base : ℕ) (old new : F) : Type 0 where
+    -- It has as many segments as before, or one more behind all others, whose file may have these
+    -- bytes.
+    pub record MakesAtMost (base : ℕ) (outcomes : List ℕ → Type 0) (old new : F) : Type 0 where
       pub was_true : is_true old
-      pub at_most : AreBelow base (places old) → (places new ≡ places old) ⊎ (places new ≡ places old ++ base ∷ [])
+      pub at_most : AreBelow base (places old) → (places new ≡ places old)
+          ⊎ ((places new ≡ places old ++ base ∷ []) × ((text : List ℕ) → has new base text → outcomes text))
       pub others : HasNoMoreElse base old new
 
     -- the last segments are gone, these ones, and the others are as they were

@@ -39,6 +39,10 @@ pub record IsFront (base place : ℕ) (front : List ℕ) : Type 0 where
 abbrev pub Begins : List ℕ → List ℕ → Type 0
 Begins front text = (rest : List ℕ) × (text ≡ front ++ rest)
 
+-- the text begins as that of a segment which begins at this LSN
+abbrev pub HasHead : ℕ → List ℕ → Type 0
+HasHead base text = (front : List ℕ) × IsFront base base front × Begins front text
+
 -- Whatever a crash leaves begins with this front of a head and entries up to the LSN, which no
 -- later call writes to.
 pub record LastsAs (base size : ℕ) (outcomes : List ℕ → Type 0) (place : ℕ) (front : List ℕ) : Type 0 where

@@ -37,7 +37,7 @@ pub struct SegmentLimits {
 /// next.
 pub trait Folder {
     ghost use Rattle.std.specs.Prelude.{◌≡◌, ◌⊎◌, ◌++◌, ◌∷◌, [], ℕ, List, OnOk, IfErr};
-    ghost use Rattle.pgfeed.specs.Folders.{AreBelow, HasNoMore, HasNoMoreElse, IsRefusal, Stays};
+    ghost use Rattle.pgfeed.specs.Folders.{AreBelow, HasNoMore, IsRefusal, MakesAtMost, Stays};
     ghost use Rattle.pgfeed.specs.Folders.{TakesBack};
 
     /// The file of a segment.
@@ -75,21 +75,28 @@ pub trait Folder {
         ensures stays { is_true self.new → Stays has is_true places self.old self.new }
         ensures fault { is_true self.new → IfErr result IsRefusal };
 
-    /// The file of a segment that begins here. Its name outlasts a crash. Where a file has that
-    /// name already, it is that one.
+    /// A new file for a segment, which hasn't the name of one yet. What an earlier call made, and
+    /// wasn't named, goes.
     ///
     /// # Errors
     ///
     /// `Refused` where it can't be made, and `Memory`.
-    fn create(&mut self, base: Lsn) -> Result<Self::File, FeedFault>
+    fn make(&mut self) -> Result<Self::File, FeedFault>
         ensures usable { IfOk result (λ file. IsTrue (Self.File.is_usable file)) }
-        ensures made { is_true self.new → AreBelow base (places self.old) →
+        ensures stays { is_true self.new → Stays has is_true places self.old self.new }
+        ensures fault { is_true self.new → IfErr result IsRefusal };
+
+    /// Names the file that was made last: a segment begins here, and has what the file has. The
+    /// name outlasts a crash. Another file of that name goes.
+    ///
+    /// # Errors
+    ///
+    /// `Refused` where it can't be named, and `Memory`.
+    fn name(&mut self, base: Lsn, file: &Self::File) -> Result<(), FeedFault>
+        ensures named { is_true self.new → AreBelow base (places self.old) →
             OnOk result (places self.new ≡ places self.old ++ base ∷ []) }
-        ensures at_most { is_true self.new → AreBelow base (places self.old) →
-            (places self.new ≡ places self.old)
-            ⊎ (places self.new ≡ places self.old ++ base ∷ []) }
-        ensures others { is_true self.new → HasNoMoreElse has base self.old self.new }
-        ensures was_true { is_true self.new → is_true self.old }
+        ensures at_most { is_true self.new → MakesAtMost has is_true places base
+            (Self.File.may_leave file.now) self.old self.new }
         ensures fault { is_true self.new → IfErr result IsRefusal };
 
     /// Removes the segment that begins here, the last one.

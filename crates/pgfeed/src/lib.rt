@@ -1,11 +1,11 @@
 //! A feed of commits: lines of JSON that tell, for each commit, the whole row before and after each
 //! change.
 //!
-//! A segment of a feed is a file. Its head has 1,024 bytes, the line of each commit 256, padded by
-//! blanks; that line tells how many bytes follow, so a reader goes from commit to commit without
-//! reading more, and a CRC-32 of what stands before it and of these bytes. A line with the
-//! definition of a relation comes before its first change in a commit, and again where the
-//! definition changes. So a commit can be read alone.
+//! A segment of a feed is a file, which has its head before it has its name. The head has 1,024
+//! bytes, the line of each commit 256, padded by blanks; that line tells how many bytes follow, so
+//! a reader goes from commit to commit without reading more, and a CRC-32 of what stands before it
+//! and of these bytes. A line with the definition of a relation comes before its first change in a
+//! commit, and again where the definition changes. So a commit can be read alone.
 //!
 //! ```text
 //! {"feed":2,"base":"0/100","system":"7231","database":"shop","slot":"copy"}

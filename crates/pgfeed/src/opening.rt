@@ -263,8 +263,8 @@ impl<D: Disk + Drop> Segment<D> {
     ///
     /// # Errors
     ///
-    /// `TooLong` where the names don't fit the head, and then the file is as it was. `Refused`
-    /// where a call of the file fails, and `Memory`.
+    /// `TooLong` where the names don't fit the head. `Refused` where a call of the file fails, and
+    /// `Memory`.
     pub fn create(
         alloc: Global,
         mut disk: D,
@@ -272,23 +272,18 @@ impl<D: Disk + Drop> Segment<D> {
         system: &str,
         database: &str,
         slot: &str,
-    ) -> Result<Segment<D>, (FeedFault, D)>
+    ) -> Result<Segment<D>, FeedFault>
         requires { IsTrue (D.is_usable disk) }
         ensures keeps { IfOk result (λ s. KeepsEntries s.base s.last s.size (D.seen s.disk) []) }
         ensures lasts { IfOk result (λ s. Lasts s.base s.size (D.may_leave s.disk) base) }
         ensures told { IfOk result (λ s. D.seen s.disk
             ≡ segment_head base system.now database.now slot.now) }
         ensures begins { IfOk result (λ s. (s.base ≡ base) × (s.is_stuck ≡ false)) }
-        ensures fault { IfErr result (λ e. IsOther e.0) }
+        ensures fault { IfErr result IsOther }
     {
-        let head = match segment_head(alloc, base, system, database, slot) {
-            Ok(head) => head,
-            Err(fault) => return Err((fault, disk)),
-        };
-        match put_head(&mut disk, head.as_str()) {
-            Ok(()) => Ok(Segment::of(alloc, disk, base, base, SEGMENT_SIZE)),
-            Err(fault) => Err((fault, disk)),
-        }
+        let head = segment_head(alloc, base, system, database, slot)?;
+        put_head(&mut disk, head.as_str())?;
+        Ok(Segment::of(alloc, disk, base, base, SEGMENT_SIZE))
     }
 
     /// The segment in a file that begins at `base`, up to the commit that ends at the position, or

@@ -86,6 +86,13 @@ impl<D: Disk + Drop> Segment<D> {
         self.size
     }
 
+    /// The file, to look at.
+    pub(crate) fn disk(&self) -> &D
+        ensures { result.now ≡ self.now.disk }
+    {
+        &self.disk
+    }
+
     /// The file.
     pub fn into_disk(self) -> D
         ensures { result ≡ self.disk }

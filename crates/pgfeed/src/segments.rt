@@ -9,6 +9,7 @@ ghost use Rattle.pgfeed.specs.Folders.{AreBelow, IsOther, IsRefusal, MakesAtMost
 ghost use Rattle.pgfeed.specs.Folders.{Stays, StaysElse};
 ghost use Rattle.pgfeed.specs.Feeds.{CutsIn, IsFresh, OpenedFrom, OpensIn, TakesAllBack};
 ghost use Rattle.pgfeed.specs.Naming.{IsOf, head_of};
+ghost use Rattle.pgfeed.specs.Segments.{HasHead};
 ghost use Rattle.pgfeed.specs.Texts.{segment_object};
 
 use crate::fault::FeedFault;
@@ -17,40 +18,30 @@ use crate::folder::{Folder, Names, Origin, SegmentLimits};
 use crate::heads::segment_head;
 use crate::segment::Segment;
 use pglsn::Lsn;
+use sqlite_disk::Disk;
 use std::alloc::Global;
 
-/// A segment of no commits in a file, replacing whatever that has. Where that fails, the folder has
-/// the file back.
-fn create_in<F: Folder>(
+/// A segment of no commits in a file, replacing whatever that has.
+fn create_in<D: Disk + Drop>(
     alloc: Global,
-    folder: &mut F,
-    file: F::File,
+    file: D,
     names: &Names,
     base: Lsn,
-) -> Result<Segment<F::File>, FeedFault>
-    requires { IsTrue (F.File.is_usable file) }
-    ensures fresh { IfOk result (λ s. IsFresh F.File.seen F.File.may_leave s) }
-    ensures told { IfOk result (λ s. F.File.seen s.disk ≡ head_of names.now base) }
+) -> Result<Segment<D>, FeedFault>
+    requires { IsTrue (D.is_usable file) }
+    ensures fresh { IfOk result (λ s. IsFresh D.seen D.may_leave s) }
+    ensures told { IfOk result (λ s. D.seen s.disk ≡ head_of names.now base) }
     ensures base { IfOk result (λ s. s.base ≡ base) }
     ensures last { IfOk result (λ s. s.last ≡ base) }
     ensures free { IfOk result (λ s. s.is_stuck ≡ false) }
-    ensures same { OnOk result (folder.new ≡ folder.old) }
-    ensures stays { F.is_true folder.new →
-        StaysElse F.has F.is_true F.places base folder.old folder.new }
     ensures fault { IfErr result IsOther }
 {
     let system = names.system.as_str();
     let database = names.database.as_str();
-    match Segment::create(alloc, file, base, system, database, names.slot.as_str()) {
-        Ok(segment) => Ok(segment),
-        Err((fault, file)) => {
-            folder.close(base, file);
-            Err(fault)
-        }
-    }
+    Segment::create(alloc, file, base, system, database, names.slot.as_str())
 }
 
-/// A segment of no commits in a new file.
+/// A segment of no commits in a new file, which has its head before it has its name.
 pub(crate) fn begin_segment<F: Folder>(
     alloc: Global,
     folder: &mut F,
@@ -65,19 +56,19 @@ pub(crate) fn begin_segment<F: Folder>(
     ensures made { F.is_true folder.new → AreBelow base (F.places folder.old) →
         OnOk result (F.places folder.new ≡ F.places folder.old ++ base ∷ []) }
     ensures at_most { F.is_true folder.new →
-        MakesAtMost F.has F.is_true F.places base folder.old folder.new }
+        MakesAtMost F.has F.is_true F.places base (HasHead base) folder.old folder.new }
     ensures fault { F.is_true folder.new → IfErr result IsOther }
 {
-    let file = folder.create(base)?;
-    create_in(alloc, folder, file, names, base)
+    let file = folder.make()?;
+    let segment = create_in(alloc, file, names, base)?;
+    folder.name(base, segment.disk())?;
+    Ok(segment)
 }
 
-/// The segment that begins at `base`, up to the commit that ends at the position. Where it begins
-/// there, it is made again, since a crash may have left a part of its head.
+/// The segment that begins at `base`, up to the commit that ends at the position.
 fn segment_at<F: Folder>(
     alloc: Global,
     folder: &mut F,
-    names: &Names,
     base: Lsn,
     position: Lsn,
 ) -> Result<Segment<F::File>, FeedFault>
@@ -92,9 +83,6 @@ fn segment_at<F: Folder>(
         Stays F.has F.is_true F.places folder.old folder.new) }
 {
     let file = folder.open(base)?;
-    if base == position {
-        return create_in(alloc, folder, file, names, base);
-    }
     match Segment::open(alloc, file, base, position) {
         Ok(segment) => Ok(segment),
         Err((fault, file)) => {
@@ -153,7 +141,7 @@ fn last_segment<F: Folder>(
     if !are_above(above, position) {
         return Err(FeedFault::Refused);
     }
-    let segment = segment_at(alloc, folder, names, *last, position)?;
+    let segment = segment_at(alloc, folder, *last, position)?;
     remove_all(folder, above)?;
     Ok((segment, *first))
 }
@@ -172,8 +160,7 @@ pub(crate) fn close_all<F: Folder>(folder: &mut F, ended: Vec<Segment<F::File>>)
 impl<F: Folder + Drop> Feed<F> {
     /// The feed in a folder, at the position of the store beside it. The last segment that doesn't
     /// begin above the position is opened there, and what comes after is truncated, the line that
-    /// ends it too; then the segments above it are removed, the last of them first. One that begins
-    /// at the position is made again, since a crash may have left a part of its head. In a folder
+    /// ends it too; then the segments above it are removed, the last of them first. In a folder
     /// without segments one begins at the position. No other segment is read.
     ///
     /// # Errors

@@ -404,12 +404,11 @@ module _ (any : MemoryFeed) (alone : any.ended.items ≡ []) where
     cuts = λ _. record {
       bases = [];
       above = [];
-      there = inr (refl, refl, refl);
+      there = inr (refl, refl, refl, (keeps 0 [] head_0 tt, lasts 0 [] [] head_0 tt));
       removed = tt;
       stay = refl;
       first = refl;
       same = λ b left away at. alone_in 0 b (file 0 []) left [] away at;
-      opened = inl (refl, (keeps 0 [] head_0 tt, lasts 0 [] [] head_0 tt));
     };
   }
 
@@ -448,21 +447,23 @@ module _ (any : MemoryFeed) (alone : any.ended.items ≡ []) where
     cuts = λ _. record {
       bases = [];
       above = [];
-      there = inl refl;
+      there = inl (
+        refl,
+        (
+          file 0 first_three,
+          inl (refl, refl),
+          record {
+            up = omega arith;
+            found = found 0 (entry_10 ∷ []) (entry_11 ∷ entry_12 ∷ []) head_0 are_10;
+            tested = λ _. tested 0 entry_10 (entry_11 ∷ entry_12 ∷ []) head_0 are_10;
+            cut = cut 0 (entry_10 ∷ []) (entry_11 ∷ entry_12 ∷ []) head_0;
+          },
+        ),
+      );
       removed = tt;
       stay = refl;
       first = refl;
       same = λ b left away at. alone_in 0 b (file 0 (entry_10 ∷ [])) left folder_1 away at;
-      opened = inr (
-        file 0 first_three,
-        inl (refl, refl),
-        record {
-          above = omega arith;
-          found = found 0 (entry_10 ∷ []) (entry_11 ∷ entry_12 ∷ []) head_0 are_10;
-          tested = tested 0 entry_10 (entry_11 ∷ entry_12 ∷ []) head_0 are_10;
-          cut = cut 0 (entry_10 ∷ []) (entry_11 ∷ entry_12 ∷ []) head_0;
-        },
-      );
     };
   }
 
@@ -507,21 +508,23 @@ module _ (any : MemoryFeed) (alone : any.ended.items ≡ []) where
     cuts = λ _. record {
       bases = [];
       above = [];
-      there = inl refl;
+      there = inl (
+        refl,
+        (
+          file 560 (entry_13 ∷ []),
+          inl (refl, refl),
+          record {
+            up = omega arith;
+            found = found 560 (entry_13 ∷ []) [] head_560 are_13;
+            tested = λ _. tested 560 entry_13 [] head_560 are_13;
+            cut = cut 560 (entry_13 ∷ []) [] head_560;
+          },
+        ),
+      );
       removed = tt;
       stay = refl;
       first = refl;
       same = λ b left away at. at;
-      opened = inr (
-        file 560 (entry_13 ∷ []),
-        inl (refl, refl),
-        record {
-          above = omega arith;
-          found = found 560 (entry_13 ∷ []) [] head_560 are_13;
-          tested = tested 560 entry_13 [] head_560 are_13;
-          cut = cut 560 (entry_13 ∷ []) [] head_560;
-        },
-      );
     };
   }
 

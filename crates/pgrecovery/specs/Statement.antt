@@ -123,36 +123,36 @@ pub use Rattle.pgrecovery.specs.Recovered.{OverFiles, holds_tables, position_of}
 pub use Rattle.pgrecovery.specs.FedLife.{FedStore, FedRun, fed_place, fed_position, holds_fed}
 pub use Rattle.pgrecovery.specs.FedLife.{reopens_fed, IsFedRun, IsLeftBy as IsLeftBy_of_pgrecovery}
 pub use Rattle.pgrecovery.specs.FedLife.{AreFedRuns, HoldsFed, HoldFedThrough, OneFedLife}
-pub use Rattle.pgfeed.specs.Feeds.{IsHonestFeed, IsCutAt, IsFresh, OpenedFrom, first_of, CutsIn}
-pub use Rattle.pgfeed.specs.Feeds.{OpensIn, AreEnded, NoneAt, SomeLeaves, MayHave, LeavesAt}
-pub use Rattle.pgfeed.specs.Feeds.{IsWhole, KeepsAll, LastsUpTo, BeginAt, BeginBelow, Follow}
-pub use Rattle.pgfeed.specs.Feeds.{IsLeftIn, ReopensAt}
-pub use Rattle.pglsn.specs.Texts.{upper_digit}
-unfoldable pub use Rattle.pglsn.specs.Texts.{half_text, lsn_text}
-pub use Rattle.pgfeed.specs.Texts.{commit_front, crc_text, segment_front, change_front, row_data}
-pub use Rattle.pgfeed.specs.Texts.{change_line, sent_rows, sent_op, sent_text, missed_line}
-pub use Rattle.pgfeed.specs.Texts.{image_line, same_column as same_column_of_pgfeed}
-pub use Rattle.pgfeed.specs.Texts.{same_definition, is_told, column_data, columns_data, key_names}
-pub use Rattle.pgfeed.specs.Texts.{table_line, entry_body, padded, segment_rest, segment_object}
-pub use Rattle.pgfeed.specs.Texts.{segment_size, segment_head, unix_micros, about_text, commit_rest}
-pub use Rattle.pgfeed.specs.Texts.{commit_told, commit_object, commit_size, commit_line}
-pub use Rattle.pgfeed.specs.Texts.{closing_object, closing_line}
-unfoldable pub use Rattle.pgfeed.specs.Texts.{table_front, key_data, table_rest, body_text}
-unfoldable pub use Rattle.pgfeed.specs.Texts.{entry_crc, entry_text, entries_text}
-pub use Rattle.pgfeed.specs.Reading.{BeginsWith, HasItsCrc, Walks, AreEntries}
-pub use Rattle.pgcrc.specs.Crc.{differ, divisor, is_odd, message_bits, ones}
-unfoldable pub use Rattle.pgcrc.specs.Crc.{after_bit, after_bits, bits, crc32}
-pub use Rattle.pgfeed.specs.Segments.{most_tested, EndsTested, IsCut, IsFound, IsHead, KeepsEntries}
-pub use Rattle.pgfeed.specs.Segments.{Begins, IsFront, LastsAs, Lasts, IsFinished, IsEnded}
-pub use Rattle.pgfeed.specs.Segments.{HasWhatLasts}
+pub use Rattle.pgfeed.specs.Feeds.{IsHonestFeed, IsFresh, IsCutAt, OpenedFrom, first_of, CutsIn}
+pub use Rattle.pgfeed.specs.Feeds.{OpensIn, AreEnded, HasHeadAt, NoneAt, SomeLeaves, MayHave}
+pub use Rattle.pgfeed.specs.Feeds.{LeavesAt, IsWhole, KeepsAll, LastsUpTo, BeginAt, BeginBelow}
+pub use Rattle.pgfeed.specs.Feeds.{Follow, IsLeftIn, ReopensAt}
 pub use Rattle.pgledger.specs.Images.{Line, lines, deleted_image, searched_row, updated_image}
 pub use Rattle.pgledger.specs.Images.{rows_or_none, change_image, images_after}
 unfoldable pub use Rattle.pgledger.specs.Images.{image_of, images}
 pub use Rattle.pgledger.specs.Entries.{Entry, last_end, entry_of, LeadTo}
 pub use Rattle.pgfeed.specs.Fits.{FitsAbout, FitsLine, FitsEntry}
+pub use Rattle.pgfeed.specs.Texts.{change_front, row_data, change_line, sent_rows, sent_op}
+pub use Rattle.pgfeed.specs.Texts.{sent_text, missed_line, image_line}
+pub use Rattle.pgfeed.specs.Texts.{same_column as same_column_of_pgfeed, same_definition, is_told}
+pub use Rattle.pgfeed.specs.Texts.{column_data, columns_data, key_names, table_line, entry_body}
+pub use Rattle.pgfeed.specs.Texts.{padded, segment_front, segment_rest, segment_object}
+pub use Rattle.pgfeed.specs.Texts.{segment_size, segment_head, commit_front, unix_micros}
+pub use Rattle.pgfeed.specs.Texts.{about_text, commit_rest, commit_told, crc_text, commit_object}
+pub use Rattle.pgfeed.specs.Texts.{commit_size, commit_line, closing_object, closing_line}
+unfoldable pub use Rattle.pgfeed.specs.Texts.{table_front, key_data, table_rest, body_text}
+unfoldable pub use Rattle.pgfeed.specs.Texts.{entry_crc, entry_text, entries_text}
 pub use Rattle.pgjson.specs.Cells.{hex_data, cell_data, list, cells_data}
 pub use Rattle.pgjson.specs.Messages.{old_data, prior_data, integer, natural, letter_data}
 pub use Rattle.pgapply.specs.Dump.{shown_namespace}
+pub use Rattle.pgfeed.specs.Reading.{AreEntries, BeginsWith, HasItsCrc, Walks}
+pub use Rattle.pglsn.specs.Texts.{upper_digit}
+unfoldable pub use Rattle.pglsn.specs.Texts.{half_text, lsn_text}
+pub use Rattle.pgfeed.specs.Segments.{IsHead, KeepsEntries, Begins, IsFront, LastsAs, Lasts}
+pub use Rattle.pgfeed.specs.Segments.{most_tested, EndsTested, IsCut, IsFound, IsFinished, IsEnded}
+pub use Rattle.pgfeed.specs.Segments.{HasHead, HasWhatLasts}
+pub use Rattle.pgcrc.specs.Crc.{differ, divisor, is_odd, message_bits, ones}
+unfoldable pub use Rattle.pgcrc.specs.Crc.{after_bit, after_bits, bits, crc32}
 pub use Rattle.pgfeed.specs.Beside.{KeepsRest, LastsFrom, is_stuck_feed, told_from, RecordsRest}
 pub use Rattle.pgfeed.specs.Beside.{LeadsFrom}
 pub use Rattle.pgledger.specs.Records.{Records}

@@ -21,6 +21,10 @@ const FOLDER_MODE: u32 = 0o700;
 /// The mode of the files.
 const FILE_MODE: u32 = 0o600;
 
+/// The name of a segment's file until it has its head. What a crash leaves under it goes at the
+/// next start.
+const NEW: &str = "segment.new";
+
 /// The folder of a feed. A segment's file has the LSN at which it begins for its name, in 16
 /// hexadecimal digits; other names are passed over, as those of readers. One process has the folder
 /// at a time, and a file is locked as one of the SQL library.
@@ -117,10 +121,25 @@ impl<'r> FileFolder<'r> {
         Ok(())
     }
 
-    /// The path of the segment's file that begins there, with a suffix.
-    fn file_path(&self, base: Lsn, end: &str) -> Result<String, AllocError> {
+    /// The path of the segment's file that begins there.
+    fn segment_path(&self, base: Lsn) -> Result<String, AllocError> {
         let (folder, number) = (self.path, base.0);
-        format!(in self.rt.alloc(); "{folder}/{number:016X}{end}")
+        format!(in self.rt.alloc(); "{folder}/{number:016X}")
+    }
+
+    /// The path of a segment's file that hasn't its name yet.
+    fn new_path(&self) -> Result<String, AllocError> {
+        let folder = self.path;
+        format!(in self.rt.alloc(); "{folder}/{NEW}")
+    }
+
+    /// Removes what a crash has left of a segment that had no name yet.
+    fn remove_left(&self) -> Result<(), FeedFault> {
+        let path = self.new_path()?;
+        match fs::remove_file(self.rt, path.as_str()) {
+            Err(error) if error.kind() != ErrorKind::NotFound => Err(io_fault(error)),
+            _ => Ok(()),
+        }
     }
 
     /// The LSNs that the names in the folder tell, in any order.
@@ -141,11 +160,10 @@ impl<'r> FileFolder<'r> {
         Ok(bases)
     }
 
-    /// The file of a segment, locked. The log that the SQL library makes beside it goes again.
-    fn open_file(&self, base: Lsn) -> Result<FileFrom<Unknown>, FeedFault> {
-        let path = self.file_path(base, "")?;
-        let log = self.file_path(base, "-wal")?;
-        let files = sqlite_std_file::open(self.rt, path.as_str(), Unknown).map_err(open_fault)?;
+    /// The file at a path, locked. The log that the SQL library makes beside it goes again.
+    fn open_file(&self, path: &str) -> Result<FileFrom<Unknown>, FeedFault> {
+        let log = format!(in self.rt.alloc(); "{path}-wal")?;
+        let files = sqlite_std_file::open(self.rt, path, Unknown).map_err(open_fault)?;
         fs::remove_file(self.rt, log.as_str()).map_err(io_fault)?;
         Ok(files.db)
     }
@@ -172,32 +190,37 @@ impl Folder for FileFolder<'_> {
 
     fn bases(&mut self) -> Result<Vec<Lsn>, FeedFault> {
         self.reach()?;
+        self.remove_left()?;
         let mut bases = self.read_bases(self.rt.alloc()).map_err(io_fault)?;
         bases.sort()?;
         Ok(bases)
     }
 
     fn open(&mut self, base: Lsn) -> Result<FileFrom<Unknown>, FeedFault> {
-        usable(self.open_file(base)?)
+        let path = self.segment_path(base)?;
+        usable(self.open_file(path.as_str())?)
     }
 
-    fn create(&mut self, base: Lsn) -> Result<FileFrom<Unknown>, FeedFault> {
-        let path = self.file_path(base, "")?;
-        let made = OpenOptions::new()
+    fn make(&mut self) -> Result<FileFrom<Unknown>, FeedFault> {
+        self.remove_left()?;
+        let path = self.new_path()?;
+        OpenOptions::new()
             .write(true)
             .create_new(true)
             .mode(FILE_MODE)
-            .open(self.rt, path.as_str());
-        match made {
-            Err(error) if error.kind() != ErrorKind::AlreadyExists => return Err(io_fault(error)),
-            _ => {}
-        }
-        sync_names(&self.folder)?;
-        usable(self.open_file(base)?)
+            .open(self.rt, path.as_str())
+            .map_err(io_fault)?;
+        usable(self.open_file(path.as_str())?)
+    }
+
+    fn name(&mut self, base: Lsn, _file: &FileFrom<Unknown>) -> Result<(), FeedFault> {
+        let (new, path) = (self.new_path()?, self.segment_path(base)?);
+        fs::rename(self.rt, new.as_str(), path.as_str()).map_err(io_fault)?;
+        sync_names(&self.folder)
     }
 
     fn remove(&mut self, base: Lsn) -> Result<(), FeedFault> {
-        let path = self.file_path(base, "")?;
+        let path = self.segment_path(base)?;
         fs::remove_file(self.rt, path.as_str()).map_err(io_fault)?;
         sync_names(&self.folder)
     }

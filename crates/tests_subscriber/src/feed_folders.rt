@@ -84,9 +84,11 @@ impl MemoryFolder {
         Ok(bases)
     }
 
-    /// Adds a segment of no bytes.
-    fn add(&mut self, base: Lsn) -> Result<(), AllocError> {
-        self.segments.push((base, Vec::new(self.alloc)))?;
+    /// Gives the segment that begins there these bytes.
+    fn put(&mut self, base: Lsn, bytes: &[u8]) -> Result<(), AllocError> {
+        let bytes = Vec::from_slice(self.alloc, bytes)?;
+        self.segments.retain(|segment| segment.0 != base);
+        self.segments.push((base, bytes))?;
         Ok(())
     }
 
@@ -135,13 +137,14 @@ impl Folder for MemoryFolder {
         self.give(&bytes)
     }
 
-    fn create(&mut self, base: Lsn) -> Result<Fuse<Memory>, FeedFault> {
+    fn make(&mut self) -> Result<Fuse<Memory>, FeedFault> {
         self.called()?;
-        let bytes = self.bytes_of(base)?;
-        if bytes.is_none() {
-            self.add(base)?;
-        }
-        self.give(&bytes.unwrap_or(Vec::new(self.alloc)))
+        self.give(&[])
+    }
+
+    fn name(&mut self, base: Lsn, file: &Fuse<Memory>) -> Result<(), FeedFault> {
+        self.called()?;
+        Ok(self.put(base, file.inner().bytes())?)
     }
 
     fn remove(&mut self, base: Lsn) -> Result<(), FeedFault> {

@@ -8,10 +8,10 @@ use Rattle.pgledger.specs.Entries.{Entry, last_end}
 use Rattle.pgfeed.specs.declared.feed.Feed.{Feed}
 use Rattle.pgfeed.specs.declared.segment.Segment.{Segment}
 use Rattle.pgfeed.specs.Reading.{AreEntries}
-use Rattle.pgfeed.specs.Segments.{HasWhatLasts, IsEnded, IsFinished, IsFound, KeepsEntries, Lasts}
-use Rattle.pgfeed.specs.Segments.{Reopens}
+use Rattle.pgfeed.specs.Segments.{Begins, HasHead, HasWhatLasts, IsEnded, IsFinished, IsFound}
+use Rattle.pgfeed.specs.Segments.{IsFront, KeepsEntries, Lasts, Reopens}
 use Rattle.pgfeed.specs.Texts.{closing_line, entries_text}
-use Rattle.pgfeed.specs.Feeds.{AreEnded, BeginAt, Follow, IsCutAt, IsFresh, OpenedFrom}
+use Rattle.pgfeed.specs.Feeds.{AreEnded, BeginAt, Follow, HasHeadAt, IsCutAt, IsFresh, OpenedFrom}
 use Rattle.pgfeed.specs.Feeds.{IsHonestFeed, IsLeftIn, KeepsAll, KeepsLast, LastsUpTo, LeavesAt}
 use Rattle.pgfeed.specs.Feeds.{MayHave}
 use Rattle.pgfeed.specs.Feeds.{OpensIn}
@@ -19,6 +19,7 @@ use Rattle.pgfeed.specs.Feeds.{first_of}
 use Rattle.pgfeed.specs.Cutting.Kept.{end_append, entries_append, entries_behind, entries_front}
 use Rattle.pgfeed.specs.Cutting.Kept.{text_append}
 use Rattle.pgfeed.specs.Cutting.Opened.{cut_at}
+use Rattle.pgfeed.specs.Cutting.Walking.{no_entry}
 
 pub ends_up : (at : ℕ) (es : List Entry) → AreEntries at es → at ≤ last_end at es
 ends_up at [] are = omega arith
@@ -252,16 +253,40 @@ module _ {F D : Type 0} (seen : D → List ℕ) (may_leave : D → List ℕ → 
   less_left old new p now gone folder b text a other (inr away) = a.same b text other
       (of_none new.ended.items new.folder b text a.alone away.1)
 
-  cut_fresh : (new : Feed F D) (at p : ℕ) (told : List Entry) → AreEntries at told → last_end at told ≡ p → at ≡ new.segment.base
-      → new.segment.base ≡ p → IsFresh seen may_leave new.segment → Cut at [] new p told
-  cut_fresh new at p told are ends begins there fresh = record {
-    before = [];
-    now = [];
-    is = none_told at told are (ends ∙ sym there ∙ sym begins);
-    ended = (begins, refl);
-    kept = fresh.0;
-    lasting = subst (λ q. Lasts new.segment.base new.segment.size (may_leave new.segment.disk) q) there fresh.1;
-  }
+  -- one that is opened where it begins has no entry
+  opened_fresh : (s : Segment D) (p : ℕ) (text : List ℕ) → s.base ≡ p → s.last ≡ p → IsCutAt seen may_leave p text s → HasHead p text
+      → IsFresh seen may_leave s
+  opened_fresh s p text at last cuts headed =
+      let front : List ℕ = headed.0 in
+      let is : IsFront p p front = headed.1 in
+      let begins : Begins front text = headed.2 in
+      let bare : front ≡ is.head =
+      is.front_is ∙ ap (λ es. is.head ++ entries_text p es) (none_told p is.told is.entries is.ends) ∙ ap (λ xs. is.head ++ xs) (no_entry p)
+      ∙ append-nil is.head in
+      let kept : KeepsEntries p p 1024 text [] = record {
+        head = is.head;
+        rest = begins.0;
+        is_head = is.is_head;
+        file_is = begins.1 ∙ ap (λ xs. xs ++ begins.0) bare ∙ ap (λ xs. is.head ++ (xs ++ begins.0)) (sym (no_entry p));
+        size_is = ap (λ xs. 1024 + length {A = ℕ} xs) (sym (no_entry p));
+        entries = tt;
+        last_is = refl;
+      } in
+      let lasting : Lasts p 1024 (λ c. c ≡ text) p = (
+        front,
+        record { is_front = is; within = omega (arith, ap length bare, is.is_head.size); each = λ c same. (begins.0, same ∙ begins.1) },
+      ) in
+      let again : Reopens p 1024 (λ c. c ≡ text) p s.base s.last s.size (seen s.disk) (may_leave s.disk) = record {
+        text = text;
+        has = λ front lasting. lasting.each text refl;
+        base_is = at;
+        last_is = last;
+        found = subst (λ b. IsFound b p text s.size) at cuts.found;
+        cut = cuts.cut;
+      } in
+      let cut = cut_at p p 1024 p s.base s.last s.size text (seen s.disk) (λ c. c ≡ text) (may_leave s.disk) [] [] refl again kept refl
+      lasting in
+      (cut.0, subst (λ q. Lasts s.base s.size (may_leave s.disk) q) (sym at) cut.2)
 
   cut_text : (new : Feed F D) (at last size p : ℕ) (told rest : List Entry) (text file : List ℕ) (outcomes : List ℕ → Type 0)
       → at ≡ new.segment.base → new.segment.last ≡ p → IsCutAt seen may_leave p text new.segment → outcomes file
@@ -287,9 +312,7 @@ module _ {F D : Type 0} (seen : D → List ℕ) (may_leave : D → List ℕ → 
       → at ≡ old.segment.base → old.segment.base ≡ new.segment.base → AreEntries at told → last_end at told ≡ p → now ≡ told ++ later
       → new.segment.base ≤ p
       → OpenedFrom seen may_leave has folder p new.segment → Cut at [] new p told
-  cut_open stay old new p now gone folder at told later a begins same are ends split to (inl fresh) =
-      cut_fresh new at p told are ends (begins ∙ same) fresh.0 fresh.1
-  cut_open stay old new p now gone folder at told later a begins same are ends split to (inr cuts) =
+  cut_open stay old new p now gone folder at told later a begins same are ends split to cuts =
       let had : has folder old.segment.base cuts.0 = subst (λ b. has folder b cuts.0) (sym same) cuts.1 in
       let kept : KeepsEntries at old.segment.last old.segment.size (seen old.segment.disk) (told ++ later) =
       subst (λ b. KeepsEntries b old.segment.last old.segment.size (seen old.segment.disk) (told ++ later)) (sym begins)
@@ -313,9 +336,7 @@ module _ {F D : Type 0} (seen : D → List ℕ) (may_leave : D → List ℕ → 
       → b ≡ at → b ≡ new.segment.base → b < old.segment.base → IsEnded b last own (LeavesAt may_leave has old b) → AreEntries at told
       → last_end at told ≡ p → own ++ (more ++ now) ≡ told ++ later → p < last
       → OpenedFrom seen may_leave has folder p new.segment → Cut at [] new p told
-  cut_ended old new p now gone folder at b last own more told later a begins same low e are ends split below (inl fresh) =
-      cut_fresh new at p told are ends (sym begins ∙ same) fresh.0 fresh.1
-  cut_ended old new p now gone folder at b last own more told later a begins same low e are ends split below (inr cuts) =
+  cut_ended old new p now gone folder at b last own more told later a begins same low e are ends split below cuts =
       let had : has folder b cuts.0 = subst (λ x. has folder x cuts.0) (sym same) cuts.1 in
       let is : cuts.0 ≡ e.text = e.finished.synced cuts.0 (a.left.each b cuts.0 low had) in
       let there : last_end at own ≡ last = ap (λ x. last_end x own) (sym begins) ∙ sym e.finished.last_is in
@@ -336,21 +357,22 @@ module _ {F D : Type 0} (seen : D → List ℕ) (may_leave : D → List ℕ → 
       → at ≡ old.segment.base → old.segment.base ≡ x → AreEntries at told → last_end at told ≡ p → now ≡ told ++ later
       → Follow old.segment.base old.segment.last more
       → (BeginAt old.segment.last more → IsEnded old.segment.base old.segment.last now (has folder old.segment.base))
+      → (BeginAt p more → HasHeadAt has folder p)
       → more ≡ xs ++ (new.segment.base ∷ above) → new.segment.base ≤ p
       → OpenedFrom seen may_leave has folder p new.segment → Cut at (x ∷ xs) new p told
-  cut_next old new p now gone folder at x told later [] xs above a begins same are ends split behind done tail to opened =
+  cut_next old new p now gone folder at x told later [] xs above a begins same are ends split behind done heads tail to cuts =
       absurd (never_none xs above new.segment.base tail)
-  cut_next old new p now gone folder at x told later (m ∷ more) (y ∷ xs) above a begins same are ends split behind done tail to opened =
+  cut_next old new p now gone folder at x told later (m ∷ more) (y ∷ xs) above a begins same are ends split behind done heads tail to cuts =
       let rest : more ≡ xs ++ (new.segment.base ∷ above) = cc in
       let high = all_behind (λ b. m < b) xs above new.segment.base (subst (AllByRecursion (λ b. m < b)) rest behind.2) in
       absurd (omega (arith, behind.1, a.up))
-  cut_next old new p now gone folder at x told later (m ∷ more) [] above a begins same are ends split behind done tail to (inr cuts) =
+  cut_next old new p now gone folder at x told later (m ∷ more) [] above a begins same are ends split behind done heads tail to cuts =
       let head : m ≡ new.segment.base = cc in
-      absurd (omega (arith, behind.1, a.up, cuts.2.above))
-  cut_next old new p now gone folder at x told later (m ∷ more) [] above a begins same are ends split behind done tail to (inl fresh) =
-      let head : m ≡ new.segment.base = cc in
-      let place : p ≡ old.segment.last = omega (arith, behind.1, a.up, fresh.0) in
-      let there : m ≡ old.segment.last = head ∙ fresh.0 ∙ place in
+      let here : new.segment.base ≡ p = omega (arith, behind.1, a.up, head) in
+      let place : p ≡ old.segment.last = omega (arith, behind.1, a.up, head) in
+      let there : m ≡ old.segment.last = head ∙ here ∙ place in
+      let fresh : IsFresh seen may_leave new.segment = opened_fresh new.segment p cuts.0 here a.last cuts.2
+      (heads (head ∙ here) cuts.0 (subst (λ b. has folder b cuts.0) here cuts.1)) in
       let e = done there in
       let all : AreEntries at (told ++ later) = subst (λ b. AreEntries b (told ++ later)) (sym begins)
       (subst (AreEntries old.segment.base) split a.kept.entries) in
@@ -375,8 +397,8 @@ module _ {F D : Type 0} (seen : D → List ℕ) (may_leave : D → List ℕ → 
           subst (λ b. IsEnded b old.segment.last now (LeavesAt may_leave has new b)) same ended,
           (sym there ∙ head, refl),
         );
-        kept = fresh.1.0;
-        lasting = subst (λ q. Lasts new.segment.base new.segment.size (may_leave new.segment.disk) q) fresh.0 fresh.1.1;
+        kept = fresh.0;
+        lasting = subst (λ q. Lasts new.segment.base new.segment.size (may_leave new.segment.disk) q) here fresh.1;
       }
 
   cut_from : ((d : D) → may_leave d (seen d)) → (old new : Feed F D) (p : ℕ) (now : List Entry) (gone : List ℕ) (folder : F) (at : ℕ)
@@ -394,8 +416,8 @@ module _ {F D : Type 0} (seen : D → List ℕ) (may_leave : D → List ℕ → 
       let head : old.segment.base ≡ x = cc in
       let tail : a.left.more ≡ bases ++ (new.segment.base ∷ above) = cc in
       let mine : now ≡ told ++ later = ap (λ xs. xs ++ now) (sym e.1) ∙ split in
-      cut_next old new p now gone folder at x told later a.left.more bases above a e.0 head are ends mine a.left.behind a.left.done tail to
-      a.opened
+      cut_next old new p now gone folder at x told later a.left.more bases above a e.0 head are ends mine a.left.behind a.left.done
+      a.left.heads tail to a.opened
   cut_from may_stay old new p now gone folder at (b ∷ stay) es told later [] above a e are ends split same high to =
       let head : b ≡ new.segment.base = cc in
       let tail : stay ++ (old.segment.base ∷ a.left.more) ≡ above = cc in
@@ -445,14 +467,11 @@ module _ {F D : Type 0} (seen : D → List ℕ) (may_leave : D → List ℕ → 
         lasting = more.lasting;
       }
 
-  split_at : (stay : List ℕ) (base : ℕ) (more found bases above : List ℕ) (b p : ℕ) → found ≡ stay ++ (base ∷ more)
-      → (found ≡ bases ++ (b ∷ above)) ⊎ ((found ≡ []) × (bases ≡ []) × (b ≡ p)) → stay ++ (base ∷ more) ≡ bases ++ (b ∷ above)
-  split_at stay base more found bases above b p there (inl split) = sym there ∙ split
+  split_at : {P Q : Type 0} (stay : List ℕ) (base : ℕ) (more found bases above : List ℕ) (b p : ℕ) → found ≡ stay ++ (base ∷ more)
+      → ((found ≡ bases ++ (b ∷ above)) × P) ⊎ ((found ≡ []) × (bases ≡ []) × (b ≡ p) × Q)
+      → (stay ++ (base ∷ more) ≡ bases ++ (b ∷ above)) × P
+  split_at stay base more found bases above b p there (inl split) = (sym there ∙ split.0, split.1)
   split_at stay base more found bases above b p there (inr none) = absurd (never_none stay more base (sym none.0 ∙ there))
-
-  opened_to : (new : Feed F D) (p : ℕ) (folder : F) → OpenedFrom seen may_leave has folder p new.segment → new.segment.base ≤ p
-  opened_to new p folder (inl fresh) = let at = fresh.0 in omega arith
-  opened_to new p folder (inr cuts) = let above = cuts.2.above in omega arith
 
   -- all that a feed keeps are entries
   pub all_entries : (l : Feed F D) (es : List Entry) → KeepsAll seen may_leave is_clean is_true places has l es → AreEntries l.begins es
@@ -486,8 +505,10 @@ module _ {F D : Type 0} (seen : D → List ℕ) (may_leave : D → List ℕ → 
       let at : ℕ = last_end old.begins last.0 in
       let up : old.segment.base ≤ old.segment.last =
       let far = ends_up old.segment.base k.now k.kept.entries in omega (arith, k.kept.last_is) in
-      let split = split_at left.stay old.segment.base left.more (places folder) c.bases c.above new.segment.base p left.there c.there in
-      let to = opened_to new p folder c.opened in
+      let found = split_at left.stay old.segment.base left.more (places folder) c.bases c.above new.segment.base p left.there c.there in
+      let split = found.0 in
+      let opened : OpenedFrom seen may_leave has folder p new.segment = found.1 in
+      let to = opened.2.up in
       let from = reaches leaves at left.stay old.segment.base old.segment.last last.1 left.more c.bases c.above new.segment.base p last.4 up
       left.behind split to in
       let whole : last.0 ++ (last.1 ++ k.now) ≡ told ++ later =
@@ -505,7 +526,7 @@ module _ {F D : Type 0} (seen : D → List ℕ) (may_leave : D → List ℕ → 
         alone = opens.alone;
         last = opens.last;
         same = c.same;
-        opened = c.opened;
+        opened = opened;
       } in
       let cut = cut_from may_stay old new p k.now gone folder at left.stay last.1 mid later c.bases c.above a last.4 behind end rest.2 split
       c.removed to in

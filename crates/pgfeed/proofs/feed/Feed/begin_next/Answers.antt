@@ -3,7 +3,7 @@ use Rattle.std.specs.Prelude.{IsTrue}
 use Rattle.pgledger.specs.Entries.{Entry}
 use Rattle.pgfeed.specs.Feeds.{IsFresh}
 use Rattle.pgfeed.specs.Folders.{AreBelow, HasNoMoreElse, MakesAtMost}
-use Rattle.pgfeed.specs.Segments.{IsFinished, KeepsEntries}
+use Rattle.pgfeed.specs.Segments.{HasHead, IsFinished, KeepsEntries}
 use Rattle.pgfeed.specs.declared.segment.Segment.{Segment}
 use Rattle.pgfeed.proofs.Ending.{all_begins, all_ends, goes_begins, goes_ends}
 use Rattle.pgfeed.proofs.Following.{Writes, all_quiet, goes_quiet, writes_line}
@@ -80,8 +80,8 @@ returns-in_err-segment-clause-goes g c =
       clean = done.clean;
       rises = c.requires.some;
       finished = done.finished;
-      made = λ honest. subst (λ base. MakesAtMost g.F.Folder.has g.F.Folder.is_true g.F.Folder.places base c.args.self.now.folder
-          c.begin_segment.new.folder) c.last-base.ensures (c.begin_segment.ensures.at_most honest);
+      made = λ honest. subst (λ base. MakesAtMost g.F.Folder.has g.F.Folder.is_true g.F.Folder.places base (HasHead base)
+          c.args.self.now.folder c.begin_segment.new.folder) c.last-base.ensures (c.begin_segment.ensures.at_most honest);
       was = c.requires.free;
       stuck = done.stuck;
     })
@@ -101,8 +101,8 @@ returns-in_err-segment-clause-kept g c =
       clean = done.clean;
       rises = c.requires.some;
       finished = done.finished;
-      made = λ honest. subst (λ base. MakesAtMost g.F.Folder.has g.F.Folder.is_true g.F.Folder.places base c.args.self.now.folder
-          c.begin_segment.new.folder) c.last-base.ensures (c.begin_segment.ensures.at_most honest);
+      made = λ honest. subst (λ base. MakesAtMost g.F.Folder.has g.F.Folder.is_true g.F.Folder.places base (HasHead base)
+          c.args.self.now.folder c.begin_segment.new.folder) c.last-base.ensures (c.begin_segment.ensures.at_most honest);
       was = c.requires.free;
       stuck = done.stuck;
     })
