@@ -1,6 +1,6 @@
 //! The newest commits that came, and what is said of one that comes.
 
-ghost use Rattle.std.specs.Prelude.{◌≡◌, ◌≢◌, ◌<◌, ◌≤◌, Some, None, true, OnOk, IfErr};
+ghost use Rattle.std.specs.Prelude.{◌≡◌, ◌≢◌, ◌<◌, ◌≤◌, ◌==◌, Some, None, true, OnOk, IfErr};
 ghost use Rattle.std.specs.Bool.{OnTrue};
 ghost use Rattle.std.specs.BTreeMap.{btree_map_len};
 ghost use Rattle.pgrepeats.specs.Past.{BeginsAt, Forgets, IsFirstForgotten};
@@ -102,6 +102,27 @@ impl Past {
         }
     }
 
+    /// How many are noted.
+    pub fn len(&self) -> usize
+        ensures { result ≡ btree_map_len self.now.commits }
+    {
+        self.commits.len()
+    }
+
+    /// Whether none is noted.
+    pub fn is_empty(&self) -> bool
+        ensures { result ≡ (btree_map_len self.now.commits == 0) }
+    {
+        self.commits.is_empty()
+    }
+
+    /// Where the newest one ends that came, 0 before the first.
+    pub fn newest(&self) -> u64
+        ensures { result ≡ self.now.newest }
+    {
+        self.newest
+    }
+
     /// How many were forgotten.
     pub fn forgotten(&self) -> u64
         ensures { result ≡ self.now.forgotten }
@@ -132,6 +153,15 @@ impl Past {
         self.since = self.newest;
         self.changed = 0;
         self.last = None;
+    }
+
+    /// Forgets all, and where the newest one ended: the next one is the first that comes.
+    pub fn restart(&mut self)
+        ensures { IsFirst self.old.limit self.new }
+    {
+        self.forget();
+        self.newest = 0;
+        self.since = 0;
     }
 
     /// Hears the next commit of a session, and notes it where it is new.

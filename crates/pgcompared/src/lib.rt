@@ -1,0 +1,28 @@
+//! Whether the commits of a server's sessions are those that it sent before.
+//!
+//! The bytes of sessions come in any pieces, one session after the other. What came of each commit
+//! is noted (crate `pgrepeats`), and compared when it comes again:
+//!
+//! ```text
+//! let mut compared = Compared::new(alloc, Version::Two, MAX_FRAME, 65_536, past);
+//! let heard = compared.hear_front(piece);       // up to the end of one frame
+//! match heard.found {
+//!     Some(Finding::Contradicted { at, contradiction }) => ..,
+//!     Some(Finding::Lost { at, why }) => ..,    // the session isn't compared from there on
+//!     None => ..,
+//! }
+//! ```
+//!
+//! A commit is compared by its changes that survive, in order, each as it is encoded outside stream
+//! blocks: so a transaction that is streamed is the same as one that comes whole.
+#![tactic(auto)]
+
+mod compared;
+mod finding;
+mod noting;
+mod open;
+mod session;
+mod stream;
+
+pub use compared::{Compared, Heard};
+pub use finding::{Finding, Lost};
