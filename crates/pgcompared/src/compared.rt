@@ -2,13 +2,18 @@
 //!
 //! PostgreSQL documentation, Streaming Replication Protocol, START_REPLICATION.
 
+ghost use Rattle.std.specs.Prelude.{◌≡◌, ◌≤◌, ◌<◌, ◌++◌, ℕ, List, [], length, take, true, false};
+ghost use Rattle.pgorder.specs.declared.Version.{Version as OfVersion};
+ghost use Rattle.pgrepeats.specs.declared.past.Past.{Past as PastCommits};
+ghost use Rattle.pgcompared.specs.declared.noting.Told.{Told as Answered};
+ghost use Rattle.pgcompared.specs.Live.{HearsNext, IsCompared, speaking, told_deaf};
+
 use crate::finding::{Finding, Lost};
-use crate::noting::{Noting, Told};
-use crate::session::Session;
-use pglogical::decode_ref;
+use crate::hearing::Hearing;
+use crate::noting::Told;
 use pgorder::Version;
 use pgrepeats::{Commit, Past};
-use pgwire::{Deframer, Frame, ServerMsg, WireFault, decode_server};
+use pgwire::{Deframer, WireFault};
 use std::alloc::Global;
 
 /// Sessions that come one after the other, whose commits are compared with those that came before.
@@ -18,17 +23,10 @@ use std::alloc::Global;
 /// all is forgotten. Where its frames can't be told apart, nothing that comes later is compared.
 #[derive(Drop)]
 pub struct Compared {
-    alloc: Global,
-    version: Version,
-    limit: u64,
     deframer: Deframer,
-    session: Session,
-    noting: Noting,
-    // where the next frame of the session begins, and how many bytes of it have come
-    at: u64,
+    hearing: Hearing,
+    // how many bytes of the session have come
     came: u64,
-    // the session isn't compared any more
-    lost: bool,
     // the frames can't be told apart any more
     deaf: bool,
 }
@@ -48,7 +46,14 @@ pub struct Heard {
 }
 
 impl Heard {
-    fn of(count: usize, told: Told) -> Heard {
+    fn of(count: usize, told: Told) -> Heard
+        ensures { result ≡ record {
+          count = count;
+          forgot = told.forgot;
+          noted = told.noted;
+          found = told.found;
+        } }
+    {
         Heard {
             count,
             forgot: told.forgot,
@@ -64,119 +69,80 @@ impl Compared {
     /// another subtransaction begin. One with more isn't compared: at its commit all is forgotten.
     pub fn new(alloc: Global, version: Version, max_frame: u32, limit: u64, past: Past) -> Compared
         requires { max_frame ≤ 2147483643 }
+        ensures { IsCompared version limit max_frame past [] result [] }
     {
         Compared {
-            alloc,
-            version,
-            limit,
             deframer: Deframer::new(alloc, max_frame),
-            session: Session::new(alloc, version, limit),
-            noting: Noting::new(past),
-            at: 0,
+            hearing: Hearing::new(alloc, version, limit, past),
             came: 0,
-            lost: false,
             deaf: false,
         }
     }
 
     /// What is noted.
-    pub fn past(&self) -> &Past {
-        &self.noting.past
+    pub fn past(&self) -> &Past
+        ensures { result.now ≡ self.now.hearing.noting.past }
+    {
+        &self.hearing.noting.past
     }
 
     /// How many commits came before, just so.
-    pub fn equal(&self) -> u64 {
-        self.noting.equal()
+    pub fn equal(&self) -> u64
+        ensures { result ≡ self.now.hearing.noting.equal }
+    {
+        self.hearing.noting.equal()
     }
 
     /// Hears the front of a piece, up to the end of one frame.
-    pub fn hear_front(&mut self, piece: &[u8]) -> Heard {
+    pub fn hear_front(&mut self, piece: &[u8]) -> Heard
+        requires { 0 < length piece.now }
+        ensures count { (result.count ≤ length piece.now) × (0 < result.count) }
+        ensures compared { (v : OfVersion) (limit max : ℕ) (past : PastCommits) (all : List ℕ)
+            (told : List Answered) → IsCompared v limit max past all self.old told →
+            IsCompared v limit max past (all ++ take result.count piece.now) self.new
+            (told ++ speaking result.forgot result.noted result.found) }
+    {
         if self.deaf {
             return Heard::of(piece.len(), Told::nothing(false));
         }
         let count = match self.deframer.feed(piece) {
-            Ok(count) => count,
+            Ok(count) if count > 0 => count,
+            // (a deframer that waits takes some)
+            Ok(_) => return Heard::of(piece.len(), self.stop_hearing(WireFault::Memory)),
             Err(fault) => return Heard::of(piece.len(), self.stop_hearing(fault)),
         };
         let Some(came) = self.came.checked_add(count as u64) else {
-            return Heard::of(piece.len(), self.stop_hearing(WireFault::Memory));
+            return Heard::of(count, self.stop_hearing(WireFault::Memory));
         };
-        self.came = came;
-        Heard::of(count, self.hear_next())
+        Heard::of(count, self.hear_next(came))
     }
 
-    // Hears the frame that is whole, if one is.
-    fn hear_next(&mut self) -> Told {
+    // Hears the frame that is whole, if one is. So many bytes of the session have come.
+    fn hear_next(&mut self, came: u64) -> Told
+        ensures { HearsNext self.old came self.new result }
+    {
+        self.came = came;
         let Some(frame) = self.deframer.whole() else {
             return Told::nothing(false);
         };
-        let told = match frame {
-            Frame::Data(payload) if !self.lost => {
-                hear_payload(&mut self.session, &mut self.noting, self.at, payload)
-            }
-            _ => Told::nothing(false),
-        };
-        if let Some(Finding::Lost { .. }) = told.found {
-            self.lost = true;
-        }
-        self.at = self.came;
+        let told = self.hearing.hear(&frame, came);
         self.deframer.release();
         if self.deframer.is_done() {
-            return self.begin_session();
+            self.deframer.reset();
+            self.came = 0;
         }
         told
     }
 
-    // The next session begins.
-    fn begin_session(&mut self) -> Told {
-        let forgot = self.lost;
-        self.noting.begin_session(forgot);
-        self.deframer.reset();
-        self.session = Session::new(self.alloc, self.version, self.limit);
-        self.at = 0;
-        self.came = 0;
-        self.lost = false;
-        Told::nothing(forgot)
-    }
-
     // The frames can't be told apart any more, or there is no memory for them.
-    fn stop_hearing(&mut self, fault: WireFault) -> Told {
+    fn stop_hearing(&mut self, fault: WireFault) -> Told
+        ensures new { self.new ≡ record self.old { deaf = true } }
+        ensures told { result ≡ told_deaf self.old.hearing.lost self.old.hearing.at fault }
+    {
         self.deaf = true;
-        if self.lost {
+        if self.hearing.lost {
             return Told::nothing(false);
         }
-        let at = self.at;
-        lost(at, Lost::Unframed(fault))
-    }
-}
-
-// The session isn't compared from this frame on.
-fn lost(at: u64, why: Lost) -> Told {
-    Told {
-        forgot: false,
-        noted: None,
-        found: Some(Finding::Lost { at, why }),
-    }
-}
-
-// Hears a payload of CopyData.
-fn hear_payload(session: &mut Session, noting: &mut Noting, at: u64, payload: &[u8]) -> Told {
-    match decode_server(payload) {
-        Ok(ServerMsg::Data { body, .. }) => hear_body(session, noting, at, body),
-        Ok(ServerMsg::Keepalive { .. }) => Told::nothing(false),
-        Err(fault) => lost(at, Lost::Unsaid(fault)),
-    }
-}
-
-// Hears the data of XLogData.
-fn hear_body(session: &mut Session, noting: &mut Noting, at: u64, body: &[u8]) -> Told {
-    let message = match decode_ref(body, session.in_block()) {
-        Ok(message) => message,
-        Err(fault) => return lost(at, Lost::Undecoded(fault)),
-    };
-    match session.hear(&message, body) {
-        Ok(Some(ended)) => noting.hear(at, ended),
-        Ok(None) => Told::nothing(false),
-        Err(why) => lost(at, why),
+        Told::lost(self.hearing.at, Lost::Unframed(fault))
     }
 }

@@ -19,10 +19,13 @@
 
 mod compared;
 mod finding;
+mod hearing;
+mod laws;
 mod noting;
-mod open;
+mod opened;
 mod session;
 mod stream;
 
 pub use compared::{Compared, Heard};
 pub use finding::{Finding, Lost};
+pub use laws::{ended_are_commits, sessions_are_not_contradicted};

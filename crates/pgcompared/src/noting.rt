@@ -1,9 +1,16 @@
 //! The commits of sessions, told to what is noted.
 
+ghost use Rattle.std.specs.Prelude.{◌≡◌, None, Some, true, false, ◌⊎◌};
+ghost use Rattle.pgrepeats.specs.Past.{Answers, Contradicts, IsForgotten};
+ghost use Rattle.pgcompared.specs.declared.finding.Finding.TheVariants as finding;
+ghost use Rattle.pgcompared.specs.Noting.{BeginsSession, ForgetsIf, HearsEnded, IsAnswered};
+ghost use Rattle.pgcompared.specs.Noting.{Restarts, Tells, begun_session, equal_with, noted_by};
+ghost use Rattle.pgcompared.specs.Noting.{told_nothing};
+ghost use Rattle.pgcompared.specs.Frames.{lost_at};
+
 use crate::finding::{Finding, Lost};
 use crate::session::Ended;
 use pgrepeats::{Answer, Commit, Past, Trouble};
-use std::mem::replace;
 
 /// What is noted, and whether a commit was heard.
 #[derive(Drop)]
@@ -13,7 +20,7 @@ pub(crate) struct Noting {
     equal: u64,
 }
 
-/// What comes of a commit.
+/// What comes of a frame.
 #[derive(Clone, Copy, Debug)]
 pub(crate) struct Told {
     /// All that was noted before is forgotten.
@@ -23,20 +30,34 @@ pub(crate) struct Told {
 }
 
 impl Told {
-    /// Nothing.
-    pub(crate) fn nothing(forgot: bool) -> Told {
+    /// Nothing, but whether all is forgotten.
+    pub(crate) fn nothing(forgot: bool) -> Told
+        ensures { result ≡ told_nothing forgot }
+    {
         Told {
             forgot,
             noted: None,
             found: None,
         }
     }
+
+    /// The session isn't compared from the frame `at` on.
+    pub(crate) fn lost(at: u64, why: Lost) -> Told
+        ensures { result ≡ lost_at at why }
+    {
+        Told {
+            forgot: false,
+            noted: None,
+            found: Some(Finding::Lost { at, why }),
+        }
+    }
 }
 
 impl Noting {
     /// This is noted, and no commit was heard.
-    pub(crate) fn new(past: Past) -> Noting {
-        let mut past = past;
+    pub(crate) fn new(mut past: Past) -> Noting
+        ensures { result ≡ record { past = begun_session past; begun = false; equal = 0 } }
+    {
         past.begin_session();
         Noting {
             past,
@@ -46,60 +67,77 @@ impl Noting {
     }
 
     /// How many commits came before, just so.
-    pub(crate) fn equal(&self) -> u64 {
+    pub(crate) fn equal(&self) -> u64
+        ensures { result ≡ self.now.equal }
+    {
         self.equal
     }
 
     /// The next session begins. Of the last one's commits some aren't noted where it `forgets`.
-    pub(crate) fn begin_session(&mut self, forgets: bool) {
-        self.forget_if(forgets);
+    pub(crate) fn begin_session(&mut self, forgets: bool)
+        ensures { BeginsSession forgets self.old self.new }
+    {
+        forget_if(&mut self.past, forgets);
         self.past.begin_session();
     }
 
-    /// Hears the commit of the frame `at`.
-    pub(crate) fn hear(&mut self, at: u64, ended: Ended) -> Told {
-        let begun = replace(&mut self.begun, true);
+    /// Hears a transaction that commits with the frame `at`.
+    ///
+    /// Commits may have come that aren't noted: what was noted may have lost its end in a crash, or
+    /// a run noted nothing. They end above all that is noted. Where the first commit that is heard
+    /// ends there too, some before it may be missing, and all is forgotten. Where it ends at or
+    /// below, its session sends each one behind it, those that aren't noted too.
+    pub(crate) fn hear(&mut self, at: u64, ended: Ended) -> Told
+        ensures { HearsEnded self.old at ended self.new result }
+    {
+        let is_first = !self.begun;
+        self.begun = true;
         match ended {
             Ended::Over { .. } => {
                 self.past.forget();
                 Told::nothing(true)
             }
             Ended::Whole(commit) => {
-                let forgot = self.forget_if(!begun && self.past.newest() < commit.end);
+                let forgot = is_first && self.past.newest() < commit.end;
+                forget_if(&mut self.past, forgot);
                 self.tell(at, commit, forgot)
             }
         }
     }
 
-    // Commits may have come that aren't noted: what is noted may have lost its end, in a crash, or
-    // a run noted nothing. They end above all that is noted. Where the first commit that is heard
-    // ends there too, some before it may be missing, and all is forgotten. Where it ends at or
-    // below, the session sends each one behind it, those that aren't noted too.
-    fn forget_if(&mut self, forgets: bool) -> bool {
-        if forgets {
-            self.past.forget();
-        }
-        forgets
-    }
-
     // Compares a commit.
-    fn tell(&mut self, at: u64, commit: Commit, forgot: bool) -> Told {
+    fn tell(&mut self, at: u64, commit: Commit, forgot: bool) -> Told
+        ensures { Tells self.old at commit forgot self.new result }
+    {
         match self.past.hear(commit) {
-            Ok(answer) => self.answered(commit, answer, forgot),
-            Err(Trouble::Contradicted(contradiction)) => Told {
-                found: Some(Finding::Contradicted { at, contradiction }),
-                ..self.start_with(at, commit)
-            },
+            Ok(answer) => self.answer(commit, answer, forgot),
+            Err(Trouble::Contradicted(contradiction)) => {
+                self.past.restart();
+                match self.past.hear(commit) {
+                    Ok(answer) => Told {
+                        found: Some(Finding::Contradicted { at, contradiction }),
+                        ..self.answer(commit, answer, true)
+                    },
+                    Err(_) => self.lose(at),
+                }
+            }
             Err(Trouble::Memory) => self.lose(at),
         }
     }
 
-    fn answered(&mut self, commit: Commit, answer: Answer, forgot: bool) -> Told {
+    // What comes of an answer.
+    fn answer(&mut self, commit: Commit, answer: Answer, forgot: bool) -> Told
+        ensures new { self.new ≡ record self.old { equal = equal_with answer self.old.equal } }
+        ensures told { result ≡ record {
+          forgot = forgot;
+          noted = noted_by answer commit;
+          found = None;
+        } }
+    {
         match answer {
             Answer::New => Told {
-                forgot,
                 noted: Some(commit),
-                found: None,
+                ..Told::nothing(forgot)
             },
             Answer::Equal => {
                 self.equal = self.equal.saturating_add(1);
@@ -109,25 +147,24 @@ impl Noting {
         }
     }
 
-    // Forgets all, and notes this one first.
-    fn start_with(&mut self, at: u64, commit: Commit) -> Told {
-        self.past.restart();
-        match self.past.hear(commit) {
-            Ok(answer) => self.answered(commit, answer, true),
-            Err(_) => self.lose(at),
-        }
-    }
-
-    // There is no memory.
-    fn lose(&mut self, at: u64) -> Told {
+    // There is no memory to note more.
+    fn lose(&mut self, at: u64) -> Told
+        ensures new { Restarts self.old self.new }
+        ensures told { result ≡ record (lost_at at Lost.Memory) { forgot = true } }
+    {
         self.past.restart();
         Told {
             forgot: true,
-            noted: None,
-            found: Some(Finding::Lost {
-                at,
-                why: Lost::Memory,
-            }),
+            ..Told::lost(at, Lost::Memory)
         }
+    }
+}
+
+// Forgets all, or nothing.
+fn forget_if(past: &mut Past, forgets: bool)
+    ensures { ForgetsIf forgets past.old past.new }
+{
+    if forgets {
+        past.forget();
     }
 }

@@ -2,8 +2,14 @@
 //!
 //! PostgreSQL documentation, Logical Streaming Replication Protocol.
 
+ghost use Rattle.std.specs.Prelude.{◌≡◌, IfOk, OnOk};
+ghost use Rattle.pglogical.specs.Borrowed.{message_value};
+ghost use Rattle.pglogical.specs.Spelling.{Says, item_spelling, message_spelling};
+ghost use Rattle.pgcompared.specs.Sessions.{Hears, at_start, change_in, ended_as, ended_by};
+ghost use Rattle.pgcompared.specs.Sessions.{in_block_of, opened_by, time_of, with_held};
+
 use crate::finding::Lost;
-use crate::open::Open;
+use crate::opened::Open;
 use pglogical::{ItemParts, ItemRef, MessageRef};
 use pglsn::Lsn;
 use pgorder::{Event, Order, OrderFault, Version};
@@ -22,20 +28,32 @@ pub(crate) enum Ended {
 #[derive(Drop)]
 pub(crate) struct Session {
     order: Order,
-    open: Open,
+    opened: Open,
 }
 
 impl Session {
     /// None has come.
-    pub(crate) fn new(alloc: Global, version: Version, limit: u64) -> Session {
+    pub(crate) fn new(alloc: Global, version: Version, limit: u64) -> Session
+        ensures { result ≡ at_start version limit }
+    {
         Session {
             order: Order::new(alloc, version),
-            open: Open::new(alloc, limit),
+            opened: Open::new(alloc, limit),
         }
     }
 
+    /// The next session begins.
+    pub(crate) fn reset(&mut self)
+        ensures { self.new ≡ at_start self.old.order.version self.old.opened.limit }
+    {
+        self.order.reset();
+        self.opened.reset();
+    }
+
     /// Whether the next message is inside a block of a streamed transaction.
-    pub(crate) fn in_block(&self) -> bool {
+    pub(crate) fn in_block(&self) -> bool
+        ensures { result ≡ in_block_of self.now }
+    {
         self.order.in_block()
     }
 
@@ -49,7 +67,10 @@ impl Session {
         &mut self,
         message: &MessageRef<'_>,
         body: &[u8],
-    ) -> Result<Option<Ended>, Lost> {
+    ) -> Result<Option<Ended>, Lost>
+        requires { Says (in_block_of self.old) (message_value message.now) body.now }
+        ensures { Hears self.old (message_value message.now) self.new result }
+    {
         let event = match self.order.step(message) {
             Ok(event) => event,
             Err(OrderFault::Memory) => return Err(Lost::Memory),
@@ -67,71 +88,103 @@ impl Session {
         message: &MessageRef<'_>,
         body: &[u8],
         event: Event,
-    ) -> Result<Option<Ended>, AllocError> {
+    ) -> Result<Option<Ended>, AllocError>
+        requires { body.now ≡ message_spelling (message_value message.now) }
+        ensures kept { OnOk result (self.new ≡ record self.old {
+          opened = opened_by (message_value message.now) event self.old.opened;
+        }) }
+        ensures ended { IfOk result (λ e.
+            e ≡ ended_by (message_value message.now) event self.old.opened) }
+    {
         match event {
-            Event::Ignore => {}
-            Event::Begin { .. } => self.open.begin(),
-            Event::Hold { label, .. } => self.item(message, body, label)?,
-            Event::Open { xid } | Event::Reopen { xid } => self.open.start(xid)?,
-            Event::Close => self.open.stop()?,
-            Event::Cut { xid, label } => self.open.cut(xid, label)?,
-            Event::Drop { xid } => {
-                self.open.close(xid)?;
-            }
+            Event::Ignore => Ok(None),
             Event::CommitPair { xid, lsn, end } => {
-                let digest = self.open.pair();
-                return Ok(Some(Ended::Whole(commit(message, xid, lsn, end, digest))));
+                let digest = self.opened.pair();
+                Ok(Some(ended_as(message, xid, lsn, end, Some(digest))))
             }
             Event::CommitStream { xid, lsn, end } => {
-                return Ok(Some(match self.open.close(xid)? {
-                    Some(digest) => Ended::Whole(commit(message, xid, lsn, end, digest)),
-                    None => Ended::Over { end: end.0 },
-                }));
+                let digest = self.opened.close(xid)?;
+                Ok(Some(ended_as(message, xid, lsn, end, digest)))
             }
-        }
-        Ok(None)
-    }
-
-    // An item of the pair or of the block.
-    fn item(
-        &mut self,
-        message: &MessageRef<'_>,
-        body: &[u8],
-        label: u32,
-    ) -> Result<(), AllocError> {
-        match message {
-            MessageRef::Item { xid: None, item } => {
-                self.open.add_to_pair(change_of(item, body, 1));
-                Ok(())
+            Event::Begin { .. } => {
+                self.opened.begin();
+                Ok(None)
             }
-            MessageRef::Item { xid: Some(_), item } => {
-                self.open.add_to_block(label, change_of(item, body, 5))
+            Event::Hold { label, .. } => {
+                hold(&mut self.opened, message, body, label)?;
+                Ok(None)
             }
-            _ => Ok(()),
+            Event::Open { xid } | Event::Reopen { xid } => {
+                self.opened.start(xid)?;
+                Ok(None)
+            }
+            Event::Close => {
+                self.opened.stop()?;
+                Ok(None)
+            }
+            Event::Cut { xid, label } => {
+                self.opened.cut(xid, label)?;
+                Ok(None)
+            }
+            Event::Drop { xid } => {
+                self.opened.close(xid)?;
+                Ok(None)
+            }
         }
     }
 }
 
-// The change that an item is, as it is encoded outside blocks. Its fields begin at `fields`.
-fn change_of(item: &ItemRef<'_>, body: &[u8], fields: usize) -> Option<Change> {
+// An item of the pair, or of the block under a label.
+fn hold(
+    kept: &mut Open,
+    message: &MessageRef<'_>,
+    body: &[u8],
+    label: u32,
+) -> Result<(), AllocError>
+    requires { body.now ≡ message_spelling (message_value message.now) }
+    ensures { OnOk result (kept.new ≡ with_held label (message_value message.now) kept.old) }
+{
+    match message {
+        MessageRef::Item { xid: None, item } => {
+            kept.add_to_pair(change_of(item, None, body));
+            Ok(())
+        }
+        MessageRef::Item { xid, item } => { kept.add_to_block(label, change_of(item, *xid, body)) }
+        _ => Ok(()),
+    }
+}
+
+// The change that an item is. This is its encoding, with its xid or without.
+fn change_of(item: &ItemRef<'_>, xid: Option<u32>, body: &[u8]) -> Option<Change>
+    requires { body.now ≡ item_spelling xid item.now }
+    ensures { result ≡ change_in item.now }
+{
+    let fields = if xid.is_some() { 5 } else { 1 };
     match item.parts() {
         ItemParts::Relation(_) => None,
         _ => Some(Change::of(&body[..1], &body[fields..])),
     }
 }
 
-fn commit(message: &MessageRef<'_>, xid: u32, lsn: Lsn, end: Lsn, digest: Digest) -> Commit {
-    Commit {
-        end: end.0,
-        lsn: lsn.0,
-        xid,
-        time: time_of(message),
-        digest,
+fn ended_as(message: &MessageRef<'_>, xid: u32, lsn: Lsn, end: Lsn, digest: Option<Digest>) -> Ended
+    ensures { result ≡ ended_as (message_value message.now) xid lsn end digest }
+{
+    match digest {
+        Some(digest) => Ended::Whole(Commit {
+            end: end.0,
+            lsn: lsn.0,
+            xid,
+            time: time_of(message),
+            digest,
+        }),
+        None => Ended::Over { end: end.0 },
     }
 }
 
 // When a transaction was committed.
-fn time_of(message: &MessageRef<'_>) -> i64 {
+fn time_of(message: &MessageRef<'_>) -> i64
+    ensures { result ≡ time_of (message_value message.now) }
+{
     match message {
         MessageRef::Commit { commit_time, .. } => *commit_time,
         MessageRef::StreamCommit { commit_time, .. } => *commit_time,

@@ -3,3 +3,7 @@
 
 #[cfg(test)]
 mod answers;
+#[cfg(test)]
+mod sessions;
+#[cfg(test)]
+mod wire;

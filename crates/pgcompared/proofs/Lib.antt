@@ -1,0 +1,4 @@
+pub mod Paths
+pub mod Histories
+pub mod Points
+pub mod Courses

@@ -1,0 +1,16 @@
+//! What is told of sessions means this of messages and of histories. The functions do nothing:
+//! their contracts are the laws.
+
+ghost use Rattle.pgcompared.specs.Laws.{EndedAreCommits, SessionsAreNotContradicted};
+
+/// The transactions that are compared are those that commit with a session's messages, with the
+/// changes that survive.
+pub fn ended_are_commits()
+    ensures { EndedAreCommits }
+{}
+
+/// No alarm is false: no commit of a session of the history of which the noted ones are is
+/// contradicted, whatever they lost at their end.
+pub fn sessions_are_not_contradicted()
+    ensures { SessionsAreNotContradicted }
+{}
