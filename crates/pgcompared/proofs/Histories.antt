@@ -3,6 +3,7 @@ use Rattle.std.proofs.Common.{◌≡◌, ◌≤◌, ◌<◌, ◌⊎◌, ◌∙�
 use Rattle.std.proofs.Common.{Option, None, Some, Ok, refl, sym, ap, subst, arith, not, nat_lt, ◌&&◌}
 use Rattle.std.proofs.Common.{true≢false}
 use Rattle.std.specs.List.{AllByRecursion}
+use Rattle.std.proofs.lemmas.Bool.Decides.{nat_tests}
 use Rattle.pgrepeats.specs.declared.commit.Commit.{Commit}
 use Rattle.pgrepeats.specs.declared.past.Past.{Past}
 use Rattle.pgrepeats.specs.Past.{IsForgotten}
@@ -25,11 +26,12 @@ module _ (history : List Commit) (valid : IsHistory 0 history) where
   -- before the first commit
   first_is : (p mid : Past) (start at : ℕ) (d : Commit) (b : Bool) → nat_lt p.newest d.end ≡ b → IsPastOf history p at → p.last ≡ None
       → IsNext history start d → ForgetsIf b p mid → IsPastOf history mid start
-  first_is p mid start at d true over past none next forgets = sessions_keep_the_past.1.0 history p mid at start past forgets
+  first_is p mid start at d true over past none next forgets = sessions_keep_the_past.1 history p mid at start past forgets
   first_is p mid start at d false over past none next same =
+      let below : d.end ≤ p.newest = grind (arith, nat_tests) in
       subst (λ x. IsPastOf history x start) (sym (same ∙ (λ i. record p { last = none i })))
-      (sessions_keep_the_past.1.1 history p at start past
-      (λ some c is must above. omega (arith, grind (arith, over), above, next.above)))
+      (sessions_keep_the_past.2 history p at start past
+      (λ some c is must above. omega (arith, below, above, next.above)))
 
   is_past : (n : Noting) (mid : Past) (start : ℕ) (d : Commit) (b : Bool) → n.begun ≡ b → IsNotingOf history n start b
       → IsNext history start d → ForgetsIf (not b && nat_lt n.past.newest d.end) n.past mid → IsPastOf history mid start
@@ -63,7 +65,7 @@ module _ (history : List Commit) (valid : IsHistory 0 history) where
         ap (λ (x : Told). x.found) told,
         still new c.end true (ap (λ (x : Noting). x.begun) new_is)
             (subst (λ (x : Noting). IsPastOf history x.past c.end) (sym new_is)
-            (sessions_keep_the_past.1.0 history n.past mid before.0 c.end before.1 forgets)),
+            (sessions_keep_the_past.1 history n.past mid before.0 c.end before.1 forgets)),
       )
     where
       past_at : (m : Noting) (k : ℕ) (b : Bool) → IsNotingOf history m k b → (at' : ℕ) × IsPastOf history m.past at'
@@ -83,8 +85,8 @@ module _ (history : List Commit) (valid : IsHistory 0 history) where
   each n new start last (c ∷ cs) (e ∷ es) told past next same (at, mid, t, later, hears, rest, told_are) heard =
       let heard' = subst (AllByRecursion WasHeard) told_are heard in
       let now = one n mid start at e c t (same.0, tt) past next.0 hears heard'.0 in
-      let then = each mid new c.end last cs es later now.1 next.1 same.1 rest heard'.1 in
-      (subst (AllByRecursion FoundNothing) (sym told_are) (now.0, then.0), then.1)
+      let rest_is = each mid new c.end last cs es later now.1 next.1 same.1 rest heard'.1 in
+      (subst (AllByRecursion FoundNothing) (sym told_are) (now.0, rest_is.0), rest_is.1)
 
 pub sessions_are_not_contradicted : SessionsAreNotContradicted
 sessions_are_not_contradicted history n new start last cs es told valid past next same hears heard =

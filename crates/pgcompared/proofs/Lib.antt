@@ -2,3 +2,5 @@ pub mod Paths
 pub mod Histories
 pub mod Points
 pub mod Courses
+pub mod Spellings
+mod WorkedRows

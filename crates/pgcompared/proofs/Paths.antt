@@ -11,12 +11,14 @@ use Rattle.pgwire.specs.Deframed.{is_copy_done}
 use Rattle.pgorder.specs.declared.Version.{Version}
 use Rattle.pgrepeats.specs.declared.past.Past.{Past}
 use Rattle.pgcompared.specs.declared.compared.Compared.{Compared}
+use Rattle.pgcompared.specs.declared.compared.Heard.{Heard}
 use Rattle.pgcompared.specs.declared.hearing.Hearing.{Hearing}
 use Rattle.pgcompared.specs.declared.noting.Told.{Told}
 use Rattle.pgcompared.specs.Frames.{Takes}
 use Rattle.pgcompared.specs.Noting.{told_nothing}
 use Rattle.pgcompared.specs.Live.{HearsNext, IsCompared, IsDeaf, IsGoing, Leads, StandsBehind, Step}
-use Rattle.pgcompared.specs.Live.{bytes_of, first_hearing, passed_over, spoken, told_deaf, told_of}
+use Rattle.pgcompared.specs.Live.{bytes_of, first_hearing, passed_over, speaking, spoken, told_deaf}
+use Rattle.pgcompared.specs.Live.{told_of}
 
 -- nothing is held
 nothing_partial : (max : ℕ) (held : List ℕ) → held ≡ [] → wire.IsPartial max held
@@ -85,6 +87,14 @@ fed_max old new piece wire_fault.Short fed = ap (λ (m : Deframed). m.max) fed.0
 fed_max old new piece wire_fault.Trailing fed = ap (λ (m : Deframed). m.max) fed.0
 fed_max old new piece wire_fault.BadReplyByte fed = ap (λ (m : Deframed). m.max) fed.0
 
+-- what is answered is what is told
+pub answered : (v : Version) (limit max : ℕ) (past : Past) (all : List ℕ) (told : List Told) (piece : List ℕ) (h : Heard) (n : ℕ) (t : Told)
+    (new : Compared) → h ≡ record { count = n; forgot = t.forgot; noted = t.noted; found = t.found }
+    → IsCompared v limit max past (all ++ take n piece) new (told ++ spoken t)
+    → IsCompared v limit max past (all ++ take h.count piece) new (told ++ speaking h.forgot h.noted h.found)
+answered v limit max past all told piece h n t new is =
+    subst (λ (x : Heard). IsCompared v limit max past (all ++ take x.count piece) new (told ++ speaking x.forgot x.noted x.found)) (sym is)
+
 module _ (v : Version) (limit max : ℕ) (past : Past) (all : List ℕ) (c : Compared) (told : List Told)
     (i : IsCompared v limit max past all c told) where
   -- the frames couldn't be told apart before
@@ -99,8 +109,7 @@ module _ (v : Version) (limit max : ℕ) (past : Past) (all : List ℕ) (c : Com
             subst (StandsBehind max (all ++ part) i.steps c (told ++ [])) (sym deaf) (record {
               front = d.front;
               rest = d.rest ++ part;
-              whole = ap (λ xs. xs ++ part) d.whole ∙ append_assoc (bytes_of i.steps) (d.front ++ d.rest) part
-                  ∙ ap (λ (xs : List ℕ). bytes_of i.steps ++ xs) (append_assoc d.front d.rest part);
+              whole = ap (λ xs. xs ++ part) d.whole ∙ append_assoc (bytes_of i.steps ++ d.front) d.rest part;
               fault = d.fault;
               is = d.is;
               told_is = append-nil told ∙ d.told_is;
@@ -126,7 +135,7 @@ module _ (v : Version) (limit max : ℕ) (past : Past) (all : List ℕ) (c : Com
           front = c.deframer.held ++ part;
           rest = [];
           whole = ap (λ xs. xs ++ part) g.0.whole ∙ append_assoc (bytes_of i.steps) c.deframer.held part
-              ∙ ap (λ (xs : List ℕ). bytes_of i.steps ++ xs) (sym (append-nil (c.deframer.held ++ part)));
+              ∙ sym (append-nil (bytes_of i.steps ++ (c.deframer.held ++ part)));
           fault = fault;
           is = breaks;
           told_is = ap (λ xs. xs ++ spoken (told_deaf c.hearing.lost c.hearing.at fault)) g.1;
@@ -209,10 +218,8 @@ module _ (v : Version) (limit max : ℕ) (past : Past) (all : List ℕ) (c : Com
         })
 
     module _ (frame : wire.Frame) (stands : Stands mid frame) (h : Hearing) (now : Told) (takes : Takes c.hearing frame came h now) where
-      next : Step
+      abbrev next : Step
       next = record { frame = frame; told = now }
-
-      unfolding next
 
       leads_to : Leads v limit max past (next ∷ i.steps) h
       leads_to = (
@@ -277,4 +284,4 @@ module _ (v : Version) (limit max : ℕ) (past : Past) (all : List ℕ) (c : Com
     pub path_next : (new : Compared) (now : Told) → HearsNext (record c { deframer = mid }) came new now
         → IsCompared v limit max past (all ++ take n piece) new (told ++ spoken now)
     path_next new now (inl (w, new_is, now_is)) = waits new now w new_is now_is
-    path_next new now (inr (frame, stands, h, d, takes, rel, new_is)) = stood frame stands h now d new takes rel new_is
+    path_next new now (inr (frame, stands, (h, d, takes, rel, new_is))) = stood frame stands h now d new takes rel new_is

@@ -1,7 +1,7 @@
 -- What is kept of a streamed transaction tells what its surviving changes come to.
 use Rattle.std.proofs.Common.{◌≡◌, ◌∙◌, ◌⊎◌, ◌-◌, inl, inr, ℕ, List, [], ◌∷◌, ◌++◌, Bool, true, false}
 use Rattle.std.proofs.Common.{Option, None, Some, refl, sym, ap, subst, arith, length, slice_get}
-use Rattle.std.proofs.Common.{true≢false, nat_le, ◌==◌, if◌then◌else◌}
+use Rattle.std.proofs.Common.{true≢false, nat_le, ◌==◌, if◌then◌else◌, suc}
 use Rattle.std.proofs.lemmas.Bool.Decides.{nat_tests}
 use Rattle.pglogical.specs.declared.message.Item.{Item}
 use Rattle.pgrepeats.specs.declared.digest.Change.{Change}
@@ -15,17 +15,18 @@ use Rattle.pgcompared.specs.Streams.{points_before, with_digest, with_item, with
 
 -- ---- digests
 
-pub digest_from : Digest → List Labelled → Digest
+abbrev pub digest_from : Digest → List Labelled → Digest
 digest_from d [] = d
 digest_from d (l ∷ ls) = digest_from (with_item d (change_in l.1)) ls
 
 pub digest_is : (d : Digest) (ls : List Labelled) → digest_from d ls ≡ with_changes d (changes_of (items_of ls))
 digest_is d [] = refl
-digest_is d (l ∷ ls) = go (change_in l.1)
+digest_is d (l ∷ ls) = go (change_in l.1) (λ before. digest_is before ls)
   where
-    go : (o : Option Change) → digest_from (with_item d o) ls ≡ with_changes d (listed_change o ++ changes_of (items_of ls))
-    go None = digest_is d ls
-    go (Some c) = digest_is (with_change d c) ls
+    go : (o : Option Change) → ((before : Digest) → digest_from before ls ≡ with_changes before (changes_of (items_of ls)))
+        → digest_from (with_item d o) ls ≡ with_changes d (listed_change o ++ changes_of (items_of ls))
+    go None rest = rest d
+    go (Some c) rest = rest (with_change d c)
 
 pub pair_push : (d : Digest) (is : List Item) (i : Item)
     → with_changes d (changes_of (is ++ i ∷ [])) ≡ with_item (with_changes d (changes_of is)) (change_in i)
@@ -34,12 +35,14 @@ pair_push d [] i = go (change_in i)
     go : (o : Option Change) → with_changes d (listed_change o ++ []) ≡ with_item d o
     go None = refl
     go (Some c) = refl
-pair_push d (x ∷ xs) i = go (change_in x)
+pair_push d (x ∷ xs) i = go (change_in x) (λ before. pair_push before xs i)
   where
-    go : (o : Option Change) → with_changes d (listed_change o ++ changes_of (xs ++ i ∷ []))
+    go : (o : Option Change)
+        → ((before : Digest) → with_changes before (changes_of (xs ++ i ∷ [])) ≡ with_item (with_changes before (changes_of xs)) (change_in i))
+        → with_changes d (listed_change o ++ changes_of (xs ++ i ∷ []))
         ≡ with_item (with_changes d (listed_change o ++ changes_of xs)) (change_in i)
-    go None = pair_push d xs i
-    go (Some c) = pair_push (with_change d c) xs i
+    go None rest = rest d
+    go (Some c) rest = rest (with_change d c)
 
 digest_push : (d : Digest) (ls : List Labelled) (l : Labelled) → digest_from d (ls ++ l ∷ []) ≡ with_item (digest_from d ls) (change_in l.1)
 digest_push d [] l = refl
@@ -47,26 +50,26 @@ digest_push d (x ∷ xs) l = digest_push (with_item d (change_in x.1)) xs l
 
 -- ---- points
 
-is_label : ℕ → Option ℕ → Bool
+abbrev pub is_label : ℕ → Option ℕ → Bool
 is_label label None = false
 is_label label (Some x) = x == label
 
-last_of : Option ℕ → List Labelled → Option ℕ
+abbrev pub last_of : Option ℕ → List Labelled → Option ℕ
 last_of last [] = last
 last_of last (l ∷ ls) = last_of (Some l.0) ls
 
-point : ℕ → Digest → Point
+abbrev pub point : ℕ → Digest → Point
 point label d = record { label = label; before = d }
 
-begin_if : Bool → ℕ → Digest → List Point → List Point
+abbrev pub begin_if : Bool → ℕ → Digest → List Point → List Point
 begin_if true label d ps = ps
 begin_if false label d ps = point label d ∷ ps
 
-pub points_from : Digest → Option ℕ → List Labelled → List Point
+abbrev pub points_from : Digest → Option ℕ → List Labelled → List Point
 points_from d last [] = []
 points_from d last (l ∷ ls) = begin_if (is_label l.0 last) l.0 d (points_from (with_item d (change_in l.1)) (Some l.0) ls)
 
-end_if : Bool → ℕ → Digest → List Point → List Point
+abbrev pub end_if : Bool → ℕ → Digest → List Point → List Point
 end_if true label d ps = ps
 end_if false label d ps = ps ++ point label d ∷ []
 
@@ -90,7 +93,7 @@ points_push d last (x ∷ xs) l =
     ∙ both (is_label x.0 last) (is_label l.0 (last_of (Some x.0) xs)) x.0 l.0 d (digest_from d' xs) (points_from d' (Some x.0) xs)
 
 -- the last item's label
-under : Option ℕ → ℕ → List Point → Bool
+abbrev pub under : Option ℕ → ℕ → List Point → Bool
 under last label [] = is_label label last
 under last label (p ∷ ps) = is_under label (p ∷ ps)
 
@@ -107,7 +110,10 @@ under_begun true x label None d ps e = absurd (true≢false (sym e))
 under_begun true x label (Some y) d [] e = same_label x y label e
 under_begun true x label (Some y) d (p ∷ ps) e = refl
 under_begun false x label last d [] e = refl
-under_begun false x label last d (p ∷ ps) e = refl
+under_begun false x label last d (p ∷ ps) e =
+    let behind : length (point x d ∷ p ∷ ps) - 1 ≡ suc (length ps) = omega arith in
+    let there : length ps ≡ length (p ∷ ps) - 1 = omega arith in
+    ap (λ (n : ℕ). is_of label (slice_get (point x d ∷ p ∷ ps) n)) behind ∙ ap (λ (n : ℕ). is_of label (slice_get (p ∷ ps) n)) there
 
 under_is : (d : Digest) (last : Option ℕ) (label : ℕ) (ls : List Labelled)
     → under last label (points_from d last ls) ≡ is_label label (last_of last ls)
@@ -123,68 +129,68 @@ apart x label None same other = refl
 apart x label (Some y) same other =
     let is : x ≡ label = grind (arith, nat_tests) in subst (λ (z : ℕ). (y == z) ≡ false) (sym is) other
 
-cut_both : Digest → Option ℕ → ℕ → List Labelled → Type 0
-cut_both d last label ls =
-    (points_before label (points_from d last ls) ≡ points_from d last (kept_of label ls))
-    × (digest_before label (digest_from d ls) (points_from d last ls) ≡ digest_from d (kept_of label ls))
+-- a rollback of a transaction with these items leaves these
+abbrev pub Leaves : Digest → Option ℕ → ℕ → List Labelled → List Labelled → Type 0
+Leaves d last label ls kept =
+    (points_before label (points_from d last ls) ≡ points_from d last kept)
+    × (digest_before label (digest_from d ls) (points_from d last ls) ≡ digest_from d kept)
 
-pub cut_is : (d : Digest) (last : Option ℕ) (label : ℕ) (ls : List Labelled) → is_label label last ≡ false → cut_both d last label ls
-unfolding cut_both
+module _ (label x : ℕ) (d all : Digest) (ps : List Point) where
+  -- the label is another one
+  passed : (b : Bool) (qs : List Point) (kept : Digest) → (x == label) ≡ false → points_before label ps ≡ qs
+      → digest_before label all ps ≡ kept
+      → (points_before label (begin_if b x d ps) ≡ begin_if b x d qs) × (digest_before label all (begin_if b x d ps) ≡ kept)
+  passed true qs kept other p q = (p, q)
+  passed false qs kept other p q = (
+    ap (λ (b : Bool). if b then [] else point x d ∷ points_before label ps) other ∙ ap (λ (xs : List Point). point x d ∷ xs) p,
+    ap (λ (b : Bool). if b then d else digest_before label all ps) other ∙ q,
+  )
+
+  -- it is the first item of this label
+  first : (b : Bool) → b ≡ false → (x == label) ≡ true
+      → (points_before label (begin_if b x d ps) ≡ []) × (digest_before label all (begin_if b x d ps) ≡ d)
+  first b begins same =
+      subst (λ (c : Bool). (points_before label (begin_if c x d ps) ≡ []) × (digest_before label all (begin_if c x d ps) ≡ d)) (sym begins) (
+        ap (λ (b : Bool). if b then [] else point x d ∷ points_before label ps) same,
+        ap (λ (b : Bool). if b then d else digest_before label all ps) same,
+      )
+
+pub cut_is : (d : Digest) (last : Option ℕ) (label : ℕ) (ls : List Labelled) → is_label label last ≡ false
+    → Leaves d last label ls (kept_of label ls)
 cut_is d last label [] other = (refl, refl)
-cut_is d last label (x ∷ xs) other = go (x.0 == label) refl
+cut_is d last label (x ∷ xs) other =
+    go (x.0 == label) refl (λ differs. cut_is (with_item d (change_in x.1)) (Some x.0) label xs differs)
   where
-    d' : Digest
-    d' = with_item d (change_in x.1)
-
-    ps : List Point
-    ps = points_from d' (Some x.0) xs
-
-    kept : Bool → List Labelled
-    kept b = if b then [] else x ∷ kept_of label xs
-
-    begun : (b : Bool) → (x.0 == label) ≡ false → points_before label ps ≡ points_from d' (Some x.0) (kept_of label xs)
-        → digest_before label (digest_from d' xs) ps ≡ digest_from d' (kept_of label xs)
-        → (points_before label (begin_if b x.0 d ps) ≡ begin_if b x.0 d (points_from d' (Some x.0) (kept_of label xs)))
-        × (digest_before label (digest_from d' xs) (begin_if b x.0 d ps) ≡ digest_from d' (kept_of label xs))
-    begun true differs p q = (p, q)
-    begun false differs p q = (
-      ap (λ (b : Bool). if b then [] else point x.0 d ∷ points_before label ps) differs ∙ ap (λ (xs : List Point). point x.0 d ∷ xs) p,
-      ap (λ (b : Bool). if b then d else digest_before label (digest_from d' xs) ps) differs ∙ q,
-    )
-
     go : (b : Bool) → (x.0 == label) ≡ b
-        → (points_before label (begin_if (is_label x.0 last) x.0 d ps) ≡ points_from d last (kept b))
-        × (digest_before label (digest_from d' xs) (begin_if (is_label x.0 last) x.0 d ps) ≡ digest_from d (kept b))
-    go true same =
-        subst (λ (c : Bool). (points_before label (begin_if c x.0 d ps) ≡ [])
-        × (digest_before label (digest_from d' xs) (begin_if c x.0 d ps) ≡ d)) (sym (apart x.0 label last same other)) (
-          ap (λ (b : Bool). if b then [] else point x.0 d ∷ points_before label ps) same,
-          ap (λ (b : Bool). if b then d else digest_before label (digest_from d' xs) ps) same,
-        )
-    go false differs =
-        let later = cut_is d' (Some x.0) label xs differs in begun (is_label x.0 last) differs later.0 later.1
+        → ((x.0 == label) ≡ false → Leaves (with_item d (change_in x.1)) (Some x.0) label xs (kept_of label xs))
+        → Leaves d last label (x ∷ xs) (if b then [] else x ∷ kept_of label xs)
+    go true same rest =
+        let d' = with_item d (change_in x.1) in
+        first label x.0 d (digest_from d' xs) (points_from d' (Some x.0) xs) (is_label x.0 last) (apart x.0 label last same other) same
+    go false differs rest =
+        let d' = with_item d (change_in x.1) in
+        passed label x.0 d (digest_from d' xs) (points_from d' (Some x.0) xs) (is_label x.0 last)
+        (points_from d' (Some x.0) (kept_of label xs)) (digest_from d' (kept_of label xs)) differs (rest differs).0 (rest differs).1
 
 -- ---- what is kept of a transaction, and its items
 
 -- it had too many points, or it is known what its items come to
-pub Tracks : Streamed → List Labelled → Type 0
+abbrev pub Tracks : Streamed → List Labelled → Type 0
 Tracks s ls =
     (s.over ≡ true)
     ⊎ ((s.over ≡ false) × (s.digest ≡ digest_from no_changes ls) × (s.points ≡ points_from no_changes None ls))
 
 pub tracks_none : (top : ℕ) → Tracks (record { top = top; digest = no_changes; points = []; over = false }) []
-unfolding Tracks
 tracks_none top = inr (refl, refl, refl)
 
 module _ (limit label : ℕ) (i : Item) (s : Streamed) (ls : List Labelled) where
-  l : Labelled
+  abbrev l : Labelled
   l = (label, i)
 
   full : (b : Bool) → s.digest ≡ digest_from no_changes ls → s.points ≡ points_from no_changes None ls → s.over ≡ false
       → is_label label (last_of None ls) ≡ false
       → Tracks (with_digest (change_in i) (if b then record s { points = []; over = true }
       else record s { points = s.points ++ point label s.digest ∷ [] })) (ls ++ (label, i) ∷ [])
-  unfolding Tracks l
   full true digest points over other = inl refl
   full false digest points over other =
       inr (
@@ -199,7 +205,6 @@ module _ (limit label : ℕ) (i : Item) (s : Streamed) (ls : List Labelled) wher
   labelled : (b : Bool) → is_label label (last_of None ls) ≡ b → s.over ≡ false → s.digest ≡ digest_from no_changes ls
       → s.points ≡ points_from no_changes None ls
       → Tracks (with_digest (change_in i) (if b then s else with_point limit label s)) (ls ++ (label, i) ∷ [])
-  unfolding Tracks l
   labelled true is over digest points =
       inr (
         over,
@@ -210,7 +215,6 @@ module _ (limit label : ℕ) (i : Item) (s : Streamed) (ls : List Labelled) wher
   labelled false is over digest points = full (nat_le limit (length s.points)) digest points over is
 
   pub added_is : Tracks s ls → Tracks (added limit label (change_in i) s) (ls ++ (label, i) ∷ [])
-  unfolding Tracks
   added_is (inl over) =
       inl (ap (λ (b : Bool). (if b then s else with_digest (change_in i) (at_label limit label s)).over) over ∙ over)
   added_is (inr (over, digest, points)) =
@@ -222,7 +226,6 @@ module _ (limit label : ℕ) (i : Item) (s : Streamed) (ls : List Labelled) wher
       (labelled (is_label label (last_of None ls)) refl over digest points)
 
 pub cut_tracks : (label : ℕ) (s : Streamed) (ls : List Labelled) → Tracks s ls → Tracks (cut label s) (kept_of label ls)
-unfolding Tracks cut_both
 cut_tracks label s ls (inl over) = inl over
 cut_tracks label s ls (inr (over, digest, points)) =
     let is = cut_is no_changes None label ls refl in

@@ -1,6 +1,7 @@
 -- Logical Streaming Replication Protocol: what a session's messages do to what is kept of it, and
 -- which transactions commit.
-use Rattle.std.specs.Prelude.{◌≡◌, ℕ, ℤ, Bool, Option, Some, None, Result, Ok, Err, pos}
+use Rattle.std.specs.Prelude.{◌≡◌, ℕ, ℤ, Bool, true, false, Option, Some, None, Result, Ok}
+use Rattle.std.specs.Prelude.{Err, pos, if◌then◌else◌}
 use Rattle.pglogical.specs.declared.message.Item.{Item}
 use Rattle.pglogical.specs.declared.message.Item.TheVariants as item
 use Rattle.pglogical.specs.declared.message.Message.{Message}
@@ -24,13 +25,16 @@ use Rattle.pgcompared.specs.declared.session.Session.{Session}
 use Rattle.pgcompared.specs.Streams.{Opened, closed, digest_at, none_opened, with_block}
 use Rattle.pgcompared.specs.Streams.{with_block_item, with_cut, with_item, without_block}
 
+abbrev pub is_change : Item → Bool
+is_change (item.Relation def) = false
+is_change (item.Insert oid row) = true
+is_change (item.Update oid prior row) = true
+is_change (item.Delete oid kind row) = true
+is_change (item.Truncate options oids) = true
+
 -- the change that an item is, as it is encoded outside blocks
 abbrev pub change_in : Item → Option Change
-change_in (item.Relation def) = None
-change_in (item.Insert oid row) = Some (change_of (item_spelling None (item.Insert oid row)))
-change_in (item.Update oid prior row) = Some (change_of (item_spelling None (item.Update oid prior row)))
-change_in (item.Delete oid kind row) = Some (change_of (item_spelling None (item.Delete oid kind row)))
-change_in (item.Truncate options oids) = Some (change_of (item_spelling None (item.Truncate options oids)))
+change_in i = if is_change i then Some (change_of (item_spelling None i)) else None
 
 -- an item of the pair, or of the block under a label
 abbrev pub with_held : ℕ → Message → Opened → Opened

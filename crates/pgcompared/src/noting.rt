@@ -3,7 +3,7 @@
 ghost use Rattle.std.specs.Prelude.{◌≡◌, None, Some, true, false, ◌⊎◌};
 ghost use Rattle.pgrepeats.specs.Past.{Answers, Contradicts, IsForgotten};
 ghost use Rattle.pgcompared.specs.declared.finding.Finding.TheVariants as finding;
-ghost use Rattle.pgcompared.specs.Noting.{BeginsSession, ForgetsIf, HearsEnded, IsAnswered};
+ghost use Rattle.pgcompared.specs.Noting.{BeginsSession, ForgetsIf, HearsEnded, is_above};
 ghost use Rattle.pgcompared.specs.Noting.{Restarts, Tells, begun_session, equal_with, noted_by};
 ghost use Rattle.pgcompared.specs.Noting.{told_nothing};
 ghost use Rattle.pgcompared.specs.Frames.{lost_at};
@@ -90,19 +90,26 @@ impl Noting {
     pub(crate) fn hear(&mut self, at: u64, ended: Ended) -> Told
         ensures { HearsEnded self.old at ended self.new result }
     {
-        let is_first = !self.begun;
-        self.begun = true;
         match ended {
             Ended::Over { .. } => {
+                self.begun = true;
                 self.past.forget();
                 Told::nothing(true)
             }
             Ended::Whole(commit) => {
-                let forgot = is_first && self.past.newest() < commit.end;
+                let forgot = self.is_above(commit);
+                self.begun = true;
                 forget_if(&mut self.past, forgot);
                 self.tell(at, commit, forgot)
             }
         }
+    }
+
+    // Whether it is the first commit that is heard, and ends above all that is noted.
+    fn is_above(&self, commit: Commit) -> bool
+        ensures { result ≡ is_above self.now commit }
+    {
+        !self.begun && self.past.newest() < commit.end
     }
 
     // Compares a commit.

@@ -2,10 +2,11 @@
 //!
 //! PostgreSQL documentation, Logical Streaming Replication Protocol.
 
-ghost use Rattle.std.specs.Prelude.{◌≡◌, IfOk, OnOk};
+ghost use Rattle.std.specs.Prelude.{◌≡◌, ◌≤◌, ◌++◌, None, IfOk, OnOk, length, take, drop};
 ghost use Rattle.pglogical.specs.Borrowed.{message_value};
+ghost use Rattle.pglogical.specs.declared.message.Message.TheVariants as message;
 ghost use Rattle.pglogical.specs.Spelling.{Says, item_spelling, message_spelling};
-ghost use Rattle.pgcompared.specs.Sessions.{Hears, at_start, change_in, ended_as, ended_by};
+ghost use Rattle.pgcompared.specs.Sessions.{Hears, at_start, change_in, ended_as, ended_by, is_change};
 ghost use Rattle.pgcompared.specs.Sessions.{in_block_of, opened_by, time_of, with_held};
 
 use crate::finding::Lost;
@@ -145,24 +146,61 @@ fn hold(
     ensures { OnOk result (kept.new ≡ with_held label (message_value message.now) kept.old) }
 {
     match message {
-        MessageRef::Item { xid: None, item } => {
-            kept.add_to_pair(change_of(item, None, body));
-            Ok(())
-        }
-        MessageRef::Item { xid, item } => { kept.add_to_block(label, change_of(item, *xid, body)) }
+        MessageRef::Item { xid, item } => hold_item(kept, *xid, item, body, label),
         _ => Ok(()),
     }
 }
 
-// The change that an item is. This is its encoding, with its xid or without.
-fn change_of(item: &ItemRef<'_>, xid: Option<u32>, body: &[u8]) -> Option<Change>
+// An item with its xid, in a block, or without.
+fn hold_item(
+    kept: &mut Open,
+    xid: Option<u32>,
+    item: &ItemRef<'_>,
+    body: &[u8],
+    label: u32,
+) -> Result<(), AllocError>
     requires { body.now ≡ item_spelling xid item.now }
+    ensures { OnOk result (kept.new ≡ with_held label (message.Item xid item.now) kept.old) }
+{
+    match xid {
+        None => {
+            kept.add_to_pair(change_of(item, &[], body));
+            Ok(())
+        }
+        Some(_) => kept.add_to_block(label, change_in_block(item, body)),
+    }
+}
+
+// The change that an item is. In a block its xid stands behind the tag.
+fn change_in_block(item: &ItemRef<'_>, body: &[u8]) -> Option<Change>
+    requires long { 5 ≤ length body.now }
+    requires spelled { take 1 body.now ++ drop 5 body.now ≡ item_spelling None item.now }
     ensures { result ≡ change_in item.now }
 {
-    let fields = if xid.is_some() { 5 } else { 1 };
+    change_of(item, &body[..1], &body[5..])
+}
+
+// The change that an item is, which these pieces encode together outside blocks.
+fn change_of(item: &ItemRef<'_>, front: &[u8], back: &[u8]) -> Option<Change>
+    requires { front.now ++ back.now ≡ item_spelling None item.now }
+    ensures { result ≡ change_in item.now }
+{
+    if is_change(item) {
+        Some(Change::of(front, back))
+    } else {
+        None
+    }
+}
+
+fn is_change(item: &ItemRef<'_>) -> bool
+    ensures { result ≡ is_change item.now }
+{
     match item.parts() {
-        ItemParts::Relation(_) => None,
-        _ => Some(Change::of(&body[..1], &body[fields..])),
+        ItemParts::Relation(_) => false,
+        ItemParts::Insert { .. } => true,
+        ItemParts::Update { .. } => true,
+        ItemParts::Delete { .. } => true,
+        ItemParts::Truncate { .. } => true,
     }
 }
 

@@ -1,3 +1,3 @@
 mod Commits
-mod Histories
+pub mod Histories
 mod Noting
