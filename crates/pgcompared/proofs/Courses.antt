@@ -1,5 +1,6 @@
 -- The transactions that commit in a session are those of its messages.
-use Rattle.std.proofs.Common.{◌≡◌, ◌∙◌, ◌⊎◌, inl, inr, ℕ, ℤ, List, [], ◌∷◌, ◌++◌, Bool, true, false, cond}
+use Rattle.std.proofs.Common.{◌≡◌, ◌∙◌, ◌⊎◌, inl, inr, ℕ, ℤ, List, [], ◌∷◌, ◌++◌, Bool, true, false}
+use Rattle.std.proofs.Common.{cond}
 use Rattle.std.proofs.Common.{Option, None, Some, Result, Ok, Err, refl, sym, ap, subst, arith}
 use Rattle.std.proofs.Common.{append-nil}
 use Rattle.std.proofs.Common.{append_assoc, true≢false, ◌==◌, if◌then◌else◌, not, ◌&&◌, ◌||◌}
@@ -16,7 +17,8 @@ use Rattle.pgorder.specs.declared.fault.OrderFault.TheVariants as fault
 use Rattle.pgorder.specs.OpenXids.{OpenXids, is_open, is_open-opened, is_open-with_open}
 use Rattle.pgorder.specs.OpenXids.{is_open-without, with_open, without as without_xid}
 use Rattle.pgorder.specs.States.{is_in_block}
-use Rattle.pgorder.specs.Steps.{Context, Outside, InPair, InBlock, OrderState, StepResult, order_step}
+use Rattle.pgorder.specs.Steps.{Context, Outside, InPair, InBlock, OrderState, StepResult}
+use Rattle.pgorder.specs.Steps.{order_step}
 use Rattle.pgrepeats.specs.declared.commit.Commit.{Commit}
 use Rattle.pgrepeats.specs.declared.digest.Digest.{Digest}
 use Rattle.pgrepeats.specs.Digests.{digest_of, no_changes}
@@ -476,4 +478,5 @@ all_messages s new c (m ∷ ms) es is (mid, e, later, for, heard, rest, are) =
         (go_on at)
 
 pub ended_are_commits : EndedAreCommits
-ended_are_commits v limit messages s es hears = all_messages (at_start v limit) s first_course messages es (refl, λ x. refl, λ x e. refl) hears
+ended_are_commits v limit messages s es hears =
+    all_messages (at_start v limit) s first_course messages es (refl, λ x. refl, λ x e. refl) hears

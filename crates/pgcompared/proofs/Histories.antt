@@ -1,6 +1,8 @@
 -- No session of the same history is contradicted.
-use Rattle.std.proofs.Common.{◌≡◌, ◌≤◌, ◌<◌, ◌⊎◌, ◌∙◌, inl, inr, ℕ, List, [], ◌∷◌, Bool, true, false}
-use Rattle.std.proofs.Common.{Option, None, Some, Ok, refl, sym, ap, subst, arith, not, nat_lt, ◌&&◌}
+use Rattle.std.proofs.Common.{◌≡◌, ◌≤◌, ◌<◌, ◌⊎◌, ◌∙◌, inl, inr, ℕ, List, [], ◌∷◌, Bool, true}
+use Rattle.std.proofs.Common.{false}
+use Rattle.std.proofs.Common.{Option, None, Some, Ok, refl, sym, ap, subst, arith, not, nat_lt}
+use Rattle.std.proofs.Common.{◌&&◌}
 use Rattle.std.proofs.Common.{true≢false}
 use Rattle.std.specs.List.{AllByRecursion}
 use Rattle.std.proofs.lemmas.Bool.Decides.{nat_tests}

@@ -3,4 +3,5 @@ pub mod Histories
 pub mod Points
 pub mod Courses
 pub mod Spellings
+pub mod HeardSessions
 mod WorkedRows

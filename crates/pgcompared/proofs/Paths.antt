@@ -1,6 +1,7 @@
 -- Sessions that are compared, with each front of a piece that comes.
 use Rattle.std.proofs.Common.{◌≡◌, ◌≢◌, ◌≤◌, ◌+◌, ◌⊎◌, ◌∙◌, inl, inr, ℕ, List, [], ◌∷◌, ◌++◌}
-use Rattle.std.proofs.Common.{Bool, true, false, true≢false, None, Some, Ok, Err, refl, sym, ap, subst}
+use Rattle.std.proofs.Common.{Bool, true, false, true≢false, None, Some, Ok, Err, refl, sym, ap}
+use Rattle.std.proofs.Common.{subst}
 use Rattle.std.proofs.Common.{arith, length, take, take_all, append_assoc, append-nil, ⊎_elim}
 use Rattle.std.proofs.lemmas.List.{length-append, length-take-le}
 use Rattle.pgwire.specs.declared.fault.WireFault.{WireFault}
@@ -261,7 +262,7 @@ module _ (v : Version) (limit max : ℕ) (past : Past) (all : List ℕ) (c : Com
     data_next payload stands h now d new takes d_is new_is =
         behind (wire.CopyData payload) stands h now takes d came new (ap (λ (m : Deframed). m.max) d_is ∙ mid_max)
         (ap (λ (m : Deframed). m.held) d_is) (ap (λ (m : Deframed). m.done) d_is) (ap (λ (m : Deframed). m.fault) d_is ∙ mid_fault)
-        (sym takes.1)
+        (sym takes.0.1)
         (new_is ∙ ap (λ b. passed_over b (record c { deframer = mid }) d h came) (ap (λ (m : Deframed). m.done) d_is))
 
     done_next : (stands : Stands mid wire.CopyDone) (h : Hearing) (now : Told) (d : Deframed) (new : Compared)
@@ -270,7 +271,7 @@ module _ (v : Version) (limit max : ℕ) (past : Past) (all : List ℕ) (c : Com
         → IsCompared v limit max past (all ++ take n piece) new (told ++ spoken now)
     done_next stands h now d new takes d_is new_is =
         behind wire.CopyDone stands h now takes (fresh d.max) 0 new (ap (λ (m : Deframed). m.max) d_is ∙ mid_max) refl refl refl
-        (sym takes.2)
+        (sym takes.0.2)
         (new_is ∙ ap (λ b. passed_over b (record c { deframer = mid }) d h came) (ap (λ (m : Deframed). m.done) d_is))
 
     stood : (frame : wire.Frame) (stands : Stands mid frame) (h : Hearing) (now : Told) (d : Deframed) (new : Compared)

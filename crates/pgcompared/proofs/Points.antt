@@ -1,5 +1,6 @@
 -- What is kept of a streamed transaction tells what its surviving changes come to.
-use Rattle.std.proofs.Common.{◌≡◌, ◌∙◌, ◌⊎◌, ◌-◌, inl, inr, ℕ, List, [], ◌∷◌, ◌++◌, Bool, true, false}
+use Rattle.std.proofs.Common.{◌≡◌, ◌∙◌, ◌⊎◌, ◌-◌, inl, inr, ℕ, List, [], ◌∷◌, ◌++◌, Bool, true}
+use Rattle.std.proofs.Common.{false}
 use Rattle.std.proofs.Common.{Option, None, Some, refl, sym, ap, subst, arith, length, slice_get}
 use Rattle.std.proofs.Common.{true≢false, nat_le, ◌==◌, if◌then◌else◌, suc}
 use Rattle.std.proofs.lemmas.Bool.Decides.{nat_tests}
@@ -38,7 +39,8 @@ pair_push d [] i = go (change_in i)
 pair_push d (x ∷ xs) i = go (change_in x) (λ before. pair_push before xs i)
   where
     go : (o : Option Change)
-        → ((before : Digest) → with_changes before (changes_of (xs ++ i ∷ [])) ≡ with_item (with_changes before (changes_of xs)) (change_in i))
+        → ((before : Digest)
+        → with_changes before (changes_of (xs ++ i ∷ [])) ≡ with_item (with_changes before (changes_of xs)) (change_in i))
         → with_changes d (listed_change o ++ changes_of (xs ++ i ∷ []))
         ≡ with_item (with_changes d (listed_change o ++ changes_of xs)) (change_in i)
     go None rest = rest d
@@ -150,7 +152,8 @@ module _ (label x : ℕ) (d all : Digest) (ps : List Point) where
   first : (b : Bool) → b ≡ false → (x == label) ≡ true
       → (points_before label (begin_if b x d ps) ≡ []) × (digest_before label all (begin_if b x d ps) ≡ d)
   first b begins same =
-      subst (λ (c : Bool). (points_before label (begin_if c x d ps) ≡ []) × (digest_before label all (begin_if c x d ps) ≡ d)) (sym begins) (
+      subst (λ (c : Bool). (points_before label (begin_if c x d ps) ≡ []) × (digest_before label all (begin_if c x d ps) ≡ d))
+      (sym begins) (
         ap (λ (b : Bool). if b then [] else point x d ∷ points_before label ps) same,
         ap (λ (b : Bool). if b then d else digest_before label all ps) same,
       )

@@ -1,5 +1,6 @@
 -- The encoding of an item in a block and outside.
-use Rattle.std.proofs.Common.{◌≡◌, ◌≤◌, ◌++◌, ℕ, Option, None, Some, refl, length, take, drop, arith}
+use Rattle.std.proofs.Common.{◌≡◌, ◌≤◌, ◌++◌, ℕ, Option, None, Some, refl, length, take, drop}
+use Rattle.std.proofs.Common.{arith}
 use Rattle.pglogical.specs.declared.message.Item.{Item}
 use Rattle.pglogical.specs.declared.message.Item.TheVariants as item
 use Rattle.pglogical.specs.declared.message.Message.TheVariants as message

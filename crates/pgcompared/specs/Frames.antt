@@ -72,8 +72,11 @@ HearsOrPasses true h frame new told =
 
 -- What comes of a frame, behind which the next one has this offset. With CopyDone the next session
 -- begins.
+abbrev pub TakesFrame : Hearing → wire.Frame → ℕ → Hearing → Told → Type 0
+TakesFrame h wire.CopyDone next new told =
+    (new.session ≡ at_start h.version h.limit) × BeginsSession h.lost h.noting new.noting × (new.at ≡ 0) × (new.lost ≡ false)
+    × (told ≡ told_nothing h.lost)
+TakesFrame h (wire.CopyData bytes) next new told = HearsOrPasses h.lost h (wire.CopyData bytes) new told × (new.at ≡ next)
+
 abbrev pub Takes : Hearing → wire.Frame → ℕ → Hearing → Told → Type 0
-Takes h wire.CopyDone next new told =
-    (new.session ≡ at_start h.session.order.version h.session.opened.limit) × BeginsSession h.lost h.noting new.noting
-    × (new.at ≡ 0) × (new.lost ≡ false) × (told ≡ told_nothing h.lost)
-Takes h (wire.CopyData bytes) next new told = HearsOrPasses h.lost h (wire.CopyData bytes) new told × (new.at ≡ next)
+Takes h frame next new told = TakesFrame h frame next new told × (new.version ≡ h.version) × (new.limit ≡ h.limit)

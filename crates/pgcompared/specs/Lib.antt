@@ -5,3 +5,4 @@ pub mod Frames
 pub mod Live
 pub mod Commits
 pub mod Laws
+pub mod HeardSessions

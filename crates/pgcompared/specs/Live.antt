@@ -26,6 +26,8 @@ pub record Step : Type 0 where
 -- before the first frame
 abbrev pub first_hearing : Version → ℕ → Past → Hearing
 first_hearing v limit past = record {
+  version = v;
+  limit = limit;
   session = at_start v limit;
   noting = record { past = begun_session past; begun = false; equal = 0 };
   at = 0;
@@ -101,4 +103,5 @@ abbrev pub HearsNext : Compared → ℕ → Compared → Told → Type 0
 HearsNext old came new told =
     (Waits old.deframer × (new ≡ record old { came = came }) × (told ≡ told_nothing false))
     ⊎ ((frame : wire.Frame) × Stands old.deframer frame
-    × ((h : Hearing) × (d : Deframed) × Takes old.hearing frame came h told × IsReleased old.deframer d × (new ≡ passed_over d.done old d h came)))
+    × ((h : Hearing) × (d : Deframed) × Takes old.hearing frame came h told × IsReleased old.deframer d
+    × (new ≡ passed_over d.done old d h came)))

@@ -26,7 +26,8 @@ pub enum Lost {
     Memory,
 }
 
-/// What is found of a session. `at` is the offset of a frame, in bytes from the session's first one.
+/// What is found of a session. `at` is the offset of a frame, in bytes from the session's first
+/// one.
 #[derive(Clone, Copy, Debug, PartialEq, Eq, Error)]
 pub enum Finding {
     /// The commit of this frame isn't of one history with those that came before.

@@ -20,6 +20,8 @@ use std::alloc::Global;
 /// Sessions, as far as their frames have come.
 #[derive(Drop)]
 pub(crate) struct Hearing {
+    version: Version,
+    limit: u64,
     session: Session,
     pub(crate) noting: Noting,
     // where the next frame of the session begins
@@ -34,6 +36,8 @@ impl Hearing {
         ensures { result ≡ first_hearing version limit past }
     {
         Hearing {
+            version,
+            limit,
             session: Session::new(alloc, version, limit),
             noting: Noting::new(past),
             at: 0,
@@ -61,7 +65,7 @@ impl Hearing {
     {
         let lost = self.lost;
         self.noting.begin_session(lost);
-        self.session.reset();
+        self.session.begin(self.version, self.limit);
         self.at = 0;
         self.lost = false;
         Told::nothing(lost)
@@ -71,40 +75,44 @@ impl Hearing {
     fn hear_or_pass(&mut self, payload: &[u8]) -> Told
         ensures heard { HearsOrPasses self.old.lost self.old (CopyData payload.now) self.new
             result }
+        ensures same { self.new ≡ record self.old {
+          session = self.new.session;
+          noting = self.new.noting;
+          lost = self.new.lost;
+        } }
     {
         if self.lost {
             return Told::nothing(false);
         }
-        let told = self.hear_payload(payload);
+        let told = hear_payload(&mut self.session, &mut self.noting, self.at, payload);
         self.lost = matches!(told.found, Some(Finding::Lost { .. }));
         told
     }
+}
 
-    // Hears a payload of CopyData.
-    fn hear_payload(&mut self, payload: &[u8]) -> Told
-        ensures heard { HearsFrame self.old.session self.old.noting self.old.at
-            (CopyData payload.now) self.new.session self.new.noting result }
-    {
-        match decode_server(payload) {
-            Ok(ServerMsg::Data { body, .. }) => self.hear_body(body),
-            Ok(ServerMsg::Keepalive { .. }) => Told::nothing(false),
-            Err(fault) => Told::lost(self.at, Lost::Unsaid(fault)),
-        }
+// Hears a payload of CopyData.
+fn hear_payload(session: &mut Session, noting: &mut Noting, at: u64, payload: &[u8]) -> Told
+    ensures { HearsFrame session.old noting.old at (CopyData payload.now) session.new noting.new
+        result }
+{
+    match decode_server(payload) {
+        Ok(ServerMsg::Data { body, .. }) => hear_body(session, noting, at, body),
+        Ok(ServerMsg::Keepalive { .. }) => Told::nothing(false),
+        Err(fault) => Told::lost(at, Lost::Unsaid(fault)),
     }
+}
 
-    // Hears the data of XLogData.
-    fn hear_body(&mut self, body: &[u8]) -> Told
-        ensures heard { HearsBody self.old.session self.old.noting self.old.at body.now
-            self.new.session self.new.noting result }
-    {
-        let message = match decode_ref(body, self.session.in_block()) {
-            Ok(message) => message,
-            Err(fault) => return Told::lost(self.at, Lost::Undecoded(fault)),
-        };
-        match self.session.hear(&message, body) {
-            Ok(Some(ended)) => self.noting.hear(self.at, ended),
-            Ok(None) => Told::nothing(false),
-            Err(why) => Told::lost(self.at, why),
-        }
+// Hears the data of XLogData.
+fn hear_body(session: &mut Session, noting: &mut Noting, at: u64, body: &[u8]) -> Told
+    ensures { HearsBody session.old noting.old at body.now session.new noting.new result }
+{
+    let message = match decode_ref(body, session.in_block()) {
+        Ok(message) => message,
+        Err(fault) => return Told::lost(at, Lost::Undecoded(fault)),
+    };
+    match session.hear(&message, body) {
+        Ok(Some(ended)) => noting.hear(at, ended),
+        Ok(None) => Told::nothing(false),
+        Err(why) => Told::lost(at, why),
     }
 }

@@ -1,7 +1,14 @@
 //! What is told of sessions means this of messages and of histories. The functions do nothing:
 //! their contracts are the laws.
 
+ghost use Rattle.pgcompared.specs.HeardSessions.{SessionsAreHeard};
 ghost use Rattle.pgcompared.specs.Laws.{EndedAreCommits, SessionsAreNotContradicted};
+
+/// The frames of a session that isn't lost are heard message by message, and the transactions that
+/// commit are told of.
+pub fn sessions_are_heard()
+    ensures { SessionsAreHeard }
+{}
 
 /// The transactions that are compared are those that commit with a session's messages, with the
 /// changes that survive.

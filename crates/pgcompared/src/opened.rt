@@ -50,13 +50,9 @@ impl Open {
         }
     }
 
-    /// None is open any more.
-    pub(crate) fn reset(&mut self)
-        ensures { self.new ≡ none_opened self.old.limit }
-    {
-        self.pair = Digest::of_none();
-        self.block = None;
-        self.streams.clear();
+    /// The allocator.
+    pub(crate) fn alloc(&self) -> Global {
+        self.alloc
     }
 
     /// A pair begins.

@@ -6,7 +6,8 @@ ghost use Rattle.std.specs.Prelude.{◌≡◌, ◌≤◌, ◌++◌, None, IfOk, 
 ghost use Rattle.pglogical.specs.Borrowed.{message_value};
 ghost use Rattle.pglogical.specs.declared.message.Message.TheVariants as message;
 ghost use Rattle.pglogical.specs.Spelling.{Says, item_spelling, message_spelling};
-ghost use Rattle.pgcompared.specs.Sessions.{Hears, at_start, change_in, ended_as, ended_by, is_change};
+ghost use Rattle.pgcompared.specs.Sessions.{Hears, at_start, change_in, ended_as, ended_by};
+ghost use Rattle.pgcompared.specs.Sessions.{is_change};
 ghost use Rattle.pgcompared.specs.Sessions.{in_block_of, opened_by, time_of, with_held};
 
 use crate::finding::Lost;
@@ -44,11 +45,10 @@ impl Session {
     }
 
     /// The next session begins.
-    pub(crate) fn reset(&mut self)
-        ensures { self.new ≡ at_start self.old.order.version self.old.opened.limit }
+    pub(crate) fn begin(&mut self, version: Version, limit: u64)
+        ensures { self.new ≡ at_start version limit }
     {
-        self.order.reset();
-        self.opened.reset();
+        *self = Session::new(self.opened.alloc(), version, limit);
     }
 
     /// Whether the next message is inside a block of a streamed transaction.

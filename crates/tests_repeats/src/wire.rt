@@ -6,6 +6,7 @@ use std::alloc::Global;
 use std::process::Abort;
 
 /// The bytes of sessions.
+#[derive(Drop)]
 pub struct Wire {
     pub bytes: Vec<u8>,
 }

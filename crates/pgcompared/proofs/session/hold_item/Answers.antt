@@ -1,4 +1,5 @@
-use Rattle.std.proofs.Common.{◌≡◌, ◌≤◌, ◌∙◌, ◌++◌, ℕ, List, None, Some, Option, ap, sym, subst, length, take, drop}
+use Rattle.std.proofs.Common.{◌≡◌, ◌≤◌, ◌∙◌, ◌++◌, ℕ, List, None, Some, Option, ap, sym, subst}
+use Rattle.std.proofs.Common.{length, take, drop}
 use Rattle.pglogical.specs.Spelling.{item_spelling}
 use Rattle.pgcompared.proofs.Spellings.{is_long, without_xid}
 use Rattle.pgcompared.proofs.session.hold_item.Goals as goal
