@@ -77,6 +77,10 @@ cache_rule = record (new_rule (codes "cache")) {
 abbrev pub watch_rule : Rule
 watch_rule = record (new_rule (codes "watch")) { long = Some (codes "watch"); value_names = 1 }
 
+-- the file in which commits are noted
+abbrev pub repeats_rule : Rule
+repeats_rule = record (new_rule (codes "repeats")) { long = Some (codes "repeats"); value_names = 1 }
+
 -- tables come first
 abbrev pub load_rule : Rule
 load_rule = record (new_rule (codes "load")) { long = Some (codes "load"); action = Some SetTrue }
@@ -122,9 +126,9 @@ abbrev pub dump_app : App
 dump_app = with_rule (with_rule (new_app (codes "dump")) (store_rule true)) cache_rule
 
 abbrev pub follow_app : App
-follow_app = with_feed (with_rule (with_rule (with_rule
+follow_app = with_feed (with_rule (with_rule (with_rule (with_rule
     (with_rule (with_rule (with_rule (with_rule (new_app (codes "follow")) proto_rule) max_buffered_rule) max_frame_rule) (store_rule true))
-    cache_rule) watch_rule) load_rule)
+    cache_rule) watch_rule) repeats_rule) load_rule)
 
 abbrev pub same_app : App
 same_app = with_rule (with_rule (with_rule (new_app (codes "same")) proto_rule) (word_rule (codes "LEFT"))) (word_rule (codes "RIGHT"))
@@ -182,9 +186,9 @@ IsCache rows cache = ReadsUpTo 4294967294 (one_of (codes "cache") rows) cache
 abbrev pub IsFlag : Text → List Row → Bool → Type 0
 IsFlag name rows flag = (one_of name rows ≡ Some (codes "true") → flag ≡ true) × (one_of name rows ≡ Some (codes "false") → flag ≡ false)
 
--- the file that `--store` names, and none where it isn't given
-abbrev pub NamesStore : List Row → Option (String Global) → Type 0
-NamesStore rows store = option_map string_bytes store ≡ first_of (codes "store") rows
+-- the file that the option of this name names, and none where it isn't given
+abbrev pub NamesFile : Text → List Row → Option (String Global) → Type 0
+NamesFile name rows file = option_map string_bytes file ≡ first_of name rows
 
 -- the number that the value of an option reads as, or this one where it isn't given
 abbrev pub ReadsOr : ℕ → ℕ → Option Text → ℕ → Type 0
@@ -218,12 +222,13 @@ abbrev pub IsAsked : Text → List Row → Task → Type 0
 IsAsked name rows (Show version file) = (name ≡ codes "show") × IsVersion rows version × (string_bytes file ≡ text_in (codes "FILE") rows)
 IsAsked name rows (Apply version limits raw progress store cache feed file) =
     (name ≡ codes "apply") × IsVersion rows version × IsLimits rows limits × IsFlag (codes "raw") rows raw
-    × IsFlag (codes "progress") rows progress × NamesStore rows store × IsCache rows cache × AsksFeed rows feed
+    × IsFlag (codes "progress") rows progress × NamesFile (codes "store") rows store × IsCache rows cache × AsksFeed rows feed
     × (string_bytes file ≡ text_in (codes "FILE") rows)
 IsAsked name rows (Dump store cache) = (name ≡ codes "dump") × IsCache rows cache × (string_bytes store ≡ text_in (codes "store") rows)
-IsAsked name rows (Follow version limits store cache feed watch load) =
+IsAsked name rows (Follow version limits store cache feed watch repeats load) =
     (name ≡ codes "follow") × IsVersion rows version × IsLimits rows limits × IsCache rows cache × AsksFeed rows feed
-    × (watch ≡ watching_in rows) × IsFlag (codes "load") rows load × (string_bytes store ≡ text_in (codes "store") rows)
+    × (watch ≡ watching_in rows) × NamesFile (codes "repeats") rows repeats × IsFlag (codes "load") rows load
+    × (string_bytes store ≡ text_in (codes "store") rows)
 IsAsked name rows (Same version left right) =
     (name ≡ codes "same") × IsVersion rows version × (string_bytes left ≡ text_in (codes "LEFT") rows)
     × (string_bytes right ≡ text_in (codes "RIGHT") rows)
@@ -251,8 +256,12 @@ tells_of_feed rows =
     || (is_given (codes "feed-segment-bytes") rows || is_given (codes "feed-segment-seconds") rows)))
 
 -- a feed without a store is asked for, or something is told of a feed that isn't asked for
+abbrev pub lacks_of_feed : List Row → Bool
+lacks_of_feed rows = if is_given (codes "feed") rows then not (is_given (codes "store") rows) else tells_of_feed rows
+
+-- or commits are to be compared with the noted ones, and the server isn't watched
 abbrev pub lacks_word : List Row → Bool
-lacks_word rows = if is_given (codes "feed") rows then not (is_given (codes "store") rows) else tells_of_feed rows
+lacks_word rows = lacks_of_feed rows || (is_given (codes "repeats") rows && not (is_given (codes "watch") rows))
 
 -- `--watch` is given with a word that says nothing of it
 abbrev pub misnames_watch : List Row → Bool

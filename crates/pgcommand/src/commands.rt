@@ -8,8 +8,10 @@ ghost use Rattle.pgcommand.specs.Asked.{store_rule, cache_rule, max_buffered_rul
 ghost use Rattle.pgcommand.specs.Asked.{feed_rule, feed_text_rule, feed_bytes_rule};
 ghost use Rattle.pgcommand.specs.Asked.{feed_seconds_rule, with_feed, show_app, apply_app};
 ghost use Rattle.pgcommand.specs.Asked.{dump_app, follow_app, same_app, resume_app, lsn_app};
-ghost use Rattle.pgcommand.specs.Asked.{watch_app, watch_rule, load_rule, bare_app, pgsub_app};
+ghost use Rattle.pgcommand.specs.Asked.{watch_app, watch_rule, repeats_rule, load_rule, bare_app};
+ghost use Rattle.pgcommand.specs.Asked.{pgsub_app};
 
+use crate::task::WATCH;
 use crate::watching::WATCHINGS;
 use clap::error::ErrorKind;
 use clap::{Arg, ArgAction, Command, Error, value_parser};
@@ -20,7 +22,8 @@ const FOLLOW_STATUSES: &str = "Exit statuses:
    0  the stream ended
    1  the stream is rejected
    2  usage error
-   3  the file is no store, the folder no feed of it, or a name for a feed is too long
+   3  a file is no store, or not one of noted commits, the folder no feed of the store, or a name for
+      a feed is too long
   10  the buffered items of open transactions would cost more than --max-buffered
   11  a frame is longer than --max-frame
   12  the store can't be opened, as while another process has it open
@@ -162,6 +165,17 @@ fn watch<'a>(alloc: Global) -> Arg<'a>
         "Watch the server for the rules of a well-formed one, and where it breaks one `tell` \
         standard error of it, or `stop` too, before that frame is taken";
     option(alloc, "watch", "HOW", help)
+}
+
+/// `--repeats FILE`.
+fn repeats<'a>(alloc: Global) -> Arg<'a>
+    ensures rule { rule_of result ≡ repeats_rule }
+    ensures local { result.global ≡ false }
+{
+    let help =
+        "Note each commit in this file, and where the server sends another one in its place later, \
+        do as --watch says; it is made where it isn't there";
+    option(alloc, "repeats", "FILE", help)
 }
 
 /// `--load`.
@@ -328,6 +342,7 @@ fn follow_command<'a>(alloc: Global) -> Result<Command<'a>, AllocError>
     let command = with_limits(alloc, bare_follow(alloc).arg(proto(alloc))?)?;
     let command = with_store(alloc, command, true, STORE)?
         .arg(watch(alloc))?
+        .arg(repeats(alloc))?
         .arg(load(alloc))?;
     with_feed(alloc, command)
 }
@@ -337,6 +352,9 @@ const FED_APPLY: &str = "pgsub apply [OPTIONS] --store <FILE> --feed <FOLDER> <F
 
 /// The usage of `follow` with a feed.
 const FED_FOLLOW: &str = "pgsub follow [OPTIONS] --store <FILE> --feed <FOLDER>";
+
+/// The usage of `follow` with noted commits.
+const WATCHED_FOLLOW: &str = "pgsub follow [OPTIONS] --store <FILE> --watch <HOW> --repeats <FILE>";
 
 /// The usage of `follow`.
 const FOLLOW: &str = "pgsub follow [OPTIONS] --store <FILE>";
@@ -359,7 +377,9 @@ pub(crate) fn missing(alloc: Global, name: &str, word: &str) -> Result<Error, Al
     let message = format!(in alloc;
         "the following required arguments were not provided:\n  {word}"
     )?;
-    let usage = if name == "apply" {
+    let usage = if word == WATCH {
+        WATCHED_FOLLOW
+    } else if name == "apply" {
         FED_APPLY
     } else {
         FED_FOLLOW

@@ -4,9 +4,9 @@ ghost use Rattle.std.specs.Prelude.{◌≡◌, ◌↔◌, IfOk, Option, Some, is
 ghost use Rattle.std.specs.Prelude.{string_bytes};
 ghost use Rattle.clap.specs.Words.{first_of, found_of, one_of, rows_of};
 ghost use Rattle.pgcommand.specs.Asked.{AsksFeed, IsAsked, IsCache, IsCommandName, IsFeed, IsFlag};
-ghost use Rattle.pgcommand.specs.Asked.{IsLimits, NamesStore, ReadsAsOne, ReadsOr, ReadsUpTo};
-ghost use Rattle.pgcommand.specs.Asked.{IsVersion, is_given, lacks_word, misnames_watch};
-ghost use Rattle.pgcommand.specs.Asked.{tells_of_feed, text_in, watching_in};
+ghost use Rattle.pgcommand.specs.Asked.{IsLimits, NamesFile, ReadsAsOne, ReadsOr, ReadsUpTo};
+ghost use Rattle.pgcommand.specs.Asked.{IsVersion, is_given, lacks_of_feed, lacks_word};
+ghost use Rattle.pgcommand.specs.Asked.{misnames_watch, tells_of_feed, text_in, watching_in};
 
 use crate::feed::FeedOptions;
 use crate::limits::Limits;
@@ -49,7 +49,8 @@ pub enum Task {
     },
     /// Follow a server: its bytes come from standard input, and statuses go to standard output.
     /// Rows and position are kept in the file `store`. With `watch` the server is watched for the
-    /// rules that a well-formed one keeps. With `load`, tables as COPY's text come before the first
+    /// rules that a well-formed one keeps, and with `repeats` its commits are noted in that file and
+    /// compared where they come again. With `load`, tables as COPY's text come before the first
     /// session.
     Follow {
         version: Version,
@@ -58,6 +59,7 @@ pub enum Task {
         cache: u32,
         feed: Option<FeedOptions>,
         watch: Option<Watching>,
+        repeats: Option<String>,
         load: bool,
     },
     /// Compare the rows and positions that two recordings lead to.
@@ -159,11 +161,11 @@ fn value_of(alloc: Global, found: &ArgMatches<'_>, name: &str) -> Result<String,
     String::from_str(alloc, found.get_str(name).unwrap_or(""))
 }
 
-/// The file that `--store` names, copied.
-fn store_of(alloc: Global, found: &ArgMatches<'_>) -> Result<Option<String>, AllocError>
-    ensures { IfOk result (NamesStore (rows_of (found_of found.now))) }
+/// The file that the option of this name names, copied.
+fn file_of(alloc: Global, found: &ArgMatches<'_>, name: &str) -> Result<Option<String>, AllocError>
+    ensures { IfOk result (NamesFile name.now (rows_of (found_of found.now))) }
 {
-    match found.get_str("store") {
+    match found.get_str(name) {
         Some(path) => Ok(Some(String::from_str(alloc, path)?)),
         None => Ok(None),
     }
@@ -187,10 +189,13 @@ fn tells_of_feed(found: &ArgMatches<'_>) -> bool
         || is_given(found, "feed-segment-seconds")
 }
 
-/// The word that the matches of a subcommand lack: a feed needs a store, and what is told of one
-/// needs a feed.
-pub(crate) fn missing_word(found: &ArgMatches<'_>) -> Option<&'static str>
-    ensures { is_some result ≡ lacks_word (rows_of (found_of found.now)) }
+/// The word of `--watch`, as a usage names it.
+pub(crate) const WATCH: &str = "--watch <HOW>";
+
+/// The word that the matches of a subcommand lack for a feed: that needs a store, and what is told
+/// of one needs a feed.
+fn missing_for_feed(found: &ArgMatches<'_>) -> Option<&'static str>
+    ensures { is_some result ≡ lacks_of_feed (rows_of (found_of found.now)) }
 {
     if is_given(found, "feed") {
         if is_given(found, "store") {
@@ -200,6 +205,21 @@ pub(crate) fn missing_word(found: &ArgMatches<'_>) -> Option<&'static str>
         }
     } else if tells_of_feed(found) {
         Some("--feed <FOLDER>")
+    } else {
+        None
+    }
+}
+
+/// The word that the matches of a subcommand lack: a feed lacks one, or noted commits lack the
+/// watch.
+pub(crate) fn missing_word(found: &ArgMatches<'_>) -> Option<&'static str>
+    ensures { is_some result ≡ lacks_word (rows_of (found_of found.now)) }
+{
+    if let Some(word) = missing_for_feed(found) {
+        return Some(word);
+    }
+    if is_given(found, "repeats") && !is_given(found, "watch") {
+        Some(WATCH)
     } else {
         None
     }
@@ -274,7 +294,7 @@ fn feed_of(alloc: Global, found: &ArgMatches<'_>) -> Result<Option<FeedOptions>,
 fn apply_of(alloc: Global, found: &ArgMatches<'_>) -> Result<Task, AllocError>
     ensures { IfOk result (IsAsked (codes "apply") (rows_of (found_of found.now))) }
 {
-    let store = store_of(alloc, found)?;
+    let store = file_of(alloc, found, "store")?;
     let feed = feed_of(alloc, found)?;
     let file = value_of(alloc, found, "FILE")?;
     Ok(Task::Apply {
@@ -295,6 +315,7 @@ fn follow_of(alloc: Global, found: &ArgMatches<'_>) -> Result<Task, AllocError>
 {
     let store = value_of(alloc, found, "store")?;
     let feed = feed_of(alloc, found)?;
+    let repeats = file_of(alloc, found, "repeats")?;
     Ok(Task::Follow {
         version: version_of(found),
         limits: limits_of(found),
@@ -302,6 +323,7 @@ fn follow_of(alloc: Global, found: &ArgMatches<'_>) -> Result<Task, AllocError>
         cache: cache_of(found),
         feed,
         watch: watch_of(found),
+        repeats,
         load: flag_of(found, "load"),
     })
 }
