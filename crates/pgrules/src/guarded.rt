@@ -81,6 +81,13 @@ impl<R: Read + Drop, L: FindingListener + Drop> Guarded<R, L> {
         })
     }
 
+    /// The reader whose bytes it hands on.
+    pub fn reader(&self) -> &R
+        ensures { result.now ≡ self.now.reader }
+    {
+        &self.reader
+    }
+
     /// Whether it has stopped: where not, nothing that was read is kept back.
     pub fn has_stopped(&self) -> bool
         ensures stopped { (result ≡ true) ↔ (self.now.safe < self.now.len) }
