@@ -1,0 +1,4 @@
+pub mod Fields
+pub mod Chains
+pub mod Handings
+pub mod Keeping

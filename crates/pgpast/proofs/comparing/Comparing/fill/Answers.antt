@@ -1,0 +1,8 @@
+use Rattle.pgpast.proofs.Keeping.{read_ahead}
+use Rattle.pgpast.proofs.comparing.Comparing.fill.Goals as goal
+
+pub returns-clause-handed : goal.returns-clause-handed
+returns-clause-handed g c v limit max past given k =
+    rw (c.hear-self.ensures.kept.0, c.hear-self.ensures.kept.1)
+    (read_ahead v limit max past c.args.self.now.stops given c.hear-self.new.self.compared _ c.hear-self.result c.in_ok-len.len
+    c.hear-self.ensures.bound.1 c.hear-self.ensures.bound.0 (c.hear-self.ensures.handed v limit max past given k))

@@ -1,0 +1,4 @@
+pub mod Records
+pub mod Loaded
+pub mod Noting
+pub mod Handing
