@@ -10,10 +10,12 @@ mod build;
 
 use build::{COMMIT, KIT};
 use pgcommand::{CommandFault, DEFAULT_CACHE, FeedOptions, Limits, Task, Watching, command_of};
+use pgcompared::Compared;
 use pgfeed::{Folder, Origin, SegmentLimits};
 use pgfollow::{Clock, Link};
 use pgledger::Supposing;
 use pgorder::Version;
+use pgpast::{Comparing, Notes, NotesFault, PlainFile, RepeatLines};
 use pgrules::Guarded;
 use pgruns::{
     ApplyPlan, FeedPlan, FileFolder, Filed, FollowPlan, LiveIo, LoadPlan, StoreFile, apply, dump,
@@ -31,7 +33,7 @@ use std::cell::RefCell;
 use std::fs::File;
 use std::io::{ErrorKind, Read};
 use std::process::ExitCode;
-use std::rt::{Stderr, Stdout};
+use std::rt::{Stderr, Stdin, Stdout};
 use std::time::{SystemTime, UNIX_EPOCH};
 use std::{env, fs, io};
 
@@ -52,6 +54,12 @@ const FOLLOW_IO: u8 = 15;
 
 /// That of `follow` where the server broke a rule and it was to stop then.
 const FOLLOW_BROKEN: u8 = 17;
+
+/// The longest payload of a frame: its length counts four bytes of its own, and fits 31 bits.
+const LONGEST_FRAME: u32 = 2_147_483_643;
+
+/// Of how many changes of subtransactions of one streamed transaction it is held whose they are.
+const COMPARED_LIMIT: u64 = 1_000_000;
 
 /// How many bytes of a load's rows are stored in one.
 const LOAD_BATCH: usize = 4_194_304;
@@ -335,7 +343,87 @@ fn run_live<R: Read + Drop, D: Folder + Supposing + Drop>(
     (status_of((status, left, feed)), io.link)
 }
 
-/// The same, where the server is watched for the rules of a well-formed one.
+/// The same, where the server is watched for the rules of a well-formed one. Returns the exit
+/// status, and the watched input.
+fn run_guarded<R: Read + Drop, D: Folder + Supposing + Drop>(
+    rt: &HostRuntime,
+    task: &Task,
+    server: (Version, Watching, R),
+    path: &str,
+    feed: Option<FeedPlan<'_, D>>,
+) -> Result<(u8, Link<Guarded<R, WatchLines<Stderr>>, Stdout>), AllocError> {
+    let (version, watching, input) = server;
+    let watch = live_watch(rt.alloc(), version, limits_of(task));
+    let lines = WatchLines::new(rt.alloc(), rt.stderr());
+    let stops = watching == Watching::Stop;
+    let input = Guarded::new(rt.alloc(), input, lines, watch, stops)?;
+    let (status, link) = run_live(rt, task, (version, input), path, feed);
+    if status == FOLLOW_IO && link.reader.has_stopped() {
+        return Ok((FOLLOW_BROKEN, link));
+    }
+    Ok((status, link))
+}
+
+/// Standard input, whose commits are compared with those that are noted in a file.
+type ComparedInput = Comparing<Stdin, PlainFile, RepeatLines<Stderr>>;
+
+/// Opens the file in which commits are noted, and tells how many it holds.
+fn compared_input(
+    rt: &HostRuntime,
+    task: &Task,
+    server: (Version, Watching),
+    file: &str,
+) -> Result<ComparedInput, NotesFault> {
+    let (version, watching) = server;
+    let alloc = rt.alloc();
+    let opened = Notes::open(alloc, PlainFile::open(rt, file)?)?;
+    let found = opened.found();
+    let _ = eprintln!(rt; "pgsub: repeats: {found}");
+    let max_frame = limits_of(task).max_frame.min(LONGEST_FRAME);
+    let compared = Compared::new(alloc, version, max_frame, COMPARED_LIMIT, opened.past);
+    let lines = RepeatLines::new(alloc, rt.stderr(), file)?;
+    let stops = watching == Watching::Stop;
+    let input = Comparing::new(alloc, rt.stdin(), lines, compared, opened.notes, stops)?;
+    Ok(input)
+}
+
+/// Tells why a file of noted commits can't be used. Returns the exit status.
+fn tell_notes(rt: &HostRuntime, file: &str, fault: NotesFault) -> u8 {
+    match fault {
+        NotesFault::Memory => {
+            let _ = eprintln!(rt; "pgsub: memory");
+            FOLLOW_MEMORY
+        }
+        _ => {
+            let _ = eprintln!(rt; "pgsub: repeats: can't use {file}: {fault}");
+            FILE
+        }
+    }
+}
+
+/// The same, where the server's commits are also compared with those that are noted in a file.
+fn run_compared<D: Folder + Supposing + Drop>(
+    rt: &HostRuntime,
+    task: &Task,
+    server: (Version, Watching),
+    (path, file): (&str, &str),
+    feed: Option<FeedPlan<'_, D>>,
+) -> Result<u8, AllocError> {
+    let input = match compared_input(rt, task, server, file) {
+        Ok(input) => input,
+        Err(fault) => return Ok(tell_notes(rt, file, fault)),
+    };
+    let (version, watching) = server;
+    let (status, link) = run_guarded(rt, task, (version, watching, input), path, feed)?;
+    let counts = link.reader.reader().counts();
+    let _ = eprintln!(rt; "pgsub: repeats: {counts}");
+    if status == FOLLOW_IO && link.reader.reader().has_stopped() {
+        return Ok(FOLLOW_BROKEN);
+    }
+    Ok(status)
+}
+
+/// Follows a watched server from standard input, and compares its commits where that is asked for.
 fn run_watched<D: Folder + Supposing + Drop>(
     rt: &HostRuntime,
     task: &Task,
@@ -343,15 +431,15 @@ fn run_watched<D: Folder + Supposing + Drop>(
     path: &str,
     feed: Option<FeedPlan<'_, D>>,
 ) -> Result<u8, AllocError> {
-    let (version, watching) = server;
-    let watch = live_watch(rt.alloc(), version, limits_of(task));
-    let lines = WatchLines::new(rt.alloc(), rt.stderr());
-    let stops = watching == Watching::Stop;
-    let input = Guarded::new(rt.alloc(), rt.stdin(), lines, watch, stops)?;
-    let (status, link) = run_live(rt, task, (version, input), path, feed);
-    if status == FOLLOW_IO && link.reader.has_stopped() {
-        return Ok(FOLLOW_BROKEN);
+    if let Task::Follow {
+        repeats: Some(file),
+        ..
+    } = task
+    {
+        return run_compared(rt, task, server, (path, file.as_str()), feed);
     }
+    let (version, watching) = server;
+    let (status, _link) = run_guarded(rt, task, (version, watching, rt.stdin()), path, feed)?;
     Ok(status)
 }
 
