@@ -29,3 +29,4 @@ mod stream;
 pub use compared::{Compared, Heard};
 pub use finding::{Finding, Lost};
 pub use laws::{ended_are_commits, sessions_are_heard, sessions_are_not_contradicted};
+pub use noting::Told;

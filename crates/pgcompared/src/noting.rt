@@ -20,13 +20,15 @@ pub(crate) struct Noting {
     equal: u64,
 }
 
-/// What comes of a frame.
+/// What is told of a frame.
 #[derive(Clone, Copy, Debug)]
-pub(crate) struct Told {
+pub struct Told {
     /// All that was noted before is forgotten.
-    pub(crate) forgot: bool,
-    pub(crate) noted: Option<Commit>,
-    pub(crate) found: Option<Finding>,
+    pub forgot: bool,
+    /// The commit that is noted.
+    pub noted: Option<Commit>,
+    /// What is found.
+    pub found: Option<Finding>,
 }
 
 impl Told {
