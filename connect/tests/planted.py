@@ -204,6 +204,13 @@ BUGS = (
         ("test_broken_rules",),
     ),
     Bug(
+        "commits that come again aren't compared",
+        "pgsub_connect/commands/follow.py",
+        "    child.note_repeats(",
+        "    repr(",
+        ("test_broken_rules",),
+    ),
+    Bug(
         "a load is taken for a session of which commits are noted",
         "pgsub_connect/stream/filter.py",
         "self.repeats is not None and not loads",

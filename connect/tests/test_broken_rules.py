@@ -309,6 +309,8 @@ class Words(FollowCase):
             checkpoint = mock.Mock(file=0)
             parts = follow.made(follow.settled(options), checkpoint)
             self.assertEqual(parts.child.words[-2:], ["--watch", how], words)
+            assert parts.child.repeats
+            self.assertEqual(parts.child.repeats.path, self.store + ".repeats")
             # (without it while it loads the first rows, which are no session)
             self.assertIs(parts.copier.filter, parts.child)
 

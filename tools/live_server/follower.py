@@ -22,8 +22,9 @@ from .patience import Patience
 # The statuses after which a supervisor starts the connector again: something is in the way only for
 # now.
 AGAIN = (7,)
-# What a connector tells of a server that breaks a rule, or of one that isn't watched.
-OF_RULES = ("found: rule at", "found: unwatched at")
+# What a connector tells of a server that breaks a rule, sends other commits than before, or isn't
+# watched.
+OF_RULES = ("found: rule at", "found: repeat at", "found: unwatched at")
 
 
 # The states of a process that has ended, and of a thread that stands still or has ended, too.

@@ -36,6 +36,7 @@ from ..store.checkpoint import Checkpoint
 from ..store.checkpoint_lines import FOLLOWING, INTERRUPTED
 from ..store.completeness import is_whole
 from ..store.placing import check_meant
+from ..store.repeats_file import RepeatsFile
 from ..stream.common import Common, Tolerance
 from ..stream.filter import Filter
 from .arguments import words
@@ -234,6 +235,7 @@ def made(options: Options, checkpoint: Checkpoint) -> Parts:
     feeding.check()
     child = make_filter(options, checkpoint)
     child.add_words(["--watch", "stop" if tolerance.stops else "tell"])
+    child.note_repeats(RepeatsFile(store, checkpoint, lambda: subscription.publications))
     told = subscription, checkpoint, child, progress, remembered
     copier = Copier(options.copy_settings(), *told, feeding.rows_beside())
     recording, requests = recording_of(options), RequestSocket(store, mode)
