@@ -1902,12 +1902,15 @@ BUGS = (
 
 def found(bug: Bug) -> str:
     """Plants a bug. Returns "" where the tests find it, and else what is wrong."""
-    with tempfile.TemporaryDirectory() as folder:
+    with tempfile.TemporaryDirectory() as room:
+        # (filters of tests find the scripts beside)
+        Path(room, "tools").symlink_to(CONNECT.parent / "tools")
+        folder = Path(room, CONNECT.name)
         for name in ("pgsub_connect", "pgsub_feed", "tests"):
             shutil.copytree(
-                CONNECT / name, Path(folder, name), ignore=shutil.ignore_patterns("__pycache__")
+                CONNECT / name, folder / name, ignore=shutil.ignore_patterns("__pycache__")
             )
-        path = Path(folder, bug.module)
+        path = folder / bug.module
         text = path.read_text(encoding="utf-8")
         if text.count(bug.before) != 1:
             return f"the line that it changes is there {text.count(bug.before)} times"
@@ -1924,7 +1927,7 @@ def found(bug: Bug) -> str:
         return "" if done.returncode == FAILED else "the tests pass"
 
 
-def run_tests(folder: str, tests: list[str]) -> subprocess.CompletedProcess[bytes] | None:
+def run_tests(folder: Path, tests: list[str]) -> subprocess.CompletedProcess[bytes] | None:
     """Runs tests up to the first that fails; None where they don't end."""
     try:
         return subprocess.run(

@@ -14,7 +14,7 @@ from unittest import mock
 from pgsub_connect.commands.drop import files_of
 from pgsub_connect.drift.findings import REPEAT, UNWATCHED
 from pgsub_connect.drift.remembered import Remembered
-from pgsub_connect.errors import ServerError
+from pgsub_connect.errors import NoSlot, ServerError
 from pgsub_connect.store.checkpoint import Checkpoint, read_known
 from pgsub_connect.store.repeats_file import RepeatsFile
 from pgsub_connect.stream.filter import LOAD, Filter
@@ -24,7 +24,7 @@ from pgsub_feed.texts import lsn_text
 from .adding_case import FIRST, OTHER, Case, Run, T
 from .fake_server import Quiet, Row
 from .row_filter import Store, Subscriber
-from .small_world import insert
+from .small_world import WorldSource, insert
 
 
 class File(Quiet):
@@ -182,7 +182,7 @@ class Compared(Repeats):
         self.world.commit(insert(T, (5000, "other")))
         self.goes_on_to_the_end()
         before = self.world.end
-        self.goes_on_to_the_end(accept=["all"])
+        self.goes_on_to_the_end(accept=[REPEAT])
         self.assertEqual(read_known(self.store + ".connector").repeats, before)
         self.change()
         self.goes_on_to_the_end()
@@ -341,6 +341,27 @@ class LeftOut(Repeats):
         self.assertTrue(run.until(lambda: self.is_stored(run)))
         run.end()
         self.goes_on()
+        self.goes_on_to_the_end()
+        self.assertEqual(self.repeats(), [])
+
+    def test_a_table_that_isnt_added_in_the_end(self) -> None:
+        """What was noted without its changes doesn't come again with them."""
+
+        def hook(name: str) -> None:
+            if name == "make_slot":
+                raise NoSlot("no slot")
+
+        setattr(WorldSource, "hook", staticmethod(hook))
+        self.want(T)
+        run = Run(self)
+        self.assertTrue(run.until(lambda: run.checkpoint.known.adding != {}))
+        self.assertTrue(run.until(lambda: run.progress.state == "following"))
+        self.change()
+        self.assertTrue(run.until(lambda: self.is_stored(run)))
+        published = self.world.tables.pop(T)
+        self.assertTrue(run.until(lambda: not run.checkpoint.known.adding))
+        run.end()
+        self.world.tables[T] = published
         self.goes_on_to_the_end()
         self.assertEqual(self.repeats(), [])
 
