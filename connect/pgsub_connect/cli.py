@@ -7,8 +7,9 @@ from collections.abc import Callable, Sequence
 from typing import Any, Protocol, cast
 
 from pgsub_feed import log
+from pgsub_feed.interruption import Check
 from pgsub_feed.options import Parser, TellVersion, add_fields, meant
-from pgsub_feed.program import guarded
+from pgsub_feed.program import check_signals, guarded
 
 from .commands.arguments.words import ENDS
 
@@ -48,15 +49,15 @@ OF_PROGRAM[
 
 class Command(Protocol):
     """A module of `commands`. It may have `add_options` too, where its options are more than the
-    fields of `Options`, and `check_options`, which rejects those that don't go together, and gives
-    what they mean."""
+    fields of `Options`; `check_options`, which rejects those that don't go together, and gives what
+    they mean; and `settled`, the options with what they leave out, of files beside the store."""
 
     ABOUT: str
     ENDS: str | None
     Options: Callable[..., Any]
 
-    def run(self, options: Any) -> int:
-        ...
+    def run(self, options: Any, check: Check) -> int:
+        """Does it; the exit status. `check` raises once a signal has asked for the end."""
 
 
 def command_of(name: str) -> Command:
@@ -139,7 +140,12 @@ def arguments(words: Sequence[str]) -> tuple[str, Any]:
 
 def main(words: Sequence[str]) -> int:
     name, options = arguments(words)
-    return guarded(lambda: command_of(name).run(options))
+    return guarded(lambda: ran(command_of(name), options))
+
+
+def ran(command: Command, options: Any) -> int:
+    settled = getattr(command, "settled", None)
+    return command.run(settled(options) if settled else options, check_signals())
 
 
 def run() -> None:

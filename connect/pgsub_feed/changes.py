@@ -9,12 +9,10 @@ from collections.abc import Callable, Iterator, Mapping
 from .reader import commits
 from .reader.commits import XID, Cell, Cells, Unsent
 from .relation import BaseType, Column, Relation
-from .tables.values import BYTEA, FLOAT4, FLOAT8, KINDS, TEXTS, read_bytea
+from .tables.values import BOOL, BYTEA, FLOAT4, FLOAT8, KINDS, NUMERIC, TEXTS, read_bytea
 from .texts import lsn_text
 
-BOOL, OID, DATE, TIME, TIMESTAMP, TIMESTAMPTZ, NUMERIC, UUID = (
-    16, 26, 1082, 1083, 1114, 1184, 1700, 2950,
-)  # fmt: skip
+OID, DATE, TIME, TIMESTAMP, TIMESTAMPTZ, UUID = 26, 1082, 1083, 1114, 1184, 2950
 
 
 def read_bool(text: str) -> bool:

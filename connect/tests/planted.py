@@ -1480,8 +1480,8 @@ BUGS = (
     Bug(
         "what is left of another base stays",
         "pgsub_feed/sinks/nats_engine.py",
-        "if 0 < info.first < first:",
-        "if False:",
+        "and last is commit and 0 < info.first",
+        "and last is commit and 0 > info.first",
         ("test_sink_nats",),
     ),
     Bug(
@@ -1690,7 +1690,7 @@ BUGS = (
     Bug(
         "a digest has the scale from before a column was altered",
         "pgsub_feed/tables/digests.py",
-        "plain = None if self.fields.old_scales(cells) else plain_text(cells)",
+        "plain = None if fields.old_scales(cells) else plain_text(cells)",
         "plain = plain_text(cells)",
         ("test_numerics",),
     ),

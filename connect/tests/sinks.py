@@ -36,7 +36,7 @@ class SinkCase(FeedCase):
         with logged() as told:
             words: dict[str, Any] = {"url": self.url, "once": True, **more}
             options = Options(feed=str(self.path), **words)
-            sink.write_feed(options, never)
+            sink.run(options, never)
         return told[:-1]
 
     def fails(self, kind: type[Exception], text: str, **more: Any) -> None:

@@ -26,7 +26,7 @@ from unittest import mock
 from feed_text import About, Definition
 
 import pgsub_feed
-from pgsub_connect.commands.tables import Options as TablesOptions, follow_feed
+from pgsub_connect.commands.tables import Options as TablesOptions, run as run_tables
 from pgsub_connect.follow.first_rows import BaseRows
 from pgsub_connect.follow.retention import Limits, feed_bytes, remove_feed, retire
 from pgsub_connect.store import base_files
@@ -351,7 +351,7 @@ class Tables(BaseCase):
 
     def follow(self, **more: Any) -> None:
         options = TablesOptions(feed=str(self.path), into=str(self.into), once=True, **more)
-        self.assertEqual(follow_feed(options, never), 0)
+        self.assertEqual(run_tables(options, never), 0)
 
     def setUp(self) -> None:
         super().setUp()
@@ -423,7 +423,7 @@ class Tables(BaseCase):
         self.truncated()
         other = str(self.folder / "other.db")
         options = TablesOptions(feed=str(self.path), into=other, once=True, at=0x200)
-        self.assertEqual(follow_feed(options, never), 0)
+        self.assertEqual(run_tables(options, never), 0)
         remove_base(str(self.path))
         with self.assertRaisesRegex(Unfit, "Go forward to there"):
             self.back(0x200)

@@ -21,6 +21,7 @@ from pgsub_connect.store.checkpoint import LONGEST_PATH, Checkpoint, read_known
 from pgsub_connect.store.checkpoint_lines import COPIED, COPYING, FOLLOWING, SLOT, Known
 from pgsub_connect.stream.common import Common, Tolerance
 from pgsub_feed.errors import Failure, FileError, Passing, Stopped, Unfit
+from pgsub_feed.interruption import never
 from pgsub_feed.relation import Relation, Shape
 from pgsub_feed.tables.schema import RELATIONS, definition
 from pgsub_feed.tables.target import Target
@@ -98,14 +99,9 @@ class Remembers(Begun):
             ):
                 settled([*command.split(), "--store", self.store, "--slot", "pgsub"])
             self.assertEqual(settled([*command.split(), "--store", self.store]).slot, "app")
-        runs: tuple[Callable[[Any], int], ...] = (drop.run, refresh.run)
-        for run in runs:
+        for command in ("drop", "refresh"):
             with self.assertRaisesRegex(Unfit, "follows the slot app, and not other"):
-                run(
-                    options_of(
-                        [run.__module__.split(".")[-1], "--store", self.store, "--slot", "other"]
-                    )
-                )
+                settled([command, "--store", self.store, "--slot", "other"])
         Path(self.rows).touch()
         with self.assertRaisesRegex(
             Unfit, f"are in {self.rows}: leave --tables out. .* move or remove that file, or"
@@ -202,9 +198,7 @@ class LeavesNothing(Begun):
             kind, text
         ):
             follow.run(
-                follow.Options(
-                    **vars(self.follow("--dsn", f"host={self.folder}/nowhere dbname=shop", *words))
-                )
+                self.follow("--dsn", f"host={self.folder}/nowhere dbname=shop", *words), never
             )
         after = {it: it.stat().st_mtime_ns for it in Path(self.folder).rglob("*") if it.is_file()}
         self.assertEqual(after, before)

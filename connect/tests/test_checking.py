@@ -27,6 +27,7 @@ from pgsub_connect.server.publication_setup import Wanted
 from pgsub_connect.server.slot import Slot, read_slot
 from pgsub_connect.server.transport import Protection
 from pgsub_feed.errors import UsageError
+from pgsub_feed.interruption import never
 
 from .fake_server import FakeServer, connection_to
 from .settled import options_of
@@ -424,7 +425,7 @@ class Printing(unittest.TestCase):
         with mock.patch.object(check, "all_facts", lambda *_: found), contextlib.redirect_stdout(
             out
         ):
-            status = check.print_results(check.Options(publication=["pgsub"], **options))
+            status = check.run(check.Options(publication=["pgsub"], **options), never)
         return status, out.getvalue()
 
     def test_lines(self) -> None:

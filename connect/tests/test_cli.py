@@ -22,7 +22,8 @@ from pgsub_connect.store.placing import check_meant
 from pgsub_feed.command import arguments as feed_arguments
 from pgsub_feed.errors import FileError, UsageError
 from pgsub_feed.files import replace_file
-from pgsub_feed.program import Worker
+from pgsub_feed.interruption import never
+from pgsub_feed.program import Worker, check_signals
 
 from .fake_server import Quiet
 from .settled import options_of, settled
@@ -55,7 +56,8 @@ class Signalled(Quiet):
             return follower
 
         with mock.patch.object(follow, "Follower", made):
-            self.assertEqual(follow.run(options_of(["follow", "--store", store])), 0)
+            options = settled(["follow", "--store", store])
+            self.assertEqual(follow.run(options, check_signals()), 0)
         follower.run.assert_called_once_with()
 
 
@@ -68,7 +70,7 @@ class Lost(Quiet):
             with mock.patch.object(follow, "made", lambda *_: parts), self.assertRaises(
                 ServerError
             ):
-                follow.run(options_of(["follow", "--store", store]))
+                follow.run(settled(["follow", "--store", store]), never)
             self.assertEqual(
                 parts.common.progress.slot.note.call_args_list,
                 [mock.call("lost", None)] * shown,
@@ -214,7 +216,7 @@ class Apart(Quiet):
             with self.assertRaisesRegex(FileError, f"--store {link}.*: {text}"), mock.patch(
                 "pgsub_connect.commands.follow.stop_by_signals"
             ):
-                follow.follow(follow.Options(store=link, create="permanent"))
+                follow.run(follow.Options(store=link, create="permanent"), never)
             self.assertEqual(sorted(os.listdir(self.folder)), before)
             os.unlink(link)
         os.symlink("far.db", link)

@@ -70,7 +70,7 @@ class Altered(AsideCase):
     def test_the_last_line_names_the_cure(self) -> None:
         (self.folder / "copy.connector").touch()
         with logged() as told:
-            self.assertEqual(tables.follow_feed(self.options(), never), 1)
+            self.assertEqual(tables.run(self.options(), never), 1)
         self.assertRegex(
             told[-1],
             f"^error: {self.into} lacks public.stock, .*: pgsub-connect add --store {self.folder}/copy --table public.stock$",
@@ -111,7 +111,7 @@ class Altered(AsideCase):
         """What is set aside is told once the file has it."""
         self.feed.put(self.feed.text(0x300, [insert("9", "z", of=OTHER)])[:-20] + bytes(20))
         with logged() as told, self.assertRaises(FileError):
-            tables.follow_feed(self.options(), never)
+            tables.run(self.options(), never)
         self.assertEqual(self.tables(), ["bag", "other", "stock"])
         self.assertEqual([it for it in told if "set aside" in it], [])
 
@@ -142,7 +142,7 @@ class Altered(AsideCase):
         self.run_it(1)
         base, self.into = self.into, str(self.folder / "rows2.db")
         with logged():
-            self.assertEqual(tables.follow_feed(self.options(base=base), never), 1)
+            self.assertEqual(tables.run(self.options(base=base), never), 1)
         self.assertEqual(self.asides()[0][:2], ("public.stock", "0/200"))
 
 
@@ -192,7 +192,7 @@ class Others(AsideCase):
         self.plant("DROP TABLE stock")
         self.take(delete("1", "a"))
         with logged(), self.assertRaisesRegex(FileError, "no such table"):
-            tables.follow_feed(self.options(), never)
+            tables.run(self.options(), never)
 
     def test_a_view_of_what_is_gone(self) -> None:
         """It fails where it is read, and nothing else does."""

@@ -49,7 +49,7 @@ class DigestsCase(TablesCase):
     def keep(self, **more: Any) -> dict[int, Digest]:
         """Takes what is there. Returns the digests."""
         with logged():
-            tables.follow_feed(self.options(**more), never)
+            tables.run(self.options(**more), never)
         return self.digests()
 
     def has(self, *rows: list[str | None], oid: int = 1) -> None:

@@ -140,7 +140,7 @@ class FollowingCase(FeedCase):
         def call() -> int:
             start = Worker()
             stop_by_signals(start)
-            return tables_module.follow_feed(self.options, start.check_stop)
+            return tables_module.run(self.options, start.check_stop)
 
         self.child = self.fork(call)
 
@@ -154,7 +154,7 @@ class FollowingCase(FeedCase):
         while not os.path.exists(self.into):
             time.sleep(0.01)
         with logged():
-            wait.wait(wait.Options(tables=self.into, lsn=lsn, within=50), never)
+            wait.run(wait.Options(tables=self.into, lsn=lsn, within=50), never)
 
     def write(self, end: int, lines: list[Line], rng: random.Random) -> None:
         """Writes a commit in pieces; sometimes it is cut off, and written again."""
@@ -211,16 +211,16 @@ class Following(FollowingCase):
                 at=at,
             )
             with logged():
-                self.assertEqual(tables_module.follow_feed(self.options, never), 0)
+                self.assertEqual(tables_module.run(self.options, never), 0)
             self.assertEqual(read(self.options.into), (at & ~0xFF, history.rows[at & ~0xFF]))
         self.options = dataclasses.replace(self.options, at=self.feed.at + 1)
         with logged(), self.assertRaisesRegex(
             Passing, "the feed has reached 0/2800, and 0/2801 not yet"
         ):
-            tables_module.follow_feed(self.options, never)
+            tables_module.run(self.options, never)
         self.feed.confirm(self.feed.at + 1)
         with logged():
-            self.assertEqual(tables_module.follow_feed(self.options, never), 0)
+            self.assertEqual(tables_module.run(self.options, never), 0)
 
     def test_what_is_confirmed_behind_the_last_look(self) -> None:
         """Then that isn't the last one: what the feed has up to the LSN may have come since."""
@@ -242,10 +242,10 @@ class Following(FollowingCase):
         with logged(), mock.patch.object(
             following.Following, "settle", settle_before
         ), self.assertRaisesRegex(Passing, "has reached 0/100, and 0/200 not"):
-            tables_module.follow_feed(self.options, never)
+            tables_module.run(self.options, never)
         self.feed.confirm(0x100)
         with logged(), mock.patch.object(Poll, "next", look_before):
-            self.assertEqual(tables_module.follow_feed(self.options, never), 0)
+            self.assertEqual(tables_module.run(self.options, never), 0)
         self.assertEqual(read(self.into), (0x200, (Counter([(1, "a"), (2, "b")]), Counter())))
 
     def test_many_commits_in_one_transaction(self) -> None:
@@ -260,7 +260,7 @@ class Following(FollowingCase):
             settled.append(at)
 
         with logged(), mock.patch.object(Rows, "settle", note):
-            tables_module.follow_feed(self.options, never)
+            tables_module.run(self.options, never)
         self.assertLess(len(settled), 10)
         self.assertEqual(read(self.into)[0], 0xFF00)
 
@@ -273,7 +273,7 @@ class Following(FollowingCase):
             with logged(), self.assertRaisesRegex(Damaged, "reading 6 Counts"), mock.patch(
                 "pgsub_feed.reader.polling.PATIENCE", 0.1
             ):
-                tables_module.follow_feed(self.options, never)
+                tables_module.run(self.options, never)
             self.assertEqual(read(self.into), (0, (Counter(), Counter())))
 
     def test_lines_that_are_mended(self) -> None:
@@ -299,7 +299,7 @@ class Following(FollowingCase):
 
         def run_it() -> object:
             with logged():
-                tables_module.follow_feed(self.options, never)
+                tables_module.run(self.options, never)
             return read(self.into)
 
         for end in (0x200, 0x300):
@@ -328,7 +328,7 @@ class Transactions(FollowingCase):
         self.feed.commit(0x200, [insert("2", "b", of=KEYED)])
         self.options = dataclasses.replace(self.options, once=True)
         with logged(), mock.patch.object(Rows, "set_up", traced):
-            tables_module.follow_feed(self.options, never)
+            tables_module.run(self.options, never)
         words = [
             it.split()[0]
             for it in told
@@ -342,11 +342,11 @@ class Transactions(FollowingCase):
         self.feed.commit(0x100, [insert("1", "a", of=KEYED)])
         self.options = dataclasses.replace(self.options, once=True)
         with logged():
-            tables_module.follow_feed(self.options, never)
+            tables_module.run(self.options, never)
         rows = Rows(self.into)
         self.feed.commit(0x200, [insert("2", "b", of=KEYED)])
         with logged():
-            tables_module.follow_feed(self.options, never)
+            tables_module.run(self.options, never)
         with contextlib.closing(rows.db), self.assertRaisesRegex(
             Exception, "another process has written it meanwhile"
         ):
@@ -357,7 +357,7 @@ class Transactions(FollowingCase):
         self.feed.commit(0x100, [insert("1", "a", of=KEYED)])
         self.options = dataclasses.replace(self.options, once=True)
         with logged():
-            tables_module.follow_feed(self.options, never)
+            tables_module.run(self.options, never)
         rows = Rows(self.into)
         shutil.copy(self.into, self.into + ".copy")
         os.replace(self.into + ".copy", self.into)
@@ -392,7 +392,7 @@ class Back(FollowingCase):
         """A copy of the file, as of an LSN."""
         into = f"{self.folder}/back-{at}.db"
         with logged():
-            tables_module.follow_feed(
+            tables_module.run(
                 Options(
                     feed=str(self.path),
                     into=into,
@@ -408,7 +408,7 @@ class Back(FollowingCase):
     def run_it(self) -> None:
         self.options = dataclasses.replace(self.options, once=True)
         with logged():
-            tables_module.follow_feed(self.options, never)
+            tables_module.run(self.options, never)
 
     def test_to_each_lsn(self) -> None:
         history = History(random.Random(30), 60)
@@ -453,7 +453,7 @@ class Back(FollowingCase):
             at=0x200,
         )
         with logged():
-            self.assertEqual(tables_module.follow_feed(new, never), 0)
+            self.assertEqual(tables_module.run(new, never), 0)
         self.assertEqual(read(new.into)[1][0], Counter([(1, "a"), (2, "b")]))
 
     def test_there_and_back(self) -> None:

@@ -180,7 +180,7 @@ class Random(TablesCase):
 
     def run_it(self, status: int = 0, **more: Any) -> list[str]:
         with logged() as told:
-            self.assertEqual(tables_module.follow_feed(self.options(**more), never), status)
+            self.assertEqual(tables_module.run(self.options(**more), never), status)
         return told
 
     def test_both_ways(self) -> None:

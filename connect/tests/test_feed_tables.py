@@ -60,7 +60,7 @@ class TablesCase(FeedCase):
     def run_it(self, status: int = 0, **more: Any) -> list[str]:
         """Takes what is there, and returns what is told beside the last line."""
         with logged() as told:
-            self.assertEqual(tables_module.follow_feed(self.options(**more), never), status)
+            self.assertEqual(tables_module.run(self.options(**more), never), status)
         self.assertEqual(
             sorted(it for it in os.listdir(self.folder) if it.startswith("rows")), ["rows.db"]
         )
@@ -571,7 +571,7 @@ class Names(TablesCase):
         self.take(insert("1", "a"), insert("3", "other", of=other), insert("4", "c"))
         self.after(insert("5", "d"))
         with logged():
-            tables_module.follow_feed(self.options(at=0x100), never)
+            tables_module.run(self.options(at=0x100), never)
         self.assertEqual(self.rows("SELECT * FROM stock ORDER BY 1"), [(1, "a"), (4, "c")])
 
     def plant_trigger(self) -> None:
@@ -985,7 +985,7 @@ class Initial(TablesCase):
         self.run_it()
         self.write("PRAGMA max_page_count = 1; CREATE TABLE large AS SELECT zeroblob(1000000)")
         with logged(), self.assertRaisesRegex(Passing, "disk is full"):
-            tables_module.follow_feed(self.options(init=self.init), never)
+            tables_module.run(self.options(init=self.init), never)
         self.assertEqual((self.rows("SELECT * FROM stock"), self.tables()), ([(1, "a")], ["stock"]))
 
 

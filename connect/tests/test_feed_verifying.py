@@ -266,7 +266,7 @@ class Server(VerifyCase):
     def test_tables_that_were_not_chosen(self) -> None:
         self.into += ".chosen"
         with logged():
-            tables.follow_feed(self.options(table=["stock"]), never)
+            tables.run(self.options(table=["stock"]), never)
         self.equal()
         self.assertIn(f"{self.into} was made without 1 table: public.whole", self.said)
         self.fails(Unfit, "was made without public.whole", chosen=["whole"])
@@ -509,7 +509,7 @@ class Files(VerifyCase):
         self.take(delete("77", "none"))
         with logged():
             for path in (self.into, self.other):
-                tables.follow_feed(Options(feed=str(self.path), into=path, once=True), never)
+                tables.run(Options(feed=str(self.path), into=path, once=True), never)
                 self.assertEqual(self.verified(1, other=self.other), [])
                 self.assertIn("public.stock is set aside in", self.said[0])
 

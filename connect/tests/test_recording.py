@@ -17,6 +17,7 @@ from pgsub_connect.server.connection import Connection
 from pgsub_connect.server.session import Subscription
 from pgsub_connect.stream.messages import COPY_DONE, flushed
 from pgsub_feed.errors import FileError, UsageError
+from pgsub_feed.interruption import never
 
 from .fake_server import FakeServer, Quiet
 from .settled import options_of
@@ -218,7 +219,7 @@ class Versions(Case):
                 with self.assertRaisesRegex(
                     UsageError, f"--{name} needs PostgreSQL 14, and this is 13.9"
                 ):
-                    record.record(options)
+                    record.run(options, never)
             made.assert_not_called()
         self.assertEqual(self.brain.told("START_REPLICATION"), [])
 

@@ -162,7 +162,7 @@ class Case(Quiet):
         with contextlib.redirect_stdout(io.StringIO()) as out, mock.patch.object(
             refresh_module, "ask_terminal", lambda *_: answer
         ):
-            self.assertEqual(refresh_module.refresh(self.refreshed(yes), check), status)
+            self.assertEqual(refresh_module.run(self.refreshed(yes), check), status)
         return [json.loads(it) for it in out.getvalue().splitlines()]
 
     def wanted(self) -> dict[int, str]:
@@ -206,7 +206,7 @@ class Case(Quiet):
 class Adds(Case):
     def test_by_the_follower(self) -> None:
         with self.followed() as asked:
-            self.assertEqual(add.add_tables(self.options("one", "public.two", "one"), never), 0)
+            self.assertEqual(add.run(self.options("one", "public.two", "one"), never), 0)
         self.assertEqual((asked, self.wanted()), ([[1, 2]], {}))
         self.assertEqual(
             sorted(os.listdir(os.path.dirname(self.store))),
@@ -214,24 +214,24 @@ class Adds(Case):
         )
 
     def test_by_the_next_start(self) -> None:
-        self.assertEqual(add.add_tables(self.options("two"), never), 0)
+        self.assertEqual(add.run(self.options("two"), never), 0)
         self.assertEqual(self.wanted(), {2: ""})
         self.assertIn("the next start adds public.two", self.said[-1])
 
     def test_refused(self) -> None:
         with self.followed(why="public.one can't be read"):
-            self.assertEqual(add.add_tables(self.options("one"), never), 1)
+            self.assertEqual(add.run(self.options("one"), never), 1)
         self.assertIn("error: public.one can't be read", self.said)
         with self.followed("it is too large"), self.assertRaisesRegex(
             ServerError, "adds none: it is too large"
         ) as raised:
-            add.add_tables(self.options("one"), never)
+            add.run(self.options("one"), never)
         self.assertTrue(raised.exception.is_lasting())
         self.assertFalse(os.path.exists(self.store + ".sock"))
 
     def test_a_table_that_is_not_published(self) -> None:
         with self.assertRaisesRegex(Unfit, "no published table four"):
-            add.add_tables(self.options("four"), never)
+            add.run(self.options("four"), never)
 
     def test_an_end_while_it_waits(self) -> None:
         """The follower goes on with it, or the next start does."""
@@ -245,7 +245,7 @@ class Adds(Case):
             is_taken = bool(self.wanted())
 
         with self.followed(why=None):
-            self.assertEqual(add.add_tables(self.options("one"), check), 0)
+            self.assertEqual(add.run(self.options("one"), check), 0)
         self.assertIn("goes on with it", self.said[-1])
         self.assertEqual(self.wanted(), {1: ""})
         with self.assertRaisesRegex(Passing, "the next start adds public.one"):
@@ -376,7 +376,7 @@ class Refreshes(Case):
         with contextlib.redirect_stdout(io.StringIO()), mock.patch(
             "sys.stdin.isatty", lambda: False
         ), self.assertRaisesRegex(Unfit, "refresh asks on"):
-            refresh_module.refresh(self.refreshed(False), never)
+            refresh_module.run(self.refreshed(False), never)
 
 
 if __name__ == "__main__":

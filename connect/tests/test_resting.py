@@ -225,7 +225,7 @@ class Asked(Case):
     def test_snapshot(self) -> None:
         with self.followed(), logged():
             for _ in range(2):
-                snapshot.copy_store(self.options(), never)
+                snapshot.run(self.options(), never)
         self.assertEqual(self.left(), {"rows.db"})
         self.assertTrue(snapshot.is_snapshot(self.into))
 
@@ -352,7 +352,7 @@ class Taken(Case):
     def test_without_a_follower(self) -> None:
         options = self.options(0o640)
         with logged() as told:
-            snapshot.copy_store(options, never)
+            snapshot.run(options, never)
         self.assertEqual(told, [f"{self.into}: the rows at 0/130"])
         self.assertEqual(stat.S_IMODE(os.stat(self.into).st_mode), 0o640)
         self.assertTrue(os.path.exists(self.path))
@@ -362,22 +362,22 @@ class Taken(Case):
         self.store.base.execute("PRAGMA journal_mode = WAL")
         self.store.close()
         with logged():
-            snapshot.copy_store(self.options(), never)
+            snapshot.run(self.options(), never)
         with open(self.into, "rb") as file:
             self.assertEqual(file.read(20)[18:], b"\1\1")
 
     def test_what_isnt_an_earlier_copy(self) -> None:
         with logged():
-            snapshot.copy_store(self.options(), never)
+            snapshot.run(self.options(), never)
         for ending in ("-wal", ".connector"):
             open(self.into + ending, "w").close()
             with self.assertRaisesRegex(FileError, "is there and isn't an earlier copy"):
-                snapshot.copy_store(self.options(), never)
+                snapshot.run(self.options(), never)
             os.unlink(self.into + ending)
         with open(self.into, "w") as file:
             file.write("mine")
         with self.assertRaisesRegex(FileError, "is there and isn't an earlier copy"):
-            snapshot.copy_store(self.options(), never)
+            snapshot.run(self.options(), never)
 
     def test_what_a_follower_has_to_leave(self) -> None:
         """What isn't an earlier copy is refused as by `snapshot`, before anything is made."""
@@ -419,7 +419,7 @@ class Taken(Case):
         with self.followed(), logged(), self.asker(), mock.patch(
             "os.rename", side_effect=OSError(18, "Invalid cross-device link")
         ):
-            snapshot.copy_store(self.options(), never)
+            snapshot.run(self.options(), never)
         self.assertEqual(self.left(), {"rows.db"})
 
     def left_after(self, path: str, names: list[str], age: float = 1e9) -> set[str]:

@@ -91,7 +91,7 @@ class OneOfTwo(test_sink_kafka.KafkaCase):
 
         with mock.patch.object(Outages, "wait", wait), logged() as told:
             options = Options(feed=str(self.path), url=self.url, until=self.at - 0x100)
-            sink.write_feed(options, never)
+            sink.run(options, never)
         self.assertEqual(waits, [1, 2, 4])
         self.assertRegex(told[0], "^warning: .* another sink of this feed writes there, process")
         self.assertEqual([it[2] for it in self.told()], [(0x100, 0, 0), (0x200, 0, 0)])
@@ -101,7 +101,7 @@ class OneOfTwo(test_sink_kafka.KafkaCase):
         engine = self.engine()
         self.run_it()
         source = {it: self.position()[it] for it in ("system", "database", "slot")}
-        self.assertTrue(engine.open(mock.Mock(chosen=(), source=lambda: source)))
+        self.assertTrue(engine.open(mock.Mock(chosen=(), about=lambda: {**source, "tables": []})))
         self.assertEqual(engine.at, 0x100)
 
     def test_a_feed_where_it_may_not_write(self) -> None:

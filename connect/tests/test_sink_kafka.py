@@ -242,8 +242,8 @@ class GoesOn(KafkaCase):
                 mock.Mock(
                     head=mock.Mock(),
                     chosen=(),
-                    source=lambda: {
-                        it: self.position()[it] for it in ("system", "database", "slot")
+                    about=lambda: {
+                        it: self.position()[it] for it in ("system", "database", "slot", "tables")
                     },
                 )
             )

@@ -198,7 +198,7 @@ class Changes(RedisCase):
                 raise Stopped
 
         with logged():
-            sink_module.write_feed(Options(feed=str(self.path), url="redis://h"), check)
+            sink_module.run(Options(feed=str(self.path), url="redis://h"), check)
         self.assertEqual(
             (self.server.rows(), self.server.at()), (stock(("1", "a"), ("4", "d")), "0/200")
         )
@@ -414,7 +414,7 @@ class Others(RedisCase):
             with mock.patch("pgsub_feed.sinks.redis_engine.OFTEN", 0.0), self.assertRaisesRegex(
                 Unfit, "another sink has begun .* other"
             ):
-                sink_module.write_feed(options, check)
+                sink_module.run(options, check)
 
     def test_rows_are_something_else_by_now(self) -> None:
         self.server.do([b"SET", b"stock:2", b"text"])
@@ -469,9 +469,7 @@ class Others(RedisCase):
                     raise Stopped
 
             with contextlib.suppress(Passing, Stopped), logged():
-                sink_module.write_feed(
-                    Options(feed=str(self.path), url="redis://h", once=True), check
-                )
+                sink_module.run(Options(feed=str(self.path), url="redis://h", once=True), check)
             found.append(states.index((self.server.rows(), self.server.at())))
         # (of commits that wait together all are left, or none)
         self.assertEqual(set(found), {0, 1, 2})
@@ -904,7 +902,7 @@ class PlainText(unittest.TestCase):
 
     def told(self, url: str, is_own: bool = False) -> str:
         with logged() as told, mock.patch("redis.ConnectionPool") as pool, mock.patch(
-            "pgsub_feed.sinks.redis_calls.addresses", return_value=[]
+            "pgsub_feed.sinks.redis_calls.looked_up", return_value=[]
         ), mock.patch("pgsub_feed.sinks.redis_calls.is_loopback", lambda _: is_own):
             pool.from_url.return_value.make_connection.return_value = mock.Mock(host="h", port=6379)
             Connection(url)
@@ -939,7 +937,7 @@ class Certificates(unittest.TestCase):
                 raise redis.exceptions.ConnectionError("Error 1 connecting to h:6379") from None
 
         with mock.patch("redis.ConnectionPool") as pool, mock.patch(
-            "pgsub_feed.sinks.redis_calls.addresses", return_value=[]
+            "pgsub_feed.sinks.redis_calls.looked_up", return_value=[]
         ), self.assertRaises(Failure) as found:
             made = mock.Mock(host="h", port=6379, connect=connect)
             pool.from_url.return_value.make_connection.return_value = made

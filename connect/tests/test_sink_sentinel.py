@@ -150,7 +150,7 @@ class Promoted(Case):
     def follow(self, **more: Any) -> list[str]:
         with logged() as told:
             options = Options(feed=str(self.path), url=self.url, until=self.at - 0x100, **more)
-            sink.write_feed(options, never)
+            sink.run(options, never)
         return told
 
     def test_what_it_lacks_is_written_again(self) -> None:

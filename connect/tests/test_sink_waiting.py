@@ -76,7 +76,7 @@ class Case(RedisCase):
         """Follows up to the commit before the last, and returns what is told."""
         with logged() as told:
             words: dict[str, Any] = {"url": self.url, "until": self.at - 0x100, **more}
-            sink.write_feed(Options(feed=str(self.path), **words), check)
+            sink.run(Options(feed=str(self.path), **words), check)
         return told
 
 
@@ -84,9 +84,9 @@ class Waited(Case):
     def test_a_feed_that_isnt_there_is_told_wherever_the_engine_is(self) -> None:
         """Its follower may be started later: another start may do, unless it can't be a feed."""
         with self.assertRaisesRegex(Passing, "there is no feed .*/nofeed: start .* --feed"):
-            sink.write_feed(Options(url=self.url, feed=f"{self.path}/nofeed"), never)
+            sink.run(Options(url=self.url, feed=f"{self.path}/nofeed"), never)
         with self.assertRaisesRegex(FileError, "Not a directory"):
-            sink.write_feed(Options(url=self.url, feed=str(self.feed.path)), never)
+            sink.run(Options(url=self.url, feed=str(self.feed.path)), never)
         self.assertEqual(self.tries, 0)
         self.feed.path.write_text("no feed" * 500)
         with mock.patch("pgsub_feed.reader.polling.PATIENCE", 0.0):
@@ -216,7 +216,7 @@ class OfNats(NatsCase):
 
         with mock.patch("pgsub_feed.sinks.following.Outages.wait", wait), logged():
             options = Options(feed=str(self.path), url=self.url, until=self.at - 0x100)
-            sink.write_feed(options, never)
+            sink.run(options, never)
         self.assertEqual(self.server.ids(), whole)
 
 

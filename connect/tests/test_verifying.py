@@ -292,7 +292,7 @@ class Reads(Case):
 
     def ends(self, error: BaseException, expected: type[Exception]) -> None:
         with mock.patch.object(verify, "verify", side_effect=error), self.assertRaises(expected):
-            verify.compare_all(self.options, never)
+            verify.run(self.options, never)
 
     def test_how_it_ends(self) -> None:
         self.ends(Stopped(), Passing)
@@ -351,24 +351,24 @@ class Reads(Case):
                 compare=self.finds((different, {})),
                 repair=lambda *_, it=left: it,
             ), mock.patch.object(add_module, "add", return_value=7) as add:
-                self.assertEqual(verify.compare_all(self.options, never), status)
+                self.assertEqual(verify.run(self.options, never), status)
             self.assertEqual(add.call_args and add.call_args.args[2], asked)
 
     def test_what_others_had_truncated_is_compared_once_more(self) -> None:
         """The others are compared all the same. What is left in the end isn't equal."""
         left = {2: "public.whole was truncated meanwhile"}
         with mock.patch.object(verify, "compare", self.finds(([], left), ([], {}))), logged():
-            self.assertEqual(verify.compare_all(self.options, never), 0)
+            self.assertEqual(verify.run(self.options, never), 0)
         self.assertEqual(self.compared, [[1, 2], [2]])
         with mock.patch.object(verify, "compare", self.finds(([], left), ([], left))), logged():
             with self.assertRaisesRegex(
                 Passing, "^not compared: public.whole was truncated meanwhile: compare later"
             ):
-                verify.compare_all(self.options, never)
+                verify.run(self.options, never)
         with mock.patch.object(
             verify, "compare", self.finds(([KEYED], left), ([], left))
         ), logged() as told:
-            self.assertEqual(verify.compare_all(self.options, never), 1)
+            self.assertEqual(verify.run(self.options, never), 1)
         self.assertEqual(told[-1], "warning: not compared: public.whole was truncated meanwhile")
 
     def test_what_the_follower_does_not_pass_on(self) -> None:
@@ -377,7 +377,7 @@ class Reads(Case):
         with mock.patch.multiple(
             verify, compare=self.finds(([WHOLE], {})), repair=repair
         ), logged() as told:
-            self.assertEqual(verify.compare_all(self.options, never), 1)
+            self.assertEqual(verify.run(self.options, never), 1)
         self.assertEqual(told, ["error: too much"])
 
     def test_which_tables_differ(self) -> None:
@@ -411,4 +411,4 @@ class Reads(Case):
 
     def test_nobody_follows(self) -> None:
         with self.assertRaisesRegex(Passing, "a follower has to run"):
-            verify.compare_all(self.options, never)
+            verify.run(self.options, never)

@@ -339,7 +339,7 @@ class Ends(Quiet):
         self.assertEqual(os.listdir(folder), [])
 
     def test_a_bug_is_told_with_its_place(self) -> None:
-        def fail(_: names.Options) -> int:
+        def fail(*_: object) -> int:
             raise ZeroDivisionError("\x1b[2J")
 
         with mock.patch.object(names, "run", fail):

@@ -17,7 +17,6 @@ from pgsub_feed import log
 from pgsub_feed.errors import Passing, Stopped
 from pgsub_feed.interruption import Check
 from pgsub_feed.options import option
-from pgsub_feed.program import check_signals
 from pgsub_feed.texts import counted
 
 from ..copy.source import chosen
@@ -58,16 +57,10 @@ class Options(StoreOptions):
 
 
 def settled(options: Options) -> Options:
-    """The options with what they leave out."""
     return settled_store(options, told=each("--table", options.table))
 
 
-def run(options: Options) -> int:
-    """Adds tables; the exit status."""
-    return add_tables(settled(options), check_signals())
-
-
-def add_tables(options: Options, check: Check) -> int:
+def run(options: Options, check: Check) -> int:
     check_there(options.store)
     slot = read_known(options.store + ".connector").slot or options.slot
     published = read_published(dataclasses.replace(options.subscription(), slot=slot), check)

@@ -5,10 +5,9 @@ import dataclasses
 import json
 import sys
 
-from pgsub_feed.interruption import Check, never
+from pgsub_feed.interruption import Check
 from pgsub_feed.log import escaped
 from pgsub_feed.options import add_fields, option
-from pgsub_feed.program import check_signals
 
 from ..preconditions.judged import results
 from ..preconditions.server import ERROR, Purpose
@@ -54,16 +53,10 @@ def check_options(parser: argparse.ArgumentParser, options: Options) -> Options:
 
 
 def settled(options: Options) -> Options:
-    """The options with what they leave out."""
     return settled_store(options, options.keyless, each("--table", options.table))
 
 
-def run(options: Options) -> int:
-    """Prints all preconditions; the exit status."""
-    return print_results(settled(options), check_signals())
-
-
-def print_results(options: Options, check: Check = never) -> int:
+def run(options: Options, check: Check) -> int:
     # (that of TLS is among them)
     OWN.keep_quiet()
     facts = all_facts(options.dsn, options.slot, options.wanted(options.publication), check)

@@ -20,7 +20,6 @@ from pgsub_feed.files import OF_FILE, meant, own_files, remove
 from pgsub_feed.interruption import Check, never
 from pgsub_feed.json_texts import Unreadable, object_of, whole_of
 from pgsub_feed.options import option
-from pgsub_feed.program import check_signals
 from pgsub_feed.tables.schema import read_position
 from pgsub_feed.tables.sqlite_files import is_tables
 from pgsub_feed.texts import literal
@@ -240,13 +239,9 @@ class Dropper:
         return found
 
 
-def run(options: Options) -> int:
-    """Drops it all; the exit status."""
-    options = settled_store(options)
-    check = check_signals()
+settled = settled_store
 
-    def ask(question: str) -> bool:
-        return options.yes or ask_terminal(question, check)
 
-    Dropper(options, ask, check).run()
+def run(options: Options, check: Check) -> int:
+    Dropper(options, lambda it: options.yes or ask_terminal(it, check), check).run()
     return 0

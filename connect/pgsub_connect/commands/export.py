@@ -3,8 +3,9 @@
 import dataclasses
 from collections.abc import Sequence
 
+from pgsub_feed.interruption import Check
 from pgsub_feed.options import option, repeated
-from pgsub_feed.program import check_signals, collected_rarely
+from pgsub_feed.program import collected_rarely
 from pgsub_feed.tables.values import ALL_TEXT
 
 from ..store.export import ExportSettings, export_store
@@ -32,13 +33,9 @@ def settled(options: Options) -> Options:
     return settled_store_copy(options)
 
 
-def run(options: Options) -> int:
-    """Exports a store; the exit status."""
-    options = settled(options)
-    form = ALL_TEXT if options.text else options.numeric
-    settings = ExportSettings(
-        options.store, options.into, form, tuple(options.table), options.mode, options.indexes
-    )
-    with collected_rarely():
-        export_store(settings, check_signals())
+@collected_rarely()
+def run(options: Options, check: Check) -> int:
+    form, chosen = ALL_TEXT if options.text else options.numeric, tuple(options.table)
+    how = form, chosen, options.mode, options.indexes
+    export_store(ExportSettings(options.store, options.into, *how), check)
     return 0

@@ -11,9 +11,9 @@ import signal
 
 from pgsub_feed.errors import Stopped, Unfit
 from pgsub_feed.files import meant
-from pgsub_feed.interruption import Check
+from pgsub_feed.interruption import Check, is_ended
 from pgsub_feed.options import add_fields, option
-from pgsub_feed.program import Worker, stop_by_signals
+from pgsub_feed.program import stop_by_signals
 
 from ..copy.copier import Copier, CopySettings
 from ..copy.slots import create_slot
@@ -121,7 +121,6 @@ def check_options(parser: argparse.ArgumentParser, options: Options) -> Options:
 
 
 def settled(options: Options) -> Options:
-    """The options with what they leave out."""
     options = settled_feed(options, options.store)
     written = {
         "--snapshot": options.snapshot,
@@ -140,29 +139,22 @@ def settled(options: Options) -> Options:
     return settled_sizes(settled_server(options, options.store, options.keyless, told))
 
 
-def run(options: Options) -> int:
-    """Follows to the end that was asked for; the exit status."""
-    return follow(settled(options))
-
-
-def follow(options: Options) -> int:
-    start = Worker()
-    stop_by_signals(start)
+def run(options: Options, check: Check) -> int:
     check_start(options)
     before = own_files(options.store)
-    checkpoint = checkpoint_of(options, start.check_stop)
+    checkpoint = checkpoint_of(options, check)
     others = options.feed, options.tables, options.record
     with leaving_nothing(checkpoint, before, others):
-        return follow_locked(options, checkpoint, start)
+        return follow_locked(options, checkpoint, check)
 
 
-def follow_locked(options: Options, checkpoint: Checkpoint, start: Worker) -> int:
+def follow_locked(options: Options, checkpoint: Checkpoint, check: Check) -> int:
     """Follows, where no other connector does."""
     parts = made(options, checkpoint)
     signal.signal(signal.SIGUSR1, lambda *_: parts.snapshots.ask())
     workers = parts.copier, parts.follower.ending
     stop_by_signals(*workers)
-    if start.stop_asked:
+    if is_ended(check):
         for worker in workers:
             worker.ask_to_stop()
     for it in parts.threads:

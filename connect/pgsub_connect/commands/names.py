@@ -2,6 +2,8 @@
 
 import dataclasses
 
+from pgsub_feed.interruption import Check
+
 from ..drift.remembered import print_names
 from .arguments.words import store_option
 
@@ -18,7 +20,6 @@ class Options:
     store: str = store_option("the store, which may be in use")
 
 
-def run(options: Options) -> int:
-    """Prints the names; the exit status."""
+def run(options: Options, _: Check) -> int:
     print_names(options.store)
     return 0

@@ -3,6 +3,7 @@
 import argparse
 import dataclasses
 
+from pgsub_feed.interruption import Check
 from pgsub_feed.options import add_fields, lsn, option
 from pgsub_feed.program import stop_by_signals
 
@@ -93,19 +94,12 @@ def check_options(parser: argparse.ArgumentParser, options: Options) -> Options:
 
 
 def settled(options: Options) -> Options:
-    """The options with what they leave out."""
     check_files("", {"--record": options.record}, {"--dsn-file": options.dsn_file})
     told = each("--table", options.table)
     return settled_server(options, keyless=options.keyless, told=told)
 
 
-def run(options: Options) -> int:
-    """Records to the end that was asked for; the exit status."""
-    record(settled(options))
-    return 0
-
-
-def record(options: Options) -> None:
+def run(options: Options, _: Check) -> int:
     subscription, wanted = options.subscription(), options.wanted(options.publication)
     recorder = Recorder(
         subscription,
@@ -124,3 +118,4 @@ def record(options: Options) -> None:
     finally:
         maker.take_back()
         recorder.close()
+    return 0

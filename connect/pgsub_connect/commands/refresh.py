@@ -21,7 +21,6 @@ from pgsub_feed import log
 from pgsub_feed.errors import FileError
 from pgsub_feed.interruption import Check
 from pgsub_feed.options import option
-from pgsub_feed.program import check_signals
 from pgsub_feed.texts import counted
 
 from ..drift.doubts import resolved
@@ -106,12 +105,11 @@ def texts_of(remembered: Remembered, kind: str) -> list[str]:
     return [*found.texts, *([f"{kind}: and {found.more} more, see the log"] if found.more else [])]
 
 
-def run(options: Options) -> int:
+settled = settled_store
+
+
+def run(options: Options, check: Check) -> int:
     """Compares, asks and has it done; the exit status."""
-    return refresh(settled_store(options), check_signals())
-
-
-def refresh(options: Options, check: Check) -> int:
     check_there(options.store)
     slot = read_known(options.store + ".connector").slot or options.slot
     subscription = dataclasses.replace(options.subscription(), slot=slot)

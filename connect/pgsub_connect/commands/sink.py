@@ -14,7 +14,6 @@ from pgsub_feed.interruption import Check
 from pgsub_feed.known_tables import KnownTables, known_beside
 from pgsub_feed.options import add_fields, lsn, option
 from pgsub_feed.ownership import readable_by, readable_text
-from pgsub_feed.program import check_signals
 from pgsub_feed.reader.segments import segments
 from pgsub_feed.sinks import (
     connecting,
@@ -192,13 +191,7 @@ def with_url(options: Options) -> Options:
     return options
 
 
-def run(options: Options) -> int:
-    """Follows a feed; the exit status."""
-    write_feed(settled(options), check_signals())
-    return 0
-
-
-def write_feed(options: Options, check: Check) -> None:
+def run(options: Options, check: Check) -> int:
     options, writer = with_url(options), Writer()
     parent = options.parent(check)
     check = parent.check if parent else check
@@ -207,6 +200,7 @@ def write_feed(options: Options, check: Check) -> None:
     known = known_beside(options.feed, options.store)
     with contextlib.closing(Alone(options.feed, options.mode)) as alone:
         keep(reading, lambda: engine_of(options, check, writer, alone, known), check, parent)
+    return 0
 
 
 def check_feed(folder: str) -> None:

@@ -9,7 +9,6 @@ from pgsub_feed import log
 from pgsub_feed.errors import FileError, Passing, Stopped
 from pgsub_feed.files import LOG, copy, placed, remove
 from pgsub_feed.interruption import Check
-from pgsub_feed.program import check_signals
 from pgsub_feed.texts import lsn_text
 
 from ..store.at_rest import at_rest, failed
@@ -40,13 +39,7 @@ def check_copied(store: str, path: str, option: str = "--into") -> None:
 settled = settled_store_copy
 
 
-def run(options: Options) -> int:
-    """Copies a store; the exit status."""
-    copy_store(settled(options), check_signals())
-    return 0
-
-
-def copy_store(options: Options, check: Check) -> None:
+def run(options: Options, check: Check) -> int:
     check_copied(options.store, options.into)
     try:
         with at_rest(options.store, options.into, check) as (path, is_own), placed(
@@ -60,6 +53,7 @@ def copy_store(options: Options, check: Check) -> None:
     if position is None:
         raise FileError(f"{options.store}: the store has no position")
     log.info(f"{options.into}: the rows at {lsn_text(position)}")
+    return 0
 
 
 def put(path: str, new: str, is_own: bool, check: Check) -> None:

@@ -19,7 +19,6 @@ from pgsub_feed import json_texts, log
 from pgsub_feed.errors import Stopped, UsageError
 from pgsub_feed.interruption import Check
 from pgsub_feed.options import BYTES, SECONDS, add_fields, duration, option
-from pgsub_feed.program import check_signals
 
 from ..status.files import STATUS
 from ..status.health import KINDS, Fault, Limit, cures_of, faults, line_of, screen_of
@@ -146,10 +145,9 @@ def look_at_all(options: Options, text: Text) -> tuple[int, str]:
     return max(code for _, code, _ in found), "\n".join(lines)
 
 
-def run(options: Options) -> int:
-    """Prints how they are; the exit status."""
+def run(options: Options, check: Check) -> int:
     if options.watch:
-        return watch(options, check_signals())
+        return watch(options, check)
     code, text = look_at_all(options, lines_of)
     sys.stdout.write(f"{text}\n")
     return code

@@ -11,7 +11,7 @@ from pgsub_feed.errors import UsageError
 from pgsub_feed.interruption import Check
 from pgsub_feed.known_tables import known_beside
 from pgsub_feed.options import add_fields, lsn, option
-from pgsub_feed.program import check_signals, collected_rarely
+from pgsub_feed.program import collected_rarely
 from pgsub_feed.tables.first_rows import check_file
 from pgsub_feed.tables.following import Wanted, keep
 from pgsub_feed.tables.set_aside import cure, store_at
@@ -92,13 +92,8 @@ def settled(options: Options) -> Options:
     return options
 
 
-def run(options: Options) -> int:
-    """Follows a feed; the exit status."""
-    with collected_rarely():
-        return follow_feed(settled(options), check_signals())
-
-
-def follow_feed(options: Options, check: Check) -> int:
+@collected_rarely()
+def run(options: Options, check: Check) -> int:
     parent = options.parent(check)
     check = parent.check if parent else check
     check_sqlite()

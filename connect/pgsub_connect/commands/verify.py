@@ -10,7 +10,6 @@ from pgsub_feed import log
 from pgsub_feed.errors import FileError, Passing, Stopped, Unfit
 from pgsub_feed.interruption import Check
 from pgsub_feed.options import option, repeated
-from pgsub_feed.program import check_signals
 from pgsub_feed.tables.values import Malformed
 
 from ..errors import Unrepaired
@@ -92,18 +91,12 @@ def check_options(parser: argparse.ArgumentParser, options: Options) -> Options:
 
 
 def settled(options: Options) -> Options:
-    """The options with what they leave out."""
     if options.tables and not options.store:
         options = dataclasses.replace(options, store=store_of(options.tables))
     return settled_store(options, told=each("--table", options.table))
 
 
-def run(options: Options) -> int:
-    """Compares; the exit status."""
-    return compare_all(settled(options), check_signals())
-
-
-def compare_all(options: Options, check: Check) -> int:
+def run(options: Options, check: Check) -> int:
     if options.tables:
         return compare_tables(options.tables_comparison(), check)
     try:

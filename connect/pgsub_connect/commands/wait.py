@@ -15,7 +15,6 @@ from pgsub_feed import options
 from pgsub_feed.errors import FileError, Passing, Stopped
 from pgsub_feed.interruption import Check
 from pgsub_feed.options import duration, option
-from pgsub_feed.program import check_signals
 from pgsub_feed.reader.segments import Reader, read_confirmed
 from pgsub_feed.tables.schema import read_position
 from pgsub_feed.tables.set_aside import store_at
@@ -95,13 +94,7 @@ def is_told(path: str, feed: str | None, lsn: int, until: float, check: Check) -
     return False
 
 
-def run(options: Options) -> int:
-    """Waits; the exit status."""
-    wait(options, check_signals())
-    return 0
-
-
-def wait(options: Options, check: Check) -> None:
+def run(options: Options, check: Check) -> int:
     path, lsn, until = options.tables, options.lsn, time.monotonic() + options.within
     try:
         began = time.monotonic()
@@ -123,6 +116,7 @@ def wait(options: Options, check: Check) -> None:
         raise Passing(f"ended before {path} has reached {lsn_text(lsn)}") from None
     except sqlite3.Error as error:
         raise FileError(f"{path}: {error}") from None
+    return 0
 
 
 def check_comes(path: str, feed: str | None, began: float, until: float) -> None:

@@ -6,18 +6,21 @@ It is its owner's alone, since whoever can open a file can lock it.
 """
 
 import collections
+import contextlib
 import dataclasses
 import errno
 import fcntl
 import hashlib
 import os
 import sys
+import time
 from collections.abc import Callable, Iterable, Iterator
-from typing import Protocol, TypeVar
+from typing import Any, Protocol, TypeVar
 
 from .. import log
-from ..errors import Damaged, Passing
+from ..errors import Damaged, Passing, Stopped
 from ..interruption import Check
+from ..json_texts import Unreadable
 from ..ownership import give
 from ..reader.commits import Commit, Head
 from ..reader.following import Keeper
@@ -48,6 +51,16 @@ def whole(
         raise Passing(f"the feed was altered while a commit was published: {damaged}") from None
 
 
+SOURCE = ("system", "database", "slot")
+
+
+def read_about(told: dict[str, Any]) -> dict[str, Any]:
+    """What was noted of it, among other things. A ValueError says that it wasn't."""
+    if missing := {*SOURCE, "tables"} - told.keys():
+        raise Unreadable(f"there is no {min(missing)}")
+    return {it: told[it] for it in (*SOURCE, "tables")}
+
+
 @dataclasses.dataclass(frozen=True)
 class Wanted:
     """What a sink keeps: of the feed with this head the tables that were chosen, by their names;
@@ -58,8 +71,10 @@ class Wanted:
     # raises an Unfit where the feed lacks commits after an LSN
     check_after: Callable[[int], None]
 
-    def source(self) -> dict[str, str]:
-        return {"system": self.head.system, "database": self.head.database, "slot": self.head.slot}
+    def about(self) -> dict[str, Any]:
+        """What an engine notes of it, to know it again."""
+        source = {it: getattr(self.head, it) for it in SOURCE}
+        return {**source, "tables": list(self.chosen)}
 
     def text(self) -> str:
         return f"{', '.join(self.chosen) or 'all tables'} of {self.head.text()}"
@@ -68,6 +83,8 @@ class Wanted:
 class Engine(Keeper, Protocol):
     """Keeps commits, and is told first what it is to keep."""
 
+    at: int = 0
+
     def open(self, wanted: Wanted) -> bool:
         """Looks at what is there; whether that is something that can be gone on with. An Unfit says
         that it is of something else."""
@@ -75,11 +92,27 @@ class Engine(Keeper, Protocol):
     def begin(self, base: Base) -> None:
         """Begins anew, with the rows of a base."""
 
+    def end_by(self, check: Check) -> None:
+        """Has another check say when nothing is waited for any more."""
+
     def finish(self, seconds: float) -> bool:
         """Has what was taken, in so many seconds; whether so. Nothing is taken afterwards."""
+        end = time.monotonic() + seconds
+
+        def check() -> None:
+            if time.monotonic() > end:
+                raise Stopped
+
+        self.end_by(check)
+        with contextlib.suppress(Stopped):
+            self.settle()
+            return True
+        return False
 
     def check_disk(self) -> None:
-        """Rejects settings under which it is never known what the engine's disk has."""
+        """Rejects settings under which it is never known what the engine's disk has. (Most don't
+        tell when they sync.)"""
+        return
 
     def close(self) -> None:
         """Ends the connection."""

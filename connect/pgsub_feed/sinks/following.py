@@ -66,7 +66,20 @@ def keep(
     """Keeps what a feed has. Unless it is to end by itself, it waits for an engine."""
     outages = Outages()
     try:
-        while not is_kept(reading, connect, check, parent, outages):
+        while True:
+            at = 0
+            try:
+                with contextlib.closing(connect()) as engine:
+                    outages.begin()
+                    try:
+                        follow(reading, engine, check, parent, outages)
+                    finally:
+                        at = engine.at
+                    return log.info(f"all up to {lsn_text(at)} is written")
+            except Passing as error:
+                if not reading.follows or is_ended(check):
+                    raise
+                outages.note(error, at)
             outages.wait(check)
     except Stopped:
         if not reading.follows or reading.until is not None:
@@ -74,35 +87,12 @@ def keep(
         raise
 
 
-def is_kept(
-    reading: Reading,
-    connect: Callable[[], Engine],
-    check: Check,
-    parent: Parent | None,
-    outages: Outages,
-) -> bool:
-    """Keeps what a feed has as long as the engine is there. Returns whether that was to its end."""
-    at = 0
-    try:
-        with contextlib.closing(connect()) as engine:
-            outages.begin()
-            try:
-                follow(reading, engine, check, parent, outages)
-            finally:
-                at = engine.at
-            log.info(f"all up to {lsn_text(at)} is written")
-            return True
-    except Passing as error:
-        if not reading.follows or is_ended(check):
-            raise
-        outages.note(error, at)
-        return False
-
-
 def follow(
     reading: Reading, engine: Engine, check: Check, parent: Parent | None, outages: Outages
 ) -> None:
-    wanted = wanted_of(reading, check)
+    wanted = Wanted(
+        head_of(reading, check), reading.chosen, lambda at: check_after(reading, at, check)
+    )
     if reading.name:
         # (first of all, since another sink that is fine is ended once this one has begun)
         engine.check_disk()
@@ -145,13 +135,6 @@ def noted_of(reading: Reading, engine: Engine) -> Noted | None:
         first = [base for base, _ in segments(reading.feed)[:1]]
         noted.note(min([engine.at, *first]), is_last=True)
     return noted
-
-
-def wanted_of(reading: Reading, check: Check) -> Wanted:
-    """What is to be kept: waits for the feed's first segment."""
-    return Wanted(
-        head_of(reading, check), reading.chosen, lambda at: check_after(reading, at, check)
-    )
 
 
 def check_after(reading: Reading, at: int, check: Check) -> None:

@@ -49,14 +49,6 @@ class Info:
     subjects: list[str]
 
 
-@dataclasses.dataclass
-class Published:
-    """A message that waits until it is taken: its sequence and its size."""
-
-    sequence: int
-    size: int
-
-
 class JetStream:
     """A stream, and what was published to it."""
 
@@ -65,7 +57,8 @@ class JetStream:
         self.where = f"{wire.where}, stream {stream}"
         self.inbox = f"_INBOX.{secrets.token_hex(12)}"
         wire.subscribe(f"{self.inbox}.*")
-        self.waiting = collections.deque[Published]()
+        # of the messages that aren't taken yet: the sequence and the size of each
+        self.waiting = collections.deque[tuple[int, int]]()
         self.room, self.asked = 0, 0
         # the sequence of the last message, with those that wait
         self.sequence = 0
@@ -116,11 +109,8 @@ class JetStream:
             ) from None
 
     def wrong(self, error: dict[str, Any]) -> Exception:
-        code, kind, about = (
-            error.get("code"),
-            error.get("err_code"),
-            shortened(str(error.get("description", error))),
-        )
+        code, kind = error.get("code"), error.get("err_code")
+        about = shortened(str(error.get("description", error)))
         if kind == OTHER_TOO_LARGE:
             return TooLarge(f"{self.where}: {about}")
         is_away = code in PASSING and kind not in NO_JETSTREAM
@@ -187,7 +177,7 @@ class JetStream:
         self.sequence += 1
         size = len(headers) + len(payload)
         self.wire.publish(subject, f"{self.inbox}.{self.sequence}", headers, payload)
-        self.waiting.append(Published(self.sequence, size))
+        self.waiting.append((self.sequence, size))
         self.room += size
         if len(self.waiting) >= MOST or self.room >= ROOM:
             self.settle(MOST // 2, ROOM // 2)
@@ -206,8 +196,8 @@ class JetStream:
 
     def take(self, message: Message) -> None:
         """Takes that a message is stored, or isn't."""
-        first = self.waiting.popleft()
-        self.room -= first.size
+        first, size = self.waiting.popleft()
+        self.room -= size
         if message.status == "503":
             # (of several servers another one may take it in a moment)
             raise Passing(f"{self.where}: no server has the stream just now")
@@ -216,14 +206,11 @@ class JetStream:
             with self.understood(said):
                 error = object_of(said["error"])
             raise self.wrong(error)
-        is_ours = (
-            message.subject == f"{self.inbox}.{first.sequence}"
-            and said.get("seq") == first.sequence
-        )
+        is_ours = message.subject == f"{self.inbox}.{first}" and said.get("seq") == first
         if said.get("duplicate") or not is_ours:
             told = shortened(str(said))
             raise Passing(
-                f"{self.where}: something else publishes to it: it has {told} in place of message {first.sequence}"
+                f"{self.where}: something else publishes to it: it has {told} in place of message {first}"
             )
 
 

@@ -19,7 +19,7 @@ from typing import Any
 from ..column_types import KnownTypes
 from ..debezium.envelopes import Envelopes, Message
 from ..debezium.settings import read_settings
-from ..errors import Stopped, TooLarge, Unfit
+from ..errors import TooLarge, Unfit
 from ..interruption import Check
 from ..json_texts import Unreadable, lsn_of, object_of, parsed, whole_of
 from ..known_tables import KnownTables
@@ -27,7 +27,7 @@ from ..reader.commits import Change, Commit, Missed, TableLine
 from ..reader.following import Read
 from ..reader.selection import Chosen
 from ..texts import lsn_text, shortened
-from .engine import Alone, Wanted, whole
+from .engine import Alone, Engine, Wanted, read_about, whole
 from .first_rows import Base, numbered
 from .kafka_client import AROUND, LARGEST, Cluster, parts_of, read_config
 
@@ -57,22 +57,20 @@ class Position:
 def read_position(text: bytes) -> Position:
     """A ValueError says that it is none."""
     told = object_of(parsed(text))
-    if missing := {"system", "database", "slot", "tables", "attempt"} - told.keys():
-        raise Unreadable(f"there is no {min(missing)}")
-    about = {it: told[it] for it in ("system", "database", "slot", "tables")}
-    attempt = told["attempt"]
+    if "attempt" not in told:
+        raise Unreadable("there is no attempt")
+    about, attempt = read_about(told), told["attempt"]
     return Position(lsn_of(told["lsn"]), about, None if attempt is None else whole_of(attempt))
 
 
-class Kafka:
+class Kafka(Engine):
     """An engine."""
 
     def __init__(self, cluster: Cluster, envelopes: Envelopes, check: Check, alone: Alone) -> None:
         self.cluster, self.envelopes, self.check = cluster, envelopes, check
         self.alone = alone
         self.topic = f"{envelopes.settings.prefix}.position"
-        self.at = self.end = 0
-        self.written = time.monotonic()
+        self.end, self.written = 0, time.monotonic()
         # of a base that was begun and not ended
         self.left: Position | None = None
 
@@ -80,7 +78,7 @@ class Kafka:
 
     def open(self, wanted: Wanted) -> bool:
         self.head, self.chosen = wanted.head, Chosen(wanted.chosen)
-        self.about: dict[str, Any] = {**wanted.source(), "tables": list(wanted.chosen)}
+        self.about = wanted.about()
         # (before anything is read there: what another one writes meanwhile isn't seen)
         self.alone.take("kafka", f"{self.cluster.id} {self.topic}", self.cluster.where)
         self.cluster.look_for_topics()
@@ -186,26 +184,12 @@ class Kafka:
         if time.monotonic() - self.written > OFTEN:
             self.write(Position(self.at, self.about))
 
-    def check_disk(self) -> None:
-        # (a broker doesn't tell when it syncs: replicas stand for that)
-        pass
-
     def safe(self) -> int | None:
+        # (a broker doesn't tell when it syncs: replicas stand for that)
         return self.at
 
-    def finish(self, seconds: float) -> bool:
-        end = time.monotonic() + seconds
-
-        def check() -> None:
-            if time.monotonic() > end:
-                raise Stopped
-
+    def end_by(self, check: Check) -> None:
         self.cluster.end_by(check)
-        try:
-            self.settle()
-            return True
-        except Stopped:
-            return False
 
     def close(self) -> None:
         self.cluster.close()

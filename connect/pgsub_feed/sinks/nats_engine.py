@@ -10,19 +10,18 @@ import contextlib
 import secrets
 import time
 from collections.abc import Iterator
-from typing import Any
 
 from .. import log
-from ..errors import Passing, Stopped, TooLarge, Unfit
+from ..errors import Passing, TooLarge, Unfit
 from ..interruption import Check
 from ..json_texts import LARGEST, object_of, parsed
 from ..reader.commits import Commit, TableLine
 from ..reader.following import Read
 from ..reader.selection import Chosen
 from ..texts import lsn_text, shortened
-from .engine import Trail, Wanted, whole
+from .engine import Engine, Trail, Wanted, whole
 from .first_rows import Base, numbered
-from .jetstream import Info, JetStream, Stored
+from .jetstream import JetStream, Stored
 from .nats_messages import (
     COMMIT,
     Said,
@@ -43,13 +42,12 @@ OFTEN = 20.0
 STILL = 2.0
 
 
-class Nats:
+class Nats(Engine):
     """An engine."""
 
     def __init__(self, stream: JetStream, check: Check) -> None:
         self.stream, self.name, self.check = stream, stream.stream, check
-        self.at = self.end = 0
-        self.looked = time.monotonic()
+        self.end, self.looked = 0, time.monotonic()
         # of the commit of which a part is published already: where it ends, and the number of the
         # last change, with what is said of that
         self.part: tuple[int, int] | None = None
@@ -62,7 +60,7 @@ class Nats:
 
     def open(self, wanted: Wanted) -> bool:
         self.chosen = Chosen(wanted.chosen)
-        self.about: dict[str, Any] = {**wanted.source(), "tables": list(wanted.chosen)}
+        self.about = wanted.about()
         info = self.stream.begin()
         if f"{self.name}.>" not in info.subjects:
             raise Unfit(
@@ -73,13 +71,9 @@ class Nats:
         last = self.stream.message(seq=self.stream.sequence) if info.messages else None
         read = read_id(last.id) if last else None
         if last is None or read is None:
-            found = (
-                f"its last one, {last.sequence}, isn't of a sink"
-                if last
-                else "its last one is gone"
-            )
+            found = f", {last.sequence}, isn't of a sink" if last else " is gone"
             raise Unfit(
-                f"{self.stream.where}: messages are there, and {found}: take another one, or remove it to begin anew"
+                f"{self.stream.where}: messages are there, and its last one{found}: take another one, or remove it to begin anew"
             )
         commit = (
             last if read.n is None else self.stream.message(last_by_subj=f"{self.name}.{COMMIT}")
@@ -91,14 +85,10 @@ class Nats:
             return False
         rows = self.go_on(commit, read.lsn, read.n)
         self.part_said = last.data
-        if rows is not None and last is commit:
-            self.remove_before(last.sequence - rows, info)
+        if rows is not None and last is commit and 0 < info.first < last.sequence - rows:
+            # (an earlier base has left what is before the first message of the whole one)
+            self.stream.purge(seq=last.sequence - rows)
         return True
-
-    def remove_before(self, first: int, info: Info) -> None:
-        """Removes what an earlier base has left before the first message of the whole one."""
-        if 0 < info.first < first:
-            self.stream.purge(seq=first)
 
     def go_on(self, commit: Stored | None, lsn: int, n: int | None) -> int | None:
         """Goes on after the last message of a commit, and the messages of a part of the next one.
@@ -200,9 +190,8 @@ class Nats:
             self.at = self.end
             self.trail.note(self.at, time.monotonic())
 
-    def forget(self) -> None:
-        # (what was taken is published)
-        self.settle()
+    # (what was taken is published)
+    forget = settle
 
     def look(self) -> None:
         now = time.monotonic()
@@ -212,25 +201,11 @@ class Nats:
         else:
             self.stream.wire.receive(0.0)
 
-    def check_disk(self) -> None:
-        # (a server doesn't tell how often it syncs)
-        pass
-
     def safe(self) -> int | None:
         return self.trail.pass_to(time.monotonic() - SYNCED)
 
-    def finish(self, seconds: float) -> bool:
-        end = time.monotonic() + seconds
-
-        def check() -> None:
-            if time.monotonic() > end:
-                raise Stopped
-
+    def end_by(self, check: Check) -> None:
         self.stream.wire.end_by(check)
-        with contextlib.suppress(Stopped):
-            self.settle()
-            return True
-        return False
 
     def close(self) -> None:
         self.stream.wire.close()

@@ -16,10 +16,11 @@ import re
 from typing import Any, NamedTuple
 
 from ..formats.keys import base_entry, entry, subject
-from ..json_texts import Unreadable, compact, lsn_of, object_of, parsed, whole_of
+from ..json_texts import compact, lsn_of, object_of, parsed, whole_of
 from ..reader.commits import Cells, Change, Commit, Missed
 from ..relation import Relation
 from ..texts import lsn_text, parse_lsn
+from .engine import read_about
 
 # (an earlier version of this program gave bases no numbers)
 ID = re.compile(r"([0-9A-F]+/[0-9A-F]+):(?:(commit)|(base:(?:[0-9a-f]{8}:)?[0-9]+)|([0-9]{1,18}))")
@@ -67,12 +68,8 @@ def row_message(
         **{name: it for name, it in told.items() if name != "op"},
     }
     body = ",".join(f'"{name}":{it}' for name, it in fields.items())
-    return Said(
-        subject(stream, relation.namespace, relation.name),
-        id,
-        f"{{{body}}}".encode(),
-        relation.text(),
-    )
+    to = subject(stream, relation.namespace, relation.name)
+    return Said(to, id, f"{{{body}}}".encode(), relation.text())
 
 
 def change_message(stream: str, commit: Commit, it: Change | Missed) -> Said:
@@ -82,9 +79,8 @@ def change_message(stream: str, commit: Commit, it: Change | Missed) -> Said:
 def base_message(
     stream: str, relation: Relation, lsn: int, number: str, n: int, row: Cells
 ) -> Said:
-    return row_message(
-        stream, relation, lsn, n, f"{lsn_text(lsn)}:base:{number}:{n}", base_entry(relation, row)
-    )
+    id = f"{lsn_text(lsn)}:base:{number}:{n}"
+    return row_message(stream, relation, lsn, n, id, base_entry(relation, row))
 
 
 def last_message(
@@ -118,9 +114,5 @@ class Last(NamedTuple):
 def read_last(data: bytes) -> Last:
     """A ValueError says that it is none."""
     told = object_of(parsed(data))
-    if missing := {"system", "database", "slot", "tables"} - told.keys():
-        raise Unreadable(f"there is no {min(missing)}")
-    about = {name: told[name] for name in ("system", "database", "slot", "tables")}
-    return Last(
-        lsn_of(told.get("end")), about, None if told.get("rows") is None else whole_of(told["rows"])
-    )
+    rows = None if told.get("rows") is None else whole_of(told["rows"])
+    return Last(lsn_of(told.get("end")), read_about(told), rows)

@@ -73,6 +73,23 @@ def read_headers(text: bytes) -> tuple[str, dict[str, str]]:
     return status.strip()[:3], {name: value.strip() for name, _, value in pairs}
 
 
+# What a connection says of itself.
+ABOUT: dict[str, Any] = dict(
+    verbose=False, pedantic=False, lang="python3", version="1", name="pgsub-connect", protocol=1
+)
+ABOUT |= {"headers": True, "no_responders": True}
+
+
+def login_of(parts: urllib.parse.SplitResult) -> dict[str, str]:
+    """How it logs in, by a user with a password, or by a token."""
+    if parts.username is None:
+        return {}
+    user = urllib.parse.unquote(parts.username)
+    if parts.password is None:
+        return {"auth_token": user}
+    return {"user": user, "pass": urllib.parse.unquote(parts.password)}
+
+
 def op_of(line: bytes) -> bytes:
     return line.split(b" ", 1)[0].upper()
 
@@ -114,30 +131,7 @@ class Wire:
             self.encrypt()
         elif parts.username is not None and not is_loopback(self.host):
             log.warning(f"{self.where}: the password goes there in plain text: use tls://")
-        user, password = (
-            urllib.parse.unquote(it) if it is not None else None
-            for it in (parts.username, parts.password)
-        )
-        login = (
-            {}
-            if user is None
-            else {"auth_token": user}
-            if password is None
-            else {"user": user, "pass": password}
-        )
-        about = {
-            "verbose": False,
-            "pedantic": False,
-            "lang": "python3",
-            "version": "1",
-            "name": "pgsub-connect",
-            "protocol": 1,
-        }
-        self.put(
-            b"CONNECT "
-            + json.dumps({**about, "headers": True, "no_responders": True, **login}).encode()
-            + END
-        )
+        self.put(b"CONNECT " + json.dumps({**ABOUT, **login_of(parts)}).encode() + END)
         self.ping(CONNECT)
 
     def encrypt(self) -> None:
@@ -153,7 +147,7 @@ class Wire:
         self.put(b"PING\r\n")
         self.flush()
         end = time.monotonic() + seconds
-        while (line := self.next_line(end)) is not None:
+        while (line := self.line(max(0.0, end - time.monotonic()))) is not None:
             op = op_of(line)
             if op == b"PONG":
                 return
@@ -205,12 +199,8 @@ class Wire:
     def publish(self, subject: str, reply: str, headers: bytes, payload: bytes) -> None:
         """Publishes a message; with headers, unless these are empty."""
         if headers:
-            self.put(
-                f"HPUB {subject} {reply} {len(headers)} {len(headers) + len(payload)}\r\n".encode()
-                + headers
-                + payload
-                + END
-            )
+            sizes = f"{len(headers)} {len(headers) + len(payload)}"
+            self.put(f"HPUB {subject} {reply} {sizes}\r\n".encode() + headers + payload + END)
         else:
             self.put(f"PUB {subject} {reply} {len(payload)}\r\n".encode() + payload + END)
 
@@ -220,16 +210,13 @@ class Wire:
         """The next message that comes in this time. What the server asks is answered meanwhile."""
         self.flush()
         end = time.monotonic() + seconds
-        while (line := self.next_line(end)) is not None:
+        while (line := self.line(max(0.0, end - time.monotonic()))) is not None:
             if (op := op_of(line)) in MESSAGES:
                 return self.message(op, line)
             self.answer(op, line)
             if time.monotonic() > end:
                 break
         return None
-
-    def next_line(self, end: float) -> bytes | None:
-        return self.line(max(0.0, end - time.monotonic()))
 
     def answer(self, op: bytes, line: bytes) -> None:
         if op == b"PING":

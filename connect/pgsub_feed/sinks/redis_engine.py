@@ -19,7 +19,7 @@ import secrets
 import socket
 import time
 from collections.abc import Collection, Iterable, Iterator, Sequence
-from typing import Any, Optional, Protocol
+from typing import Any, Optional
 
 from ..errors import EngineError, Passing, Stopped, Unfit
 from ..interruption import Check, at_most, never
@@ -28,19 +28,13 @@ from ..known_tables import KnownTables
 from ..reader.commits import Cells, Change, Commit, Missed, TableLine
 from ..reader.following import Read
 from ..texts import lsn_text, parse_lsn, shortened
-from .engine import Wanted
+from .engine import Engine, Wanted
 from .first_rows import Base
 from .redis_calls import Calls, Command, Said, asked, raised, understood
 from .redis_disk import Disk, fields
 from .relations import Holder, Kept, Relations
 
-LSN, SINK, FEED, TABLES, LOADING = (
-    "pgsub:lsn",
-    "pgsub:sink",
-    "pgsub:feed",
-    "pgsub:tables",
-    "pgsub:loading",
-)
+LSN, SINK, FEED, TABLES, LOADING = (f"pgsub:{it}" for it in "lsn sink feed tables loading".split())
 WATCH, ASK = ("WATCH", LSN, SINK), ("MGET", LSN, SINK)
 # How many commands one MULTI gets where more commits are there.
 MOST = 20000
@@ -50,7 +44,7 @@ TRIES = 50
 OFTEN = 5.0
 
 
-class Form(Holder, Protocol):
+class Form(Holder):
     """How rows and changes are written. What it was given waits until it is written by `commands`,
     or forgotten by `clear`."""
 
@@ -65,21 +59,26 @@ class Form(Holder, Protocol):
 
     def size(self) -> int:
         """About how many commands wait."""
+        raise NotImplementedError
 
     def watched(self) -> list[str]:
         """The keys beside those of the sink that decide whether the commands can be run."""
+        return []
 
     def prepare(self) -> None:
         """Looks at these, once they are watched."""
 
     def commands(self) -> list[Command]:
         """What writes all that waits."""
+        raise NotImplementedError
 
     def accepts(self, said: Said) -> bool:
         """Whether one of these commands may end with this error."""
+        return False
 
     def unkeyed(self) -> Collection[int]:
         """The OIDs of tables whose rows that wait don't have a key each."""
+        return ()
 
     def clear(self) -> None:
         """Forgets what waits."""
@@ -89,6 +88,7 @@ class Form(Holder, Protocol):
 
     def removals(self, names: Iterable[str]) -> Iterator[Command]:
         """What removes all that the tables with these names have."""
+        raise NotImplementedError
 
 
 class Writer:
@@ -110,8 +110,10 @@ class Writer:
         return False
 
 
-class Redis:
+class Redis(Engine):
     """An engine."""
+
+    relations: Relations
 
     def __init__(
         self,
@@ -123,27 +125,19 @@ class Redis:
     ) -> None:
         self.calls, self.form, self.check, self.writer = calls, form, check, writer
         self.known = known
-        # the LSN that all is at, as a text too, None before there is one; and where the last commit
-        # ends that was taken
-        self.at, self.lsn, self.end = 0, None, 0
+        # the LSN that all is at as a text, None before there is one; and where the last commit ends
+        # that was taken
+        self.lsn: bytes | None = None
+        self.end = 0
         self.looked = time.monotonic()
-        self.left: list[str] = []
         self.disk = Disk(calls)
-
-    at: int
-    lsn: bytes | None
-    relations: Relations
 
     # ---- what is there
 
     def open(self, wanted: Wanted) -> bool:
         is_keyed_only = self.form.is_keyed_only
         self.relations = Relations(wanted.chosen, is_keyed_only, self.form, self.known, self.check)
-        self.about: dict[str, Any] = {
-            **wanted.source(),
-            "tables": list(wanted.chosen),
-            "as": self.form.name,
-        }
+        self.about = {**wanted.about(), "as": self.form.name}
         self.check_alone()
         lsn, about = self.two(("MGET", LSN, FEED))
         if lsn is None:
@@ -194,9 +188,8 @@ class Redis:
         with understood(self.calls.where):
             is_same = about is not None and parsed(about) == self.about
         if not is_same:
-            was, now = shortened((about or b"nothing").decode(errors="replace")), json.dumps(
-                self.about
-            )
+            was = shortened((about or b"nothing").decode(errors="replace"))
+            now = json.dumps(self.about)
             raise Unfit(
                 f"{self.calls.where}: what is kept there is of {was}, and this would be of {now}: take another database"
             )
@@ -277,11 +270,9 @@ class Redis:
         self.take_over()
         self.check_lsn(self.lsn, None)
         with understood(self.calls.where):
-            self.left = [
-                text_of(it)
-                for it in list_of(parsed(asked(self.calls, [("MGET", LOADING)])[0][0] or b"[]"))
-            ]
-        self.transact([*form.removals(self.left), ("DEL", LOADING)], self.lsn)
+            said = asked(self.calls, [("MGET", LOADING)])[0][0] or b"[]"
+            left = [text_of(it) for it in list_of(parsed(said))]
+        self.transact([*form.removals(left), ("DEL", LOADING)], self.lsn)
         form.check_new()
         tables = [it for it in map(self.relations.begin, base.tables()) if it]
         if tables:
@@ -365,11 +356,14 @@ class Redis:
     def finish(self, seconds: float) -> bool:
         if self.calls.is_lost:
             return False
-        self.calls.end_by(never)
+        self.end_by(never)
         with contextlib.suppress(Stopped), at_most(seconds):
             self.settle()
             return True
         return False
+
+    def end_by(self, check: Check) -> None:
+        self.calls.end_by(check)
 
     def check_disk(self) -> None:
         self.disk.check()

@@ -14,6 +14,7 @@ from ..errors import Unfit
 from ..formats.keys import NULL, row_text
 from ..reader.commits import XID, Cell, Cells, Change, Commit, Missed
 from .redis_calls import Calls, Command, Said, asked, understood
+from .redis_engine import Form
 from .relations import Kept
 
 # How many keys one command has, and one step of a search looks at.
@@ -52,7 +53,7 @@ def key_text(kept: Kept, cells: Sequence[Cell]) -> str:
     return f"{kept.name}:{row_text(kept.key, cells)}"
 
 
-class Hashes:
+class Hashes(Form):
     """How rows are written."""
 
     name, is_keyed_only = "hashes", True
@@ -77,12 +78,6 @@ class Hashes:
         self.free.clear()
         self.broken.clear()
         self.emptied.clear()
-
-    def watched(self) -> list[str]:
-        return []
-
-    def prepare(self) -> None:
-        pass
 
     def accepts(self, said: Said) -> bool:
         # (a row that was evicted, or removed by somebody else, has no other key to get)

@@ -1,18 +1,19 @@
 """A stream of Redis for each table: an entry for each change, its id the LSN at which its commit
 ends and its number in there."""
 
-from collections.abc import Collection, Iterable, Iterator
+from collections.abc import Iterable, Iterator
 
 from ..errors import Unfit
 from ..formats.keys import base_entry, entry
 from ..reader.commits import Cells, Change, Commit, Missed
 from .redis_calls import Calls, Command, Said, raised, understood
+from .redis_engine import Form
 from .relations import Kept
 
 NONE = (0, 0)
 
 
-class Streams:
+class Streams(Form):
     """How changes are written."""
 
     name, is_keyed_only = "streams", False
@@ -68,31 +69,12 @@ class Streams:
         with understood(self.calls.where):
             if not isinstance(said, list):
                 raise TypeError("no list")
-            milliseconds, _, number = dict(zip(said[::2], said[1::2]))[
-                b"last-generated-id"
-            ].partition(b"-")
+            last = dict(zip(said[::2], said[1::2]))[b"last-generated-id"]
+            milliseconds, _, number = last.partition(b"-")
             return int(milliseconds), int(number)
-
-    def accepts(self, said: Said) -> bool:
-        return False
-
-    def unkeyed(self) -> Collection[int]:
-        return ()
 
     def commands(self) -> list[Command]:
         return list(self.waiting)
-
-    def check_new(self) -> None:
-        pass
-
-    def make(self, new: Kept) -> None:
-        pass
-
-    def carry(self, old: Kept, new: Kept) -> None:
-        pass
-
-    def remove(self, old: Kept) -> None:
-        pass
 
     def removals(self, names: Iterable[str]) -> Iterator[Command]:
         for name in names:

@@ -10,7 +10,7 @@ from __future__ import annotations
 import dataclasses
 import functools
 import json
-from typing import Any, Protocol
+from typing import Any
 
 from .. import log
 from ..formats.keys import key_of, table_text
@@ -59,7 +59,7 @@ class Kept:
         return [self.columns[at] for at in self.key]
 
 
-class Holder(Protocol):
+class Holder:
     """What has the rows."""
 
     def make(self, new: Kept) -> None:

@@ -169,7 +169,10 @@ class Applier:
         """Makes changes of one kind, in the digest too."""
         if self.is_repair and not self.is_sure(kept, changes[0].op):
             self.repair(kept, changes)
-            return
+        else:
+            self.make_noted(kept, changes)
+
+    def make_noted(self, kept: Kept, changes: list[Change]) -> None:
         self.make(kept, changes)
         if self.rows.digests:
             self.rows.digests.note(kept, changes)
@@ -187,10 +190,8 @@ class Applier:
         if not kept.target.is_keyed or kept.have_null_keys(
             [it.after for it in changes if it.after]
         ):
-            raise Unkept(
-                kept.relation,
-                "rows were repaired, and without a key nobody knows which of those here",
-            )
+            why = "rows were repaired, and without a key nobody knows which of those here"
+            raise Unkept(kept.relation, why)
         images = (it for change in changes for it in (change.before, change.after) if it)
         keys = list(dict.fromkeys(tuple(it) for it in kept.searched([*images])))
         if self.rows.digests:
@@ -198,9 +199,7 @@ class Applier:
         self.db.executemany(kept.deletion, keys)
         added = [Change("c", it.relation, it.n, None, it.after) for it in changes if it.after]
         if added:
-            self.make(kept, added)
-        if added and self.rows.digests:
-            self.rows.digests.note(kept, added)
+            self.make_noted(kept, added)
 
     def make(self, kept: Kept, changes: list[Change]) -> None:
         """Makes changes of one kind. A table whose key is none of SQLite's is made anew."""
@@ -254,7 +253,5 @@ class Applier:
 
     def check_done(self, kept: Kept, rows: int, done: int) -> None:
         if done != rows:
-            raise Unkept(
-                kept.relation,
-                "a row that the feed changes isn't in it: another program has changed the file",
-            )
+            why = "a row that the feed changes isn't in it: another program has changed the file"
+            raise Unkept(kept.relation, why)

@@ -16,8 +16,8 @@ from collections.abc import Iterable, Sequence
 from typing import NamedTuple, cast
 
 from ..reader.commits import Cells, Change
-from .printed import FIRST_WORD, SECOND_WORD, Field, Fields, hash_of, text_of, words_of
-from .table import Kept, Valued
+from .printed import FIRST_WORD, SECOND_WORD, Fields, hash_of, text_of, words_of
+from .table import Kept
 from .values import Value
 
 DIGESTS = "pgsub_digests"
@@ -57,11 +57,11 @@ def read_digests(db: sqlite3.Connection) -> dict[int, Digest]:
     }
 
 
-def summed(rows: Iterable[Iterable[Field]]) -> Digest:
-    """That of rows, by their fields."""
+def summed(texts: Iterable[bytes]) -> Digest:
+    """That of rows, by the texts of their fields."""
     count = first = second = 0
-    for fields in rows:
-        words = words_of(hash_of(text_of(fields)))
+    for text in texts:
+        words = words_of(hash_of(text))
         count, first, second = count + 1, first + words[FIRST_WORD], second + words[SECOND_WORD]
     return Digest(count, first, second)
 
@@ -70,33 +70,27 @@ def plain_text(cells: Cells) -> bytes | None:
     """The text of a row with texts of ASCII alone, None of any other."""
     if bytes in map(type, cells):
         return None
-    text = "".join(
-        ["n" if it is None else f"{len(it)}:{it}" for it in cast(list[str | None], cells)]
-    )
+    texts = cast(list[str | None], cells)
+    text = "".join(["n" if it is None else f"{len(it)}:{it}" for it in texts])
     return text.encode() if text.isascii() else None
 
 
-class Images:
-    """Adds up the rows of changes of a table."""
+def image_text(fields: Fields, cells: Cells) -> bytes:
+    """The text of the fields of a row of a feed."""
+    plain = None if fields.old_scales(cells) else plain_text(cells)
+    return plain or text_of(fields.of_cells(cells))
 
-    def __init__(self, kept: Valued) -> None:
-        self.fields = Fields(kept)
 
-    def of_rows(self, rows: Iterable[Cells | None]) -> Digest:
-        count = first = second = 0
-        for cells in rows:
-            if cells is None:
-                continue
-            plain = None if self.fields.old_scales(cells) else plain_text(cells)
-            words = words_of(hash_of(plain or text_of(self.fields.of_cells(cells))))
-            count, first, second = count + 1, first + words[FIRST_WORD], second + words[SECOND_WORD]
-        return Digest(count, first, second)
+def of_changes(fields: Fields, changes: list[Change]) -> Digest:
+    """By how much changes of a table change its digest."""
+    after = summed(image_text(fields, it.after) for it in changes if it.after is not None)
+    before = summed(image_text(fields, it.before) for it in changes if it.before is not None)
+    return after.plus(before.times(-1))
 
-    def of(self, changes: Iterable[Change]) -> Digest:
-        """By how much changes change the digest."""
-        several = list(changes)
-        before = self.of_rows(it.before for it in several)
-        return self.of_rows(it.after for it in several).plus(before.times(-1))
+
+def of_rows(fields: Fields, rows: Iterable[Sequence[Value]]) -> Digest:
+    """That of rows as SQLite has them."""
+    return summed(map(text_of, map(fields.of_row, rows)))
 
 
 class Digests:
@@ -105,13 +99,12 @@ class Digests:
     def __init__(self, db: sqlite3.Connection) -> None:
         self.db, self.known = db, read_digests(db)
         self.changed = set[int]()
-        self.images: dict[int, Images] = {}
+        self.fields: dict[int, Fields] = {}
 
     def add_up(self, kept: Kept) -> None:
         """Reads a table's rows."""
-        fields = Fields(kept)
-        self.set(kept.oid, summed(map(fields.of_row, self.db.execute(fields.query))))
-        self.images.pop(kept.oid, None)
+        fields = self.fields[kept.oid] = Fields(kept)
+        self.set(kept.oid, of_rows(fields, self.db.execute(fields.query)))
 
     def note(self, kept: Kept, changes: list[Change]) -> None:
         """Takes changes of one kind into account. (An untold table has no digest yet.)"""
@@ -120,8 +113,8 @@ class Digests:
         if changes[0].op == "t":
             self.set(kept.oid, NOTHING)
             return
-        images = self.images.get(kept.oid) or self.images.setdefault(kept.oid, Images(kept))
-        self.set(kept.oid, self.known[kept.oid].plus(images.of(changes)))
+        fields = self.fields.get(kept.oid) or self.fields.setdefault(kept.oid, Fields(kept))
+        self.set(kept.oid, self.known[kept.oid].plus(of_changes(fields, changes)))
 
     def take_off(self, kept: Kept, keys: Iterable[Sequence[Value]]) -> None:
         """Takes off rows that are about to go, by their keys, as they are here."""
@@ -130,8 +123,7 @@ class Digests:
         fields = Fields(kept)
         query = f"{fields.query} WHERE {kept.where(0)}"
         rows = itertools.chain.from_iterable(self.db.execute(query, key) for key in keys)
-        gone = summed(map(fields.of_row, rows))
-        self.set(kept.oid, self.known[kept.oid].plus(gone.times(-1)))
+        self.set(kept.oid, self.known[kept.oid].plus(of_rows(fields, rows).times(-1)))
 
     def set(self, oid: int, digest: Digest) -> None:
         self.known[oid] = digest
@@ -139,7 +131,7 @@ class Digests:
 
     def drop(self, oid: int) -> None:
         self.known.pop(oid, None)
-        self.images.pop(oid, None)
+        self.fields.pop(oid, None)
         self.changed.discard(oid)
         self.db.execute(f"DELETE FROM {DIGESTS} WHERE oid = ?", (oid,))
 

@@ -14,7 +14,7 @@ from ..texts import identifier, lsn_text, parse_lsn
 from .digests import FORMAT as WITH_DIGESTS, SCHEMA as DIGESTS_SCHEMA, Digests, has_digests
 from .indexes import Indexes, Keys, inherited
 from .names import OLD, POSITION, TABLES, distinct_name, folded, names_of
-from .reshape import LOOSE, carry, is_alike, loosen, sources
+from .reshape import LOOSE, carry, is_alike, loose, sources
 from .schema import (
     FEED,
     FORMAT,
@@ -272,18 +272,14 @@ class Rows:
         elif holder:
             return holder.name
         own = {folded(kept.name)} if kept else set[str]()
-        return distinct_name(
-            relation.oid, *named, self.names.keys() - own if own else self.names.keys()
-        )
+        return distinct_name(relation.oid, *named, self.names.keys() - own)
 
     def set_aside(self, relation: Relation, at: int, why: str) -> None:
         """Leaves a table out from the commit that ends there on, until its rows come anew."""
         if kept := self.kept.get(relation.oid):
             self.drop(kept)
         self.left_out.discard(relation.oid)
-        self.db.execute(
-            f"INSERT OR REPLACE INTO {RELATIONS} VALUES (?, NULL, NULL)", (relation.oid,)
-        )
+        self.write(relation.oid)
         self.asides.put(relation, at, why)
 
     def take_up(self, relation: Relation, at: int) -> Kept | None:
@@ -316,19 +312,19 @@ class Rows:
         new = Kept(kept.name, kept.relation, self.form, primary or ())
         if not primary or (new.target.key == kept.target.key and kept.target.is_keyed):
             return kept
-        with nested(self.db):
-            kept = carry(self.db, kept, new)
-        self.is_init_due = True
-        self.note(kept)
-        return kept
+        return self.carried(kept, new)
 
     def loosen(self, kept: Kept) -> Kept:
+        """Makes a table anew whose key can't be a primary key."""
         log.warning(f"{kept.relation.text()}: {LOOSE}")
+        return self.carried(kept, loose(kept))
+
+    def carried(self, old: Kept, new: Kept) -> Kept:
         with nested(self.db):
-            kept = loosen(self.db, kept)
+            new = carry(self.db, old, new)
         self.is_init_due = True
-        self.note(kept)
-        return kept
+        self.note(new)
+        return new
 
     def drop(self, kept: Kept) -> None:
         self.db.execute(f"DROP TABLE IF EXISTS {identifier(kept.name)}")
@@ -344,9 +340,7 @@ class Rows:
         self.asides.drop(relation.oid)
         if relation.oid not in self.left_out:
             self.left_out.add(relation.oid)
-            self.db.execute(
-                f"INSERT OR REPLACE INTO {RELATIONS} VALUES (?, NULL, NULL)", (relation.oid,)
-            )
+            self.write(relation.oid)
 
     def forget(self, kept: Kept) -> None:
         """Takes a table's name away."""
@@ -359,18 +353,18 @@ class Rows:
     def note(self, kept: Kept) -> None:
         """Writes down a table's name and definition."""
         relation = kept.relation
-        before = self.kept.get(kept.oid)
-        if before:
+        if before := self.kept.get(kept.oid):
             self.forget(before)
         self.kept[kept.oid] = kept
         if not kept.name.startswith(OLDER):
             self.hold(kept)
             named = (kept.name, relation.namespace or "pg_catalog", relation.name, kept.oid)
             self.db.execute(f"INSERT INTO {TABLES} VALUES (?, ?, ?, ?)", named)
-        self.db.execute(
-            f"INSERT OR REPLACE INTO {RELATIONS} VALUES (?, ?, ?)",
-            (kept.oid, kept.name, definition(kept.target)),
-        )
+        self.write(kept.oid, kept.name, definition(kept.target))
+
+    def write(self, oid: int, name: str | None = None, told: str | None = None) -> None:
+        """Writes a table's line; one without a name is left out."""
+        self.db.execute(f"INSERT OR REPLACE INTO {RELATIONS} VALUES (?, ?, ?)", (oid, name, told))
 
     def run_init(self) -> None:
         """Runs it in a transaction of its own."""
@@ -387,6 +381,6 @@ class Rows:
         """Makes indexes, and runs what the user wants, after a table was made or altered."""
         if self.is_init_due:
             self.make_indexes()
-        if self.is_init_due and self.init:
-            self.init.run(self.db)
+            if self.init:
+                self.init.run(self.db)
         self.is_init_due = False

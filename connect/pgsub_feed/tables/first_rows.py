@@ -96,14 +96,10 @@ def make(
     else:
         files = first_rows_of(reading, check)
         with placed(into, reading.mode, check) as new:
-            make_empty(new, reading)
+            with contextlib.closing(sqlite3.connect(new, isolation_level=None)) as db:
+                prepare(db, os.path.abspath(reading.feed), reading.chosen, False)
             if files:
                 fill(new, files, form, check, keys)
-
-
-def make_empty(new: str, reading: Reading) -> None:
-    with contextlib.closing(sqlite3.connect(new, isolation_level=None)) as db:
-        prepare(db, os.path.abspath(reading.feed), reading.chosen, False)
 
 
 def fill(new: str, files: BaseFiles, form: str, check: Check, keys: KnownTables | None) -> None:
@@ -158,17 +154,14 @@ def prepare(db: sqlite3.Connection, folder: str, chosen: Iterable[str], is_base:
     for statement in (() if is_base else SCHEMA) + MORE:
         db.execute(statement)
     names = sorted(set(chosen))
-    db.execute(
-        f"INSERT INTO {FEED} VALUES (CAST(? AS TEXT), NULL, NULL, NULL, ?)",
-        (path_bytes(folder), json.dumps(names)),
-    )
+    feed = f"INSERT INTO {FEED} VALUES (CAST(? AS TEXT), NULL, NULL, NULL, ?)"
+    db.execute(feed, (path_bytes(folder), json.dumps(names)))
     for name, schema, table, oid in db.execute(f"SELECT * FROM {TABLES}").fetchall():
         if names and not set(names) & names_of(schema, table):
             db.execute(f"DROP TABLE {identifier(name)}")
             db.execute(f"DELETE FROM {TABLES} WHERE oid = ?", (oid,))
-            db.execute(
-                f"UPDATE {RELATIONS} SET name = NULL, definition = NULL WHERE oid = ?", (oid,)
-            )
+            nothing = "name = NULL, definition = NULL"
+            db.execute(f"UPDATE {RELATIONS} SET {nothing} WHERE oid = ?", (oid,))
     db.execute("COMMIT")
 
 

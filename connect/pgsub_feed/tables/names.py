@@ -23,11 +23,6 @@ def folded(name: str) -> str:
     return "".join(chr(ord(it) + 32) if "A" <= it <= "Z" else it for it in name)
 
 
-def table_name(schema: str, table: str) -> str:
-    """The name that a table gets where it is free: its own in `public`, else with the schema."""
-    return table if schema == "public" else f"{schema or 'pg_catalog'}.{table}"
-
-
 def names_of(schema: str, table: str) -> set[str]:
     """The names by which a table may be chosen: each part as it is, or quoted as in SQL."""
     tables = written(table)
@@ -39,15 +34,11 @@ def written(name: str) -> set[str]:
     return {name, identifier(name)}
 
 
-def usable_name(schema: str, table: str) -> str:
-    """The same, with something before it where it is kept for others."""
-    name = table_name(schema, table)
-    return f"_{name}" if folded(name).startswith(RESERVED) else name
-
-
 def distinct_name(oid: int, schema: str, table: str, taken: Collection[str]) -> str:
-    """The name of a table where these are taken, as SQLite compares them."""
-    name = usable_name(schema, table)
+    """The name of a table where these are taken, as SQLite compares them: its own in `public`, else
+    with the schema, and with something before it where it is kept for others."""
+    name = table if schema == "public" else f"{schema or 'pg_catalog'}.{table}"
+    name = f"_{name}" if folded(name).startswith(RESERVED) else name
     return unused(name, f"{name} {oid}", taken)
 
 

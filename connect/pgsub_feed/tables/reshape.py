@@ -54,32 +54,28 @@ def carry(db: sqlite3.Connection, old: Kept, new: Kept) -> Kept:
         db.execute(f"DROP INDEX IF EXISTS {identifier(index)}")
     db.execute(f"ALTER TABLE {identifier(old.name)} RENAME TO {OLD}")
     with contextlib.closing(db.cursor()) as cursor:
-        if not has_null_keys(db, old, new):
+        if has_null_keys(db, old, new) or not is_put(cursor, old, new):
+            log.warning(f"{new.relation.text()}: {LOOSE}")
+            new = loose(new)
             new.make(db)
-            try:
-                put(cursor, old, new)
-                return finish(db, new)
-            except sqlite3.IntegrityError:
-                db.execute(f"DROP TABLE {identifier(new.name)}")
-        log.warning(f"{new.relation.text()}: {LOOSE}")
-        new = loose(new)
-        new.make(db)
-        put(cursor, old, new)
-    return finish(db, new)
-
-
-def finish(db: sqlite3.Connection, new: Kept) -> Kept:
+            put(cursor, old, new)
     db.execute(f"DROP TABLE {OLD}")
     return new
 
 
+def is_put(cursor: sqlite3.Cursor, old: Kept, new: Kept) -> bool:
+    """Makes the new table with the rows of the old one, unless keys are equal; whether so."""
+    new.make(cursor.connection)
+    try:
+        put(cursor, old, new)
+        return True
+    except sqlite3.IntegrityError:
+        cursor.connection.execute(f"DROP TABLE {identifier(new.name)}")
+        return False
+
+
 def loose(kept: Kept) -> Kept:
     return Kept(kept.name, kept.relation, kept.target.form, kept.primary, is_loose=True)
-
-
-def loosen(db: sqlite3.Connection, kept: Kept) -> Kept:
-    """Makes a table anew whose key can't be a primary key."""
-    return carry(db, kept, loose(kept))
 
 
 def extend(db: sqlite3.Connection, old: Kept, new: Kept) -> bool:
@@ -114,11 +110,8 @@ def has_null_keys(db: sqlite3.Connection, old: Kept, new: Kept) -> bool:
         f"{old.target.named(at)[0]} IS NULL" if (at := places[key]) is not None else "TRUE"
         for key in new.keys
     ]
-    return bool(
-        db.execute(
-            f"SELECT EXISTS (SELECT 1 FROM {OLD} WHERE {' OR '.join(nulls[:500])})"
-        ).fetchone()[0]
-    )
+    query = f"SELECT EXISTS (SELECT 1 FROM {OLD} WHERE {' OR '.join(nulls[:500])})"
+    return bool(db.execute(query).fetchone()[0])
 
 
 def put(cursor: sqlite3.Cursor, old: Kept, new: Kept) -> None:
@@ -150,6 +143,4 @@ def converted(db: sqlite3.Connection, query: str, old: Kept, new: Kept) -> Itera
             if gone := [it.name for it, value in pairs if it in lost and value is not None]:
                 why = f"the column {gone[0]} was kept by --numeric real, and its exact values aren't here"
                 raise Unkept(new.relation, why)
-            yield new.row(
-                [None if column is None else printed(column, value) for column, value in pairs]
-            )
+            yield new.row([None if it is None else printed(it, value) for it, value in pairs])

@@ -92,11 +92,8 @@ def walk(folder: str, rows: Rows, at: int, check: Check) -> None:
 
 def forward(way: Way, at: int) -> str:
     """How the tables are had without going back."""
-    base = (
-        "without --base"
-        if way.is_whole
-        else f"with --base, an export or tables of {lsn_text(at)} or before"
-    )
+    earlier = f"with --base, an export or tables of {lsn_text(at)} or before"
+    base = "without --base" if way.is_whole else earlier
     return f"Go forward to there: make a new file by --into, {base}"
 
 
@@ -132,21 +129,16 @@ def check_shape(rows: Rows, relation: Relation) -> None:
     if kept is None or kept.relation == relation or not rows.is_chosen(relation):
         return
     was = Valued(kept.name, relation, rows.form)
-    for place, (at, column) in enumerate(
-        zip(sources(kept, was), was.target.relation.shape.columns, strict=True)
-    ):
+    pairs = zip(sources(kept, was), was.target.relation.shape.columns, strict=True)
+    for place, (at, column) in enumerate(pairs):
         # (the text of a numeric has all of it)
         is_lost = at is None or not (
             is_alike(kept, was, [place])
             or column.type_oid == NUMERIC
             and kept.target.types(at) == ["REAL", "TEXT"]
         )
-        if (
-            is_lost
-            and rows.db.execute(
-                f"SELECT EXISTS (SELECT 1 FROM {identifier(kept.name)})"
-            ).fetchone()[0]
-        ):
+        query = f"SELECT EXISTS (SELECT 1 FROM {identifier(kept.name)})"
+        if is_lost and rows.db.execute(query).fetchone()[0]:
             raise Lost(
                 f"{relation.text()}: the column {column.name} was dropped or altered since, and its values are lost"
             )

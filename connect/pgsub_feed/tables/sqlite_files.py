@@ -26,23 +26,18 @@ def number_at(path: str, at: int) -> int | None:
     return int.from_bytes(head[at : at + 4], "big") if head.startswith(MAGIC) else None
 
 
-def application(path: str) -> int | None:
-    """What the head of a file of SQLite says of whose it is; None of any other file."""
-    return number_at(path, APPLICATION_AT)
-
-
 def is_earlier(path: str) -> bool:
     """Whether an export, or a file of tables, is one of an earlier version."""
     return number_at(path, VERSION_AT) in EARLIER
 
 
 def is_export(path: str) -> bool:
-    return application(path) == EXPORT
+    return number_at(path, APPLICATION_AT) == EXPORT
 
 
 def is_tables(path: str) -> bool:
     """Whether a file is one of tables that follow a feed."""
-    return application(path) == FOLLOWING
+    return number_at(path, APPLICATION_AT) == FOLLOWING
 
 
 def opened(path: str) -> sqlite3.Connection:

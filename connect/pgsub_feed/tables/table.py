@@ -31,11 +31,9 @@ def is_minus_zero(value: Value) -> bool:
 
 def listed(columns: Sequence[str], values: Sequence[str]) -> str:
     """A comparison that null is equal to null in."""
-    return (
-        f"({', '.join(columns)}) IS ({', '.join(values)})"
-        if len(columns) > 1
-        else f"{columns[0]} IS {values[0]}"
-    )
+    if len(columns) == 1:
+        return f"{columns[0]} IS {values[0]}"
+    return f"({', '.join(columns)}) IS ({', '.join(values)})"
 
 
 def rows_index(oid: int) -> str:
@@ -69,11 +67,6 @@ class Valued:
             return [None]
         return [self.value(at, cells[place]) for at, place in enumerate(self.target.places)]
 
-    def unlike(self, at: int, cell: Value) -> Unkept:
-        shown = cell if isinstance(cell, bytes) else str(cell).encode()
-        unlike = Unlike(self.target.places[at], shown)
-        return Unkept(self.relation, unlike_reason(self.relation, unlike))
-
     def value(self, at: int, cell: Cell) -> Value:
         """A cell as a column of SQLite has it."""
         kind, read, read_binary = self.target.kinds[at]
@@ -82,7 +75,9 @@ class Valued:
                 return read_binary(cell)
             return cell if cell is None or kind == "TEXT" else read(cell.encode())
         except ValueError:
-            raise self.unlike(at, cell) from None
+            shown = cell if isinstance(cell, bytes) else str(cell).encode()
+            unlike = Unlike(self.target.places[at], shown)
+            raise Unkept(self.relation, unlike_reason(self.relation, unlike)) from None
 
 
 class Kept(Valued):
@@ -122,23 +117,17 @@ class Kept(Valued):
 
     def write_statements(self) -> None:
         target, name = self.target, identifier(self.name)
-        columns = target.columns
-        everything = list(range(self.width))
+        columns, everything = target.columns, list(range(self.width))
         self.found = target.key if target.is_keyed else everything
         rest = [at for at in everything if at not in self.found] if target.is_keyed else everything
-        changes = [
-            f"{column} = {value}"
-            for column, value in zip(columns, self.bound(everything, 0), strict=True)
-        ]
+        pairs = zip(columns, self.bound(everything, 0), strict=True)
+        changes = [f"{column} = {value}" for column, value in pairs]
         # (the values of the new row, and then those that find the old one)
         where = self.where(self.width)
         self.update = f"UPDATE {name} SET {', '.join(changes)} WHERE {where}"
         # of a row whose key stays
-        self.change = (
-            f"UPDATE {name} SET {', '.join(changes[at] for at in rest)} WHERE {where}"
-            if rest
-            else ""
-        )
+        some = ", ".join(changes[at] for at in rest)
+        self.change = f"UPDATE {name} SET {some} WHERE {where}" if some else ""
         self.deletion = f"DELETE FROM {name} WHERE {self.where(0)}"
         self.truncation = f"DELETE FROM {name}"
 
@@ -169,10 +158,8 @@ class Kept(Valued):
         for it in ROW_IDS:
             if identifier(it) not in taken:
                 return it
-        why = (
-            f"a table without a key whose columns have the names {', '.join(ROW_IDS)} can't be kept"
-        )
-        raise Unkept(self.relation, why)
+        why = "a table without a key whose columns have the names"
+        raise Unkept(self.relation, f"{why} {', '.join(ROW_IDS)} can't be kept")
 
     def searched(self, rows: Sequence[Sequence[Cell]]) -> list[list[Value]]:
         """The values that find rows: of keyed ones only the key is looked at."""

@@ -22,16 +22,8 @@ Read = Callable[[bytes], Value]
 # A column's type in SQLite, what reads a text and what reads a binary value.
 Kind = tuple[str, Read, Read]
 
-BOOL, BYTEA, INT8, INT2, INT4, FLOAT4, FLOAT8, NUMERIC = (
-    16,
-    17,
-    20,
-    21,
-    23,
-    700,
-    701,
-    1700,
-)
+BOOL, BYTEA, INT8, INT2, INT4 = 16, 17, 20, 21, 23
+FLOAT4, FLOAT8, NUMERIC = 700, 701, 1700
 # Types whose binary form is their text: "char", name, text, json, xml, unknown, bpchar, varchar.
 TEXTS = (18, 19, 25, 114, 142, 705, 1042, 1043)
 NULL, TEXT, BINARY = b"ntb"
