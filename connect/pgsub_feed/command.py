@@ -22,8 +22,8 @@ from .pipe.serving import serve
 from .program import Worker, guarded, stop_by_signals
 from .reader.commits import Commit
 from .reader.polling import Poll
+from .reader.reading import Chosen
 from .reader.segments import Reader
-from .reader.selection import Chosen
 from .reader.whole import Whole
 from .relation import Relation
 from .sinks.first_rows import exported
@@ -75,10 +75,7 @@ class Options:
     )
     follow: bool = option("--follow", "go on with the commits that come", False)
     format: str = option(
-        "--format",
-        "default: objects",
-        "objects",
-        choices=["lines", "objects", "debezium", "bulk"],
+        "--format", "default: objects", "objects", choices=["lines", "objects", "debezium", "bulk"]
     )
     debezium: Sequence[str] = option(
         "--debezium NAME=VALUE", f"with --format debezium: {DEBEZIUM}", ()

@@ -16,7 +16,7 @@ from .pipe.following import SCHEME, Remote
 from .reader import commits
 from .reader.polling import Poll
 from .reader.positions import noted_of
-from .reader.selection import Chosen
+from .reader.reading import Chosen
 from .reader.whole import Whole
 from .relation import Relation
 from .sinks.first_rows import exported

@@ -7,9 +7,14 @@ afterwards.
 """
 
 import contextlib
+import errno
+import queue
 import signal
+import socket
 import threading
+import time
 from collections.abc import Callable, Iterator
+from typing import Any
 
 from .errors import Stopped
 
@@ -19,10 +24,40 @@ Check = Callable[[], None]
 # After how many seconds a call is ended once more, where Python has passed over the first try: it
 # does that with what is raised while an object is removed.
 AGAIN = 1.0
+# How often it is looked whether the end was asked for while a name is looked up, in seconds.
+TICK = 0.1
+# What getaddrinfo returns of a host: an address and how to make a socket for it.
+Address = tuple[Any, Any, int, str, Any]
 
 
 def never() -> None:
     """Asks for no end."""
+
+
+def looked_up(host: str, port: int | None, seconds: float, check: Check) -> list[Address]:
+    """A host's addresses. A name is looked up by another thread, since no signal ends that. An
+    OSError says why there are none, with the number ETIMEDOUT where it takes longer than that."""
+    end, found = time.monotonic() + seconds, queue.SimpleQueue[list[Address] | Exception]()
+
+    def look() -> None:
+        try:
+            found.put(socket.getaddrinfo(host, port, type=socket.SOCK_STREAM))
+        except (OSError, ValueError) as error:
+            # (a ValueError: it can't be a name)
+            found.put(error)
+
+    threading.Thread(target=look, daemon=True).start()
+    while True:
+        try:
+            said = found.get(timeout=TICK)
+        except queue.Empty:
+            check()
+            if time.monotonic() > end:
+                raise TimeoutError(errno.ETIMEDOUT, "its name isn't found in time") from None
+            continue
+        if isinstance(said, Exception):
+            raise said if isinstance(said, OSError) else OSError(errno.EINVAL, str(said))
+        return said
 
 
 def is_ended(check: Check) -> bool:
@@ -32,6 +67,14 @@ def is_ended(check: Check) -> bool:
     except Stopped:
         return True
     return False
+
+
+def rest(seconds: float, check: Check, step: float = 0.2) -> None:
+    """Sleeps for so many seconds, and calls `check` before each step of them."""
+    until = time.monotonic() + seconds
+    while (left := until - time.monotonic()) > 0:
+        check()
+        time.sleep(min(left, step))
 
 
 def stop(*_: object) -> None:

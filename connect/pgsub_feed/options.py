@@ -185,11 +185,7 @@ class Parser(argparse.ArgumentParser):
 
     def __init__(self, program: str, about: str, more: str | None) -> None:
         super().__init__(
-            program,
-            description=about,
-            epilog=more,
-            formatter_class=Formatter,
-            allow_abbrev=False,
+            program, description=about, epilog=more, formatter_class=Formatter, allow_abbrev=False
         )
 
     def names(self) -> list[str]:

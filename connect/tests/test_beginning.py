@@ -13,7 +13,7 @@ from unittest import mock
 from pgsub_connect.commands import drop, follow, refresh
 from pgsub_connect.drift.remembered import Remembered
 from pgsub_connect.errors import ServerError
-from pgsub_connect.follow.refused import leaving_nothing, own_files
+from pgsub_connect.commands.follow import leaving_nothing, own_files
 from pgsub_connect.server.catalog import Catalog
 from pgsub_connect.server.session import Subscription
 from pgsub_connect.status.progress import Progress

@@ -14,12 +14,17 @@ from collections.abc import Callable, Sequence
 from typing import Any, cast
 from unittest import mock
 
-from pgsub_connect.copy import copy_slot, files as files_module, interrupted, slots, table_reader
-from pgsub_connect.copy import tables as tables_module
+from pgsub_connect.copy import copier as copier_module, copy_slot, files as files_module
+from pgsub_connect.copy import interrupted, slots, table_reader, tables as tables_module
 from pgsub_connect.copy.copier import Copier, CopySettings
-from pgsub_connect.copy.load import frame as load_frame
-from pgsub_connect.copy.load import point_frame, table_frame
-from pgsub_connect.copy.messages import begin, commit, frame
+from pgsub_connect.copy.messages import (
+    begin,
+    commit,
+    frame,
+    load_frame,
+    point_frame,
+    table_frame,
+)
 from pgsub_connect.copy.rows_beside import RowsBeside, Several
 from pgsub_connect.copy.sender import Sender
 from pgsub_connect.copy.slots import create_slot
@@ -169,7 +174,7 @@ class Copying(Quiet):
         self.patch(table_reader, "LOOK", 0.001)
         self.patch(tables_module, "published_tables", lambda *_: list(self.tables))
         self.patch(publication_setup, "publishable_tables", lambda _: ['"public"."stock"'])
-        self.patch(Copier, "sleep", lambda copier, seconds: self.slept.append(seconds))
+        self.patch(copier_module, "rest", lambda seconds, _: self.slept.append(seconds))
         self.slept: list[float] = []
         self.beside = RowsBeside()
         for module in (tables_module, slots):

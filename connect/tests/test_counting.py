@@ -4,11 +4,11 @@ from __future__ import annotations
 
 import os
 
-from pgsub_connect.copy.load import text_frames
+from pgsub_connect.copy.messages import text_frames
 from pgsub_connect.store.checkpoint import Checkpoint
 from pgsub_connect.store.checkpoint_lines import COPIED, COPYING, FOLLOWING, NEW, SLOT
-from pgsub_connect.store.completeness import MOST_PARTS, is_being_copied, is_whole
-from pgsub_connect.store.copied_counts import counted_rows
+from pgsub_connect.store.at_rest import MOST_PARTS, is_being_copied, is_whole
+from pgsub_connect.copy.interrupted import counted_rows
 from pgsub_connect.store.file import opened
 from pgsub_feed.interruption import never
 

@@ -11,8 +11,7 @@ import unittest
 from pathlib import Path
 from unittest import mock
 
-from pgsub_connect.copy.load import frame as load_frame
-from pgsub_connect.copy.load import point_frame, table_frame
+from pgsub_connect.copy.messages import load_frame, point_frame, table_frame
 from pgsub_connect.errors import FilterFault
 from pgsub_connect.stream import filter as filter_module
 from pgsub_connect.stream.filter import LOAD, Filter

@@ -140,7 +140,7 @@ class Files(StoreCase):
             with contextlib.suppress(FileError):
                 remembered = Remembered(self.path)
                 # (what is taken is right: it can be looked through and written)
-                remembered.names.lines(), remembered.found_of(16384), remembered.text_of(16384)
+                remembered.names.written(), remembered.found_of(16384), remembered.text_of(16384)
                 remembered.save()
             made_publications(read_remembered(path))
         self.assertGreater(count, 1000)

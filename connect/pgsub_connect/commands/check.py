@@ -13,7 +13,7 @@ from ..preconditions.judged import results
 from ..preconditions.server import ERROR, Purpose
 from ..server.preflight import all_facts
 from ..server.transport import OWN
-from ..store.completeness import is_whole
+from ..store.at_rest import is_whole
 from .arguments.publishing import CopyOptions, add_copying, check_publishing
 from .arguments.server import StoreOptions, settled_store
 from .arguments.words import each, store_option

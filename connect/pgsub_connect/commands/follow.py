@@ -8,9 +8,10 @@ import contextlib
 import dataclasses
 import os
 import signal
+from collections.abc import Iterable, Iterator
 
 from pgsub_feed.errors import Stopped, Unfit
-from pgsub_feed.files import meant
+from pgsub_feed.files import meant, remove_files
 from pgsub_feed.interruption import Check, is_ended
 from pgsub_feed.options import add_fields, option
 from pgsub_feed.program import stop_by_signals
@@ -21,8 +22,8 @@ from ..drift.remembered import Remembered
 from ..errors import MISSED, LostSlot
 from ..follow.feed import Feeding
 from ..follow.follower import Follower
-from ..follow.refused import leaving_nothing, own_files
 from ..follow.request_socket import RequestSocket
+from ..follow.retention import remove_feed
 from ..follow.server_watch import Asker
 from ..follow.settings import FollowSettings
 from ..follow.snapshots import Snapshots
@@ -32,10 +33,10 @@ from ..server.preflight import require_published
 from ..status.files import STATUS, ReportSettings, Reporter
 from ..status.notify import notifier_of
 from ..status.progress import Progress
+from ..store.at_rest import is_whole
 from ..store.checkpoint import Checkpoint
-from ..store.checkpoint_lines import FOLLOWING, INTERRUPTED
-from ..store.completeness import is_whole
-from ..store.placing import check_meant
+from ..store.checkpoint_lines import COPYING, FOLLOWING, INTERRUPTED, NEW
+from ..store.placing import OF_STORE, check_meant
 from ..store.repeats_file import RepeatsFile
 from ..stream.common import Common, Tolerance
 from ..stream.filter import Filter
@@ -62,13 +63,7 @@ ENDS = words.ENDS
 
 @dataclasses.dataclass(frozen=True)
 class Options(
-    ServerOptions,
-    CopyOptions,
-    SizeOptions,
-    SessionOptions,
-    AlterOptions,
-    WatchOptions,
-    FeedOptions,
+    ServerOptions, CopyOptions, SizeOptions, SessionOptions, AlterOptions, WatchOptions, FeedOptions
 ):
     """What is followed, into which store, and for how long."""
 
@@ -146,6 +141,37 @@ def run(options: Options, check: Check) -> int:
     others = options.feed, options.tables, options.record
     with leaving_nothing(checkpoint, before, others):
         return follow_locked(options, checkpoint, check)
+
+
+def own_files(store: str) -> set[str]:
+    """The files of a store that are there; the program has its own ones where a link leads."""
+    names = {name + it for name in (store, meant(store)) for it in (STATUS, *OF_STORE)}
+    return {it for it in names if os.path.lexists(it)}
+
+
+@contextlib.contextmanager
+def leaving_nothing(
+    checkpoint: Checkpoint, before: set[str], others: Iterable[str | None]
+) -> Iterator[None]:
+    """Removes what wasn't among a store's files before, and others that weren't there, as a feed;
+    unless there is a slot by now that the next start goes on with. The checkpoint is locked, and so
+    goes last."""
+    new = [it for it in others if it and not os.path.lexists(it)]
+    try:
+        yield
+    finally:
+        if checkpoint.known.phase in (NEW, COPYING):
+            store = checkpoint.path.removesuffix(".connector")
+            made = own_files(store) - before
+            # (publications that can't be dropped now are remembered)
+            if store + ".tables" in made and Remembered(store).made:
+                made.remove(store + ".tables")
+            for path in (*new, *sorted(made, key=lambda it: it == checkpoint.path)):
+                with contextlib.suppress(OSError):
+                    if os.path.isdir(path):
+                        remove_feed(path)
+                    else:
+                        remove_files(path)
 
 
 def follow_locked(options: Options, checkpoint: Checkpoint, check: Check) -> int:

@@ -36,9 +36,7 @@ class Options(StoreOptions):
         False,
     )
     tables: str = option(
-        "--tables FILE",
-        "compare these tables that follow a feed, and hold nothing meanwhile",
-        "",
+        "--tables FILE", "compare these tables that follow a feed, and hold nothing meanwhile", ""
     )
     other: str = option(
         "--with FILE", "compare --tables with those of this file, and not with the server", ""
@@ -58,10 +56,7 @@ class Options(StoreOptions):
         False,
     )
     show: int = option(
-        "--show N",
-        "print at most N keys that differ (default: 20)",
-        20,
-        type=within(0, 1 << 20),
+        "--show N", "print at most N keys that differ (default: 20)", 20, type=within(0, 1 << 20)
     )
     hold: float = option(
         "--hold N",

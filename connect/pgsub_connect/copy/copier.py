@@ -1,7 +1,7 @@
 """The initial copy: the rows that were there before the slot.
 
 They are those of the snapshot that a slot exports (`copy.copy_slot`), and the filter loads them as
-COPY's own text before its first session (`copy.load`, `copy.sender`). Its load ends at the slot's
+COPY's own text before its first session (`copy.sender`). Its load ends at the slot's
 consistent point P, so a store is at that LSN exactly if no more rows come in this way; before, it is
 at a position that is none of a server's. The filter stays, and follows. What a fault leaves, by the
 checkpoint's phase:
@@ -25,6 +25,7 @@ import time
 
 from pgsub_feed import log
 from pgsub_feed.errors import FileError, Passing, Unfit
+from pgsub_feed.interruption import rest
 from pgsub_feed.log import Meter
 from pgsub_feed.program import Worker
 from pgsub_feed.texts import counted, lsn_text
@@ -110,7 +111,7 @@ class Copier(Worker):
         tries = Tries()
         try:
             while not self.attempted(tries):
-                self.sleep(tries.next_delay())
+                rest(tries.next_delay(), self.check_stop)
         except BaseException as error:
             self.beside.abandon()
             self.give_up(error)
@@ -171,12 +172,6 @@ class Copier(Worker):
     def note(self, text: str) -> None:
         log.warning(f"{text}: the copy {'goes on' if self.remembered.copied else 'begins anew'}")
         self.progress.note_error(text)
-
-    def sleep(self, seconds: float) -> None:
-        until = time.monotonic() + seconds
-        while (left := until - time.monotonic()) > 0:
-            self.check_stop()
-            time.sleep(min(left, 0.2))
 
     def check_stop(self) -> None:
         self.progress.beat()

@@ -10,8 +10,8 @@ from pgsub_feed.ownership import set_mode
 from pgsub_feed.texts import lsn_text
 
 from ..store.at_rest import hold
+from ..store.at_rest import MOST_PARTS
 from ..store.checkpoint_lines import COPIED, COPYING, SLOT
-from ..store.completeness import MOST_PARTS
 from ..store.snapshot import EARLIER, position_in
 
 

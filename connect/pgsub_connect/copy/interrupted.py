@@ -3,20 +3,29 @@ tables are whole. It goes on with these."""
 
 from __future__ import annotations
 
+import collections
 import contextlib
+import os
+import sqlite3
 
 from pgsub_feed import log
+from pgsub_feed.errors import FileError
+from pgsub_feed.interruption import Check
 from pgsub_feed.texts import counted
 
 from ..server.catalog import Table
 from ..server.connection import Connection
 from ..server.publications import sizes_of
 from ..server.session import is_lost, settle
-from ..store.copied_counts import counted_rows
+from ..store.at_rest import failed, hold
+from ..store.file import is_store, opened
 from ..stream.filter_end import FilterEnded
 from .files import CopyFiles
 from .sender import Sender
 from .tables import CopiedTables
+
+# After how many rows it is looked whether the end was asked for.
+STEP = 100_000
 
 
 class Interrupted:
@@ -88,3 +97,24 @@ class Interrupted:
             return self.position() == point
         except FilterEnded:
             return False
+
+
+def counted_rows(path: str, check: Check) -> collections.Counter[int]:
+    """How many rows of each table, by OID, a store has at rest: nobody has the file open, and its log
+    is empty."""
+    found, held = collections.Counter[int](), hold(path)
+    try:
+        if not is_store(path):
+            # (nothing was stored)
+            return found
+        with contextlib.closing(opened(path)) as store:
+            rows = store.execute("SELECT oid, copies FROM held NOT INDEXED")
+            for at, (oid, copies) in enumerate(rows):
+                if at % STEP == 0:
+                    check()
+                found[oid] += copies
+    except sqlite3.Error as error:
+        raise failed(error, path) from None
+    finally:
+        os.close(held)
+    return found

@@ -6,9 +6,8 @@ from collections.abc import Callable, Sequence
 from ..stream.filter import LOAD, Filter
 from ..stream.filter_end import BROKEN, FilterEnded
 from .copy_slot import CopySlot
-from .load import END_OF_TABLE, Frame, point_frame, table_frame
-from .load import frame as load_frame
-from .messages import begin, commit, frame
+from .messages import END_OF_TABLE, Frame, begin, commit, frame, load_frame, point_frame
+from .messages import table_frame
 from .table_reader import Part
 
 

@@ -81,12 +81,8 @@ class Source:
         if known.phase != FOLLOWING:
             raise Passing(f"{self.store} isn't followed yet")
         server = identify(self.replication)
-        timeline = known.timeline and server.timeline
-        ours, theirs = (known.system, known.database, known.timeline), (
-            server.system,
-            server.database,
-            timeline,
-        )
+        ours = known.system, known.database, known.timeline
+        theirs = server.system, server.database, known.timeline and server.timeline
         is_same = is_same_database(known.database, Remembered(self.store).database, server)
         if not is_same or (ours[0], ours[2]) != (theirs[0], theirs[2]):
             names = ("the server {}, database {}, timeline {}".format(*it) for it in (ours, theirs))
@@ -190,11 +186,8 @@ class Source:
         while not self.has_locked(leaves):
             if time.monotonic() > until:
                 if leaves:
-                    self.leave(
-                        {it.oid: why for it in self.tables if (why := locked(self.plain, it))},
-                        leaves,
-                    )
-                    return
+                    found = ((it.oid, locked(self.plain, it)) for it in self.tables)
+                    return self.leave({oid: why for oid, why in found if why}, leaves)
                 raise Passing(
                     f"published tables are locked by others for {self.patience:.0f} seconds: nothing was compared"
                 )
@@ -204,7 +197,7 @@ class Source:
     def has_locked(self, leaves: bool) -> bool:
         """Locks all tables, or none where one of them is to be waited for, or is gone."""
         try:
-            lock_tables(self.plain, self.tables, waits=False)
+            lock_tables(self.plain, self.tables)
         except ServerError as error:
             if error.sqlstate != LOCK_TIMEOUT and not (leaves and error.sqlstate in GONE):
                 raise

@@ -22,6 +22,7 @@ import time
 from collections.abc import Iterator, Mapping
 
 from pgsub_feed import log
+from pgsub_feed.interruption import rest
 from pgsub_feed.texts import literal
 
 from ..errors import ServerError
@@ -29,7 +30,7 @@ from ..server.catalog import Table
 from ..server.connection import Connection
 from ..server.publications import are_so_named, stored_in
 from ..server.session import Subscription, settle
-from .load import Frame, text_frames
+from .messages import Frame, text_frames
 from .rows_beside import RowsBeside
 
 # How many bytes a part has about, how many are read at a time, how many parts of the table that is
@@ -63,9 +64,6 @@ class Part:
         lengths = [*map(len, lines)]
         self.longest = max(self.longest, max(lengths))
         self.size += sum(lengths)
-
-    def end(self) -> None:
-        self.is_last = True
 
 
 @dataclasses.dataclass
@@ -275,7 +273,8 @@ class Readers:
 
     def read(self, connection: Connection, table: Table) -> None:
         """Reads a table; not one that is locked by somebody else, which comes later."""
-        self.rest(self.tried.get(table.oid, 0.0) + LOOK)
+        tried, check = self.tried.get(table.oid, 0.0), self.items.check
+        rest(tried + LOOK - time.monotonic(), check, LOOK)
         self.tried[table.oid] = time.monotonic()
         connection.run("BEGIN ISOLATION LEVEL REPEATABLE READ READ ONLY")
         take_snapshot(connection, self.reading.snapshot)
@@ -302,16 +301,11 @@ class Readers:
         for part in waiting:
             self.items.put(part)
 
-    def rest(self, until: float) -> None:
-        while (left := until - time.monotonic()) > 0:
-            self.items.check()
-            time.sleep(min(left, LOOK))
-
     def lock_table(self, connection: Connection, table: Table) -> str | None:
         """Locks a table. Returns why it is left out, "" where it is locked by somebody else, None
         where it is as it was."""
         try:
-            lock_tables(connection, [table], waits=False)
+            lock_tables(connection, [table])
             is_same = self.is_same(connection, table)
         except ServerError as error:
             if error.sqlstate in GONE:
@@ -321,23 +315,17 @@ class Readers:
             if table.oid not in self.locked:
                 log.info(f"{table.text()} is locked by others: it is read later")
             since = self.locked.setdefault(table.oid, time.monotonic())
-            return (
-                f"others have locked it for {PATIENCE:.0f} seconds"
-                if time.monotonic() - since > PATIENCE
-                else ""
-            )
+            is_over = time.monotonic() - since > PATIENCE
+            return f"others have locked it for {PATIENCE:.0f} seconds" if is_over else ""
         return None if is_same else "it was altered or truncated while the slot was made"
 
     def is_same(self, connection: Connection, table: Table) -> bool:
         """Whether a table that is locked has the files, the name and the columns that it had before
         the snapshot."""
-        missing = object()
         files = stored_in(connection, [table])
         with self.looking:
             named = are_so_named(self.looker, [table])
-        return named and all(
-            self.reading.stored.get(oid, missing) == node for oid, node in files.items()
-        )
+        return named and files.items() <= self.reading.stored.items()
 
 
 def parts_of(connection: Connection, table: Table, most: int, beside: RowsBeside) -> Iterator[Part]:
@@ -349,7 +337,7 @@ def parts_of(connection: Connection, table: Table, most: int, beside: RowsBeside
             part = Part(table, is_first=False, longest=part.longest)
         beside.take(table, lines)
         part.add(lines, most)
-    part.end()
+    part.is_last = True
     yield part
 
 
@@ -359,18 +347,17 @@ def take_snapshot(plain: Connection, snapshot: str) -> None:
     try:
         plain.run(f"SET TRANSACTION SNAPSHOT {literal(snapshot)}")
     except ServerError as error:
-        raise ServerError(
-            str(error), "" if error.sqlstate == NO_SNAPSHOT else error.sqlstate
-        ) from None
+        sqlstate = "" if error.sqlstate == NO_SNAPSHOT else error.sqlstate
+        raise ServerError(str(error), sqlstate) from None
 
 
-def lock_tables(plain: Connection, tables: list[Table], waits: bool = True) -> None:
-    """Locks tables against whoever alters or truncates them."""
+def lock_tables(plain: Connection, tables: list[Table]) -> None:
+    """Locks tables against whoever alters or truncates them. None is waited for."""
     if not tables:
         return
     names = ", ".join(table.sql_name() for table in tables)
     try:
-        plain.run(f"LOCK TABLE {names} IN ACCESS SHARE MODE{'' if waits else ' NOWAIT'}")
+        plain.run(f"LOCK TABLE {names} IN ACCESS SHARE MODE NOWAIT")
     except ServerError as error:
         if error.sqlstate != DENIED:
             raise

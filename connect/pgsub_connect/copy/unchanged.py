@@ -66,7 +66,7 @@ def locked(plain: Connection, table: Table) -> str:
     """Locks a table, unless it is to be waited for. Returns why it isn't, "" where it is."""
     plain.run("SAVEPOINT one")
     try:
-        lock_tables(plain, [table], waits=False)
+        lock_tables(plain, [table])
     except ServerError as error:
         if error.sqlstate != LOCK_TIMEOUT and error.sqlstate not in GONE:
             raise

@@ -4,6 +4,7 @@ was found by it."""
 import dataclasses
 from typing import Any
 
+from pgsub_feed.json_texts import text_of
 from pgsub_feed.relation import Relation, Shape
 from pgsub_feed.texts import lsn_text, parse_lsn
 
@@ -66,7 +67,7 @@ class Baseline:
 
     def touch(self) -> None:
         """Something is new that has to be on the disk before anything more is confirmed."""
-        self.unsaved.touch()
+        self.unsaved.change(True)
 
     def publications(self) -> list[str]:
         """The names of those that are followed."""
@@ -288,9 +289,3 @@ def described(table: Table, relation: Relation, is_told: bool) -> Table:
 
 def names_and_types(shape: Shape) -> list[tuple[str, int, int]]:
     return [(it.name, it.type_oid, it.modifier) for it in shape.columns]
-
-
-def text_of(it: object) -> str:
-    if not isinstance(it, str):
-        raise TypeError
-    return it

@@ -95,9 +95,8 @@ def are_empty(connection: Connection, table: Table, columns: Sequence[str]) -> b
 def since_of(connection: Connection, before: Catalog) -> str:
     """The first transaction that an earlier reading may not have seen, as the server knows it; ""
     where that isn't known, or is too long ago."""
-    now = connection.text(
-        "SELECT pg_catalog.txid_snapshot_xmax(pg_catalog.txid_current_snapshot())"
-    )
+    query = "SELECT pg_catalog.txid_snapshot_xmax(pg_catalog.txid_current_snapshot())"
+    now = connection.text(query)
     is_known = before.running and int(now) - before.running < OLDEST
     return str(before.running % (1 << 32)) if is_known else ""
 

@@ -46,12 +46,10 @@ NOTHING = About()
 
 def about_of(said: dict[str, Any]) -> About:
     """What a file has kept of one. What only a later version has is left to that."""
-    known = {name: it for name, it in said.items() if name in About._fields}
-    numbers = {
-        "tables": tuple(map(int, said.get("tables", ()))),
-        "type_oid": int(said.get("type_oid", 0)),
-    }
-    return About(**{**known, **numbers})
+    known: dict[str, Any] = {name: it for name, it in said.items() if name in About._fields}
+    known["tables"] = tuple(map(int, said.get("tables", ())))
+    known["type_oid"] = int(said.get("type_oid", 0))
+    return About(**known)
 
 
 class Difference(NamedTuple):

@@ -115,11 +115,6 @@ class Names(dict[Key, Name]):
             self[schema, table] = Name(oid, parse_lsn(since), [int(it) for it in before])
         self.held = {it.oid: key for key, it in self.items() if it.oid is not None}
 
-    def lines(self) -> list[dict[str, Any]]:
-        """What `pgsub-connect names` prints."""
-        fields = "schema", "table", "oid", "since", "before"
-        return [dict(zip(fields, it)) for it in self.written()]
-
 
 def names_text(key: tuple[str, str], oid: int, before: int) -> str:
     return f"{'.'.join(key)} is table {oid} now, and was {before} before: rows of both have this name here"

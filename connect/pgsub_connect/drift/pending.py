@@ -67,10 +67,6 @@ class Unsaved:
         """What Relation messages said is there."""
         self.noted, self.is_urgent = [], False
 
-    def touch(self) -> None:
-        """Something is new, and urgent."""
-        self.change(True)
-
     def change(self, is_urgent: bool = False) -> None:
         """Something is new."""
         self.note(is_urgent)

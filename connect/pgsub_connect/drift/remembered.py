@@ -172,5 +172,6 @@ def print_names(store: str) -> None:
         raise FileError(f"there is no store {store}")
     if remembered.catalog is None:
         raise FileError(f"{remembered.path}: there is no such file yet: the next session makes it")
-    for line in remembered.names.lines():
-        print(json.dumps(line, ensure_ascii=False))
+    fields = "schema", "table", "oid", "since", "before"
+    for it in remembered.names.written():
+        print(json.dumps(dict(zip(fields, it)), ensure_ascii=False))

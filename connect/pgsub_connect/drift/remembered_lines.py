@@ -29,14 +29,14 @@ What another program has written there is rejected before anything is taken from
 only later versions have are left to these; those that earlier ones hadn't may be missing.
 """
 
-import contextlib
 import os
 from collections.abc import Callable
 from typing import Any
 
-from pgsub_feed import json_texts
 from pgsub_feed.errors import FileError, Passing
-from pgsub_feed.files import replace_file
+from pgsub_feed.files import replace_file, remove
+from pgsub_feed.json_texts import LARGEST, Unreadable, flag_of, list_of, lsn_of, object_of, oid_of
+from pgsub_feed.json_texts import parsed, read_plain, text_of, whole_of
 from pgsub_feed.texts import is_utf_8
 
 # How many bytes may follow the first line before the file is replaced, where that line is shorter.
@@ -76,8 +76,7 @@ class DurableFile:
     def remove(self) -> None:
         self.first = 0
         try:
-            with contextlib.suppress(FileNotFoundError):
-                os.unlink(self.path)
+            remove(self.path)
         except OSError as error:
             raise FileError(f"{self.path}: {error.strerror}") from None
 
@@ -105,19 +104,19 @@ Kind = Callable[[Any], object]
 def read_lines(path: str) -> tuple[dict[str, Any], list[bytes]]:
     """What the file with this name says, and the lines that were added to it. (What is after the
     last newline was never synced.)"""
-    first, *more = json_texts.read_plain(path, json_texts.LARGEST).split(b"\n")
-    return json_texts.object_of(json_texts.parsed(first, json_texts.LARGEST)), more[:-1]
+    first, *more = read_plain(path, LARGEST).split(b"\n")
+    return object_of(parsed(first, LARGEST)), more[:-1]
 
 
 def name(value: Any) -> None:
     """A text that can be written again."""
-    if not is_utf_8(json_texts.text_of(value)):
-        raise json_texts.Unreadable("a text that isn't UTF-8")
+    if not is_utf_8(text_of(value)):
+        raise Unreadable("a text that isn't UTF-8")
 
 
 def signed(value: Any) -> None:
     """A number as that of a column or a type modifier."""
-    json_texts.whole_of(value, -(1 << 31), 1 << 31)
+    whole_of(value, -(1 << 31), 1 << 31)
 
 
 def maybe(kind: Kind) -> Kind:
@@ -134,7 +133,7 @@ def each(kind: Kind) -> Kind:
     """A list of these."""
 
     def check(value: Any) -> None:
-        for it in json_texts.list_of(value):
+        for it in list_of(value):
             kind(it)
 
     return check
@@ -144,12 +143,9 @@ def row(*kinds: Kind, least: int | None = None) -> Kind:
     """A list of one of each; `least`: the others may be missing."""
 
     def check(value: Any) -> None:
-        if (
-            not (len(kinds) if least is None else least)
-            <= len(json_texts.list_of(value))
-            <= len(kinds)
-        ):
-            raise json_texts.Unreadable(f"{len(value)} values in place of {len(kinds)}")
+        fewest = len(kinds) if least is None else least
+        if not fewest <= len(list_of(value)) <= len(kinds):
+            raise Unreadable(f"{len(value)} values in place of {len(kinds)}")
         for kind, it in zip(kinds, value):
             kind(it)
 
@@ -160,7 +156,7 @@ def mapped(key: Kind, kind: Kind) -> Kind:
     """An object whose fields have names of a kind, and values of another one."""
 
     def check(value: Any) -> None:
-        for field, it in json_texts.object_of(value).items():
+        for field, it in object_of(value).items():
             key(field)
             kind(it)
 
@@ -171,9 +167,9 @@ def fields(needed: dict[str, Kind], **optional: Kind) -> Kind:
     """An object with these fields, and perhaps others."""
 
     def check(value: Any) -> None:
-        said = json_texts.object_of(value)
+        said = object_of(value)
         if missing := needed.keys() - said.keys():
-            raise json_texts.Unreadable(f"there is no {min(missing)}")
+            raise Unreadable(f"there is no {min(missing)}")
         for field, kind in {**needed, **optional}.items():
             if field in said:
                 kind(said[field])
@@ -181,45 +177,43 @@ def fields(needed: dict[str, Kind], **optional: Kind) -> Kind:
     return check
 
 
-COLUMN = row(name, json_texts.oid_of, signed, json_texts.flag_of, signed)
+COLUMN = row(name, oid_of, signed, flag_of, signed)
 SHAPE = row(name, each(COLUMN))
 PUBLICATION = fields(
     {
-        "oid": json_texts.oid_of,
-        "whole": json_texts.flag_of,
+        "oid": oid_of,
+        "whole": flag_of,
         "actions": each(name),
-        "via_root": json_texts.flag_of,
-        "generated": json_texts.flag_of,
+        "via_root": flag_of,
+        "generated": flag_of,
     },
-    owner=json_texts.oid_of,
+    owner=oid_of,
     since=name,
 )
 TABLE = fields(
     {
-        "oid": json_texts.oid_of,
+        "oid": oid_of,
         "schema": name,
         "name": name,
         "kind": name,
         "identity": name,
         "columns": each(COLUMN),
-        "parts": mapped(name, row(maybe(name), maybe(each(signed)), json_texts.flag_of)),
+        "parts": mapped(name, row(maybe(name), maybe(each(signed)), flag_of)),
     },
     since=mapped(name, maybe(each(name))),
-    node=json_texts.oid_of,
+    node=oid_of,
     altered=name,
     primary=each(name),
-    indexes=each(row(json_texts.oid_of, name, each(row(name, json_texts.flag_of)), name)),
+    indexes=each(row(oid_of, name, each(row(name, flag_of)), name)),
 )
-PARTITION = row(
-    json_texts.oid_of, json_texts.oid_of, name, json_texts.flag_of, json_texts.oid_of, least=4
-)
+PARTITION = row(oid_of, oid_of, name, flag_of, oid_of, least=4)
 ABOUT = fields(
     {},
-    tables=each(json_texts.oid_of),
+    tables=each(oid_of),
     publication=name,
-    type_oid=json_texts.oid_of,
+    type_oid=oid_of,
     lacks=name,
-    is_missing=json_texts.flag_of,
+    is_missing=flag_of,
     gone=name,
     added=name,
 )
@@ -230,35 +224,33 @@ def texts(value: Any) -> None:
     (each(name) if isinstance(value, list) else mapped(name, ABOUT))(value)
 
 
-NOTED = each(row(json_texts.lsn_of, json_texts.oid_of, name, name, name, each(COLUMN)))
-BEGUN = fields({"made": mapped(name, json_texts.oid_of)}, feed=name, base=json_texts.flag_of)
+NOTED = each(row(lsn_of, oid_of, name, name, name, each(COLUMN)))
+BEGUN = fields({"made": mapped(name, oid_of)}, feed=name, base=flag_of)
 COPIED = fields(
     {
         "followed": each(name),
-        "lsn": json_texts.lsn_of,
-        "highest": json_texts.oid_of,
+        "lsn": lsn_of,
+        "highest": oid_of,
         "publications": mapped(name, PUBLICATION),
         "tables": each(TABLE),
         "partitions": each(PARTITION),
-        "types": mapped(json_texts.oid_of, mapped(name, name)),
-        "sent": mapped(json_texts.oid_of, row(json_texts.lsn_of, maybe(SHAPE))),
-        "names": each(
-            row(name, name, maybe(json_texts.oid_of), json_texts.lsn_of, each(json_texts.oid_of))
-        ),
-        "found": mapped(name, row(json_texts.lsn_of, texts, json_texts.whole_of)),
-        "told": mapped(name, json_texts.lsn_of),
-        "left": each(json_texts.oid_of),
+        "types": mapped(oid_of, mapped(name, name)),
+        "sent": mapped(oid_of, row(lsn_of, maybe(SHAPE))),
+        "names": each(row(name, name, maybe(oid_of), lsn_of, each(oid_of))),
+        "found": mapped(name, row(lsn_of, texts, whole_of)),
+        "told": mapped(name, lsn_of),
+        "left": each(oid_of),
     },
-    attached=mapped(json_texts.oid_of, name),
-    mended=mapped(name, each(json_texts.oid_of)),
-    wanted=mapped(json_texts.oid_of, name),
-    copied=mapped(json_texts.oid_of, json_texts.whole_of),
-    unwanted=each(json_texts.oid_of),
-    partial=each(json_texts.oid_of),
-    unlogged=each(json_texts.oid_of),
-    toast=mapped(json_texts.oid_of, json_texts.oid_of),
-    running=json_texts.whole_of,
-    database=maybe(row(json_texts.oid_of, name)),
+    attached=mapped(oid_of, name),
+    mended=mapped(name, each(oid_of)),
+    wanted=mapped(oid_of, name),
+    copied=mapped(oid_of, whole_of),
+    unwanted=each(oid_of),
+    partial=each(oid_of),
+    unlogged=each(oid_of),
+    toast=mapped(oid_of, oid_of),
+    running=whole_of,
+    database=maybe(row(oid_of, name)),
 )
 
 
@@ -271,6 +263,6 @@ def check_said(said: dict[str, Any]) -> None:
 
 def noted_in(line: bytes) -> list[Any]:
     """The Relation messages of a line that was added."""
-    said = json_texts.list_of(json_texts.parsed(line, json_texts.LARGEST))
+    said = list_of(parsed(line, LARGEST))
     NOTED(said)
     return said

@@ -1,5 +1,6 @@
 """A follower: `follower` has its sessions (`session_start`, `session`, `schedule`), `fitness` what
 is looked at before one, `comparing` from where one asks, `filter_life` the filter between them,
-`upkeep` what goes on meanwhile. `requests` come by `request_socket`: `snapshots`, `repair`. `settings` says how, `refused` undoes a
-start. `drift_watch` and `altered` look at definitions, `server_watch` at the slot. `feed` has what
-reads beside it: `process_beside`, `first_rows`, `feed_keeper`, `feed_types`, `retention`."""
+`upkeep` what goes on meanwhile. `requests` come by `request_socket`: `snapshots`, `repair`.
+`settings` says how. `drift_watch` and `altered` look at definitions, `server_watch` at the slot.
+`feed` has what reads beside it: `process_beside`, `first_rows`, `feed_keeper`, `feed_types`,
+`retention`."""

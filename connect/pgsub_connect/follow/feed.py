@@ -26,7 +26,7 @@ from collections.abc import Callable
 
 from pgsub_feed import log
 from pgsub_feed.errors import Damaged, FileError, Unfit
-from pgsub_feed.interruption import Check, never
+from pgsub_feed.interruption import Check, never, rest
 from pgsub_feed.reader.base import remove_begun
 from pgsub_feed.reader.positions import make_folder
 from pgsub_feed.reader.segments import Reader, read_confirmed, read_source, segments
@@ -37,8 +37,8 @@ from ..errors import Unread
 from ..server.connection import Connection
 from ..server.session import identify, settle
 from ..store.at_rest import has_log
+from ..store.at_rest import is_whole
 from ..store.checkpoint_lines import COPIED, FOLLOWING, INTERRUPTED
-from ..store.completeness import is_whole
 from ..store.snapshot import position_in
 from ..stream.common import Common
 from ..stream.filter import Filter
@@ -52,8 +52,8 @@ from .retention import Limits
 
 # How long a filter that is to end is waited for, before it is looked whether the end was asked for.
 STEP = 0.5
-# After how many seconds a store that can't be opened is tried again, in steps of how many.
-AGAIN, SLEEP = 5, 0.2
+# After how many seconds a store that can't be opened is tried again.
+AGAIN = 5
 # For how many seconds tables and sinks are waited for until that is told.
 UNTOLD = 5.0
 # What the filter says of a feed that doesn't fit its store.
@@ -92,7 +92,8 @@ class Feeding:
         self.first_rows = (
             FirstRows(settings.tables, self.checkpoint.file) if settings.tables else RowsBeside()
         )
-        self.base = self.base_rows() if settings.has_base else None
+        at = self.folder, settings.store, settings.mode
+        self.base = BaseRows(*at, self.checkpoint) if settings.has_base else None
         self.types = TypesFile(self.folder, settings.mode, self.remembered)
         self.keeper: Keeper | None = None
         self.beside: Beside | None = None
@@ -103,10 +104,6 @@ class Feeding:
         self.tells_from = 0.0
         # the end of the last commit of which the tables were told
         self.told: int | None = None
-
-    def base_rows(self) -> BaseRows:
-        it = self.settings
-        return BaseRows(self.folder, it.store, it.mode, self.checkpoint)
 
     def rows_beside(self, check: Check = never) -> Several:
         """What gets the rows of an initial copy."""
@@ -365,7 +362,4 @@ def opened_at(child: Filter, check: Check) -> int | None:
             log.warning(f"{ended}: the store is tried again in {counted(AGAIN, 'second')}")
         finally:
             other.kill()
-        until = time.monotonic() + AGAIN
-        while time.monotonic() < until:
-            check()
-            time.sleep(SLEEP)
+        rest(AGAIN, check)

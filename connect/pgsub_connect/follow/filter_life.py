@@ -3,10 +3,10 @@ means."""
 
 import contextlib
 import itertools
-import time
 
 from pgsub_feed import log
 from pgsub_feed.errors import FileError, Passing, Stopped
+from pgsub_feed.interruption import rest
 from pgsub_feed.log import Meter
 from pgsub_feed.texts import counted
 
@@ -90,7 +90,7 @@ class FilterLife:
             log.warning(
                 f"the store can't be opened now, as where another program has it open: it is tried again in {counted(delay, 'second')}"
             )
-            self.sleep(delay)
+            rest(delay, self.ending.check_stop, SLEEP)
         raise AssertionError
 
     def note_unusable(self, said: str) -> None:
@@ -102,12 +102,6 @@ class FilterLife:
         else:
             self.filter.note_repeats(None)
             self.watch.hear([Told(UNWATCHED, f"commits that come again: {said}")], 0)
-
-    def sleep(self, seconds: float) -> None:
-        until = time.monotonic() + seconds
-        while (left := until - time.monotonic()) > 0:
-            self.ending.check_stop()
-            time.sleep(min(left, SLEEP))
 
     def serve(
         self, timeout: float, reads: Numbers = (), writes: Numbers = (), awake: Awake | None = None

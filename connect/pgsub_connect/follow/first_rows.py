@@ -11,6 +11,7 @@ from __future__ import annotations
 
 import contextlib
 import fcntl
+import json
 import os
 import subprocess
 import sys
@@ -19,14 +20,14 @@ import time
 
 from pgsub_feed import log
 from pgsub_feed.files import meant, remove_files
-from pgsub_feed.interruption import Check
+from pgsub_feed.interruption import Check, never
 from pgsub_feed.reader.base import has_base, remove_begun
 
 from ..copy.rows_beside import RowsBeside
 from ..server.catalog import Table
-from ..store import base_files
+from ..store import base_files, copied_rows
 from ..store.checkpoint import Checkpoint
-from ..store.copied_rows import DONE, Wanted, rows_frame
+from ..store.copied_rows import DONE, rows_frame
 from .process_beside import START, TablesSettings, environment
 
 CODE = f"{START}from pgsub_connect.store.%s import run; run()"
@@ -46,7 +47,7 @@ class FromCopy(RowsBeside):
         self.has_all = False
         self.writing = threading.Lock()
 
-    def words(self, point: int) -> list[str]:
+    def wanted(self, point: int) -> copied_rows.Wanted | base_files.Wanted:
         """What it is told."""
         raise NotImplementedError
 
@@ -59,7 +60,7 @@ class FromCopy(RowsBeside):
         try:
             # (a session of its own: an interrupt at the terminal is for the follower)
             self.child = child = subprocess.Popen(
-                [sys.executable, "-c", CODE % self.module, *self.words(point)],
+                [sys.executable, "-c", CODE % self.module, json.dumps(self.wanted(point))],
                 bufsize=0,
                 stdin=subprocess.PIPE,
                 start_new_session=True,
@@ -124,9 +125,9 @@ class FirstRows(FromCopy):
         super().__init__(settings.path, "copied_rows", checkpoint)
         self.settings = settings
 
-    def words(self, point: int) -> list[str]:
+    def wanted(self, point: int) -> copied_rows.Wanted:
         it = self.settings
-        return Wanted(it.path, it.store, it.feed, it.numeric, it.mode, point).words()
+        return copied_rows.Wanted(it.path, it.store, it.feed, it.numeric, it.mode, point)
 
     def is_ready(self, check: Check) -> bool:
         """(It has begun before anything follows, by which tables may be altered.)"""
@@ -158,25 +159,25 @@ class BaseRows(FromCopy):
         super().__init__(feed, "base_files", checkpoint.file)
         self.store, self.mode, self.known = store, mode, checkpoint
 
-    def words(self, point: int) -> list[str]:
+    def wanted(self, point: int) -> base_files.Wanted:
         it = self.known.known
         source = it.system, it.database, it.slot
-        return base_files.Wanted(self.name, self.store, self.mode, point, *source).words()
+        return base_files.Wanted(self.name, self.store, self.mode, point, *source)
 
     def forget(self, child: int) -> None:
         remove_begun(self.name)
 
-    def wait(self) -> None:
+    def wait(self, check: Check = never) -> None:
+        while self.child and self.child.poll() is None:
+            check()
+            time.sleep(STEP)
         if self.child:
             self.is_whole(self.child)
         remove_begun(self.name)
 
     def is_ready(self, check: Check) -> bool:
         self.end()
-        while self.child and self.child.poll() is None:
-            check()
-            time.sleep(STEP)
-        self.wait()
+        self.wait(check)
         return has_base(self.name)
 
     def complete(self, is_copied: bool, check: Check) -> None:
@@ -194,7 +195,4 @@ class BaseRows(FromCopy):
         log.info(f"{self.name}: its first rows are read from {self.store}")
         self.module = "base_of_store"
         self.begin(self.known.known.position)
-        while self.child and self.child.poll() is None:
-            check()
-            time.sleep(STEP)
-        self.wait()
+        self.wait(check)

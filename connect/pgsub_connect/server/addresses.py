@@ -3,21 +3,18 @@ them."""
 
 import contextlib
 import difflib
+import errno
 import ipaddress
 import os
 import re
-import socket
-import threading
-import time
 
 import psycopg
 from psycopg import pq
 from psycopg.conninfo import conninfo_to_dict
 
-from pgsub_feed.interruption import Check
+from pgsub_feed.interruption import Check, looked_up
 
 from ..errors import ServerError, Unconnected
-from .libpq import TICK
 
 # After how many seconds a host is given up, at most.
 CONNECT_LIMIT = 10.0
@@ -104,28 +101,17 @@ def is_resolved(settings: dict[str, str]) -> bool:
 
 
 def addresses_of(settings: dict[str, str], check: Check) -> list[dict[str, str]]:
-    """The settings with each address of their host. The look-up is left to a thread, since nothing
-    can interrupt it."""
+    """The settings with each address of their host."""
     if is_resolved(settings):
         return [settings]
-    host, found, failed = settings.get("host") or os.environ["PGHOST"], list[str](), list[OSError]()
-
-    def look_up() -> None:
-        try:
-            answers = socket.getaddrinfo(host, None, type=socket.SOCK_STREAM)
-            found.extend(dict.fromkeys(str(answer[4][0]) for answer in answers))
-        except OSError as error:
-            failed.append(error)
-
-    thread = threading.Thread(target=look_up, daemon=True)
-    thread.start()
-    until = time.monotonic() + CONNECT_LIMIT
-    while thread.is_alive() and time.monotonic() < until:
-        thread.join(TICK / 2)
-        check()
-    if not found:
-        why = failed[0].strerror if failed else f"no answer within {CONNECT_LIMIT:.0f} seconds"
-        raise Unconnected(f"the host {host} can't be looked up: {why}")
+    host = settings.get("host") or os.environ["PGHOST"]
+    try:
+        answers = looked_up(host, None, CONNECT_LIMIT, check)
+    except OSError as error:
+        is_late = error.errno == errno.ETIMEDOUT
+        why = f"no answer within {CONNECT_LIMIT:.0f} seconds" if is_late else error.strerror
+        raise Unconnected(f"the host {host} can't be looked up: {why}") from None
+    found = dict.fromkeys(str(answer[4][0]) for answer in answers)
     return [{**settings, "hostaddr": address} for address in found]
 
 

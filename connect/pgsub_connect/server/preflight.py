@@ -21,17 +21,11 @@ from .transport import Protection
 from .waits import prepared_texts
 
 SETTINGS = (
-    "wal_level",
-    "max_replication_slots",
-    "max_wal_senders",
-    "max_slot_wal_keep_size",
-    "idle_replication_slot_timeout",
-    "wal_sender_timeout",
-    "max_locks_per_transaction",
-    "max_connections",
-    "max_prepared_transactions",
-    "server_encoding",
+    *("wal_level", "max_replication_slots", "max_wal_senders", "max_slot_wal_keep_size"),
+    *("idle_replication_slot_timeout", "wal_sender_timeout", "max_locks_per_transaction"),
+    *("max_connections", "max_prepared_transactions", "server_encoding"),
 )
+# The role of Amazon RDS whose members may replicate without the attribute.
 RDS = "rds_replication"
 
 
@@ -131,12 +125,6 @@ def role_facts(connection: Connection) -> Role:
     return Role(name or "", true(superuser), true(replicates) or true(superuser), true(creates))
 
 
-def replicators(connection: Connection) -> str:
-    """The role of Amazon RDS whose members may replicate without the attribute."""
-    query = f"SELECT r.rolname FROM pg_catalog.pg_roles r WHERE r.rolname = {literal(RDS)}"
-    return connection.value(query) or ""
-
-
 @understood("the publications")
 def with_publications(connection: Connection, facts: Facts, wanted: Wanted) -> Facts:
     """Facts with what concerns the publications, and the tables that they have or would have."""
@@ -226,7 +214,8 @@ def all_facts(dsn: str, slot: str, wanted: Wanted, check: Check) -> Facts:
     with closing(Connection(dsn, name=f"{slot} check", check=check)) as connection:
         facts = with_publications(connection, server_facts(connection, slot), wanted)
         prepared = prepared_texts(connection)
-        provided = "" if facts.role.replicates else replicators(connection)
+        rds = f"SELECT r.rolname FROM pg_catalog.pg_roles r WHERE r.rolname = '{RDS}'"
+        provided = "" if facts.role.replicates else connection.value(rds) or ""
     why = ""
     try:
         Connection(dsn, replication=True, name=f"{slot} check", check=check).close()

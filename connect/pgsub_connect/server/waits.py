@@ -38,26 +38,19 @@ def texts_of(connection: Connection, query: str, what: str) -> list[str]:
     ]
 
 
-def running_texts(connection: Connection) -> list[str]:
-    """The oldest transactions that write. When one of another role began, only a role may see that
-    reads all statistics."""
-    return texts_of(connection, RUNNING, "the transaction of process")
-
-
 def prepared_texts(connection: Connection) -> list[str]:
     """The oldest prepared transactions, of any database."""
     return texts_of(connection, PREPARED, "the prepared transaction")
 
 
-def what_is_waited_for(connection: Connection) -> str:
-    if connection.value("SELECT pg_catalog.pg_is_in_recovery()") == "t":
-        return "a record of the running transactions: SELECT pg_log_standby_snapshot() at the primary writes one"
-    texts = running_texts(connection) + prepared_texts(connection)
-    return "; ".join(texts) if texts else "transactions that have ended by now"
-
-
 def slot_text(connection: Connection) -> str:
-    return f"the slot waits for {what_is_waited_for(connection)}"
+    """What a new slot waits for: the oldest transactions that write. (When one of another role
+    began, only a role may see that reads all statistics.)"""
+    if connection.value("SELECT pg_catalog.pg_is_in_recovery()") == "t":
+        return "the slot waits for a record of the running transactions: SELECT pg_log_standby_snapshot() at the primary writes one"
+    texts = texts_of(connection, RUNNING, "the transaction of process")
+    texts += prepared_texts(connection)
+    return f"the slot waits for {'; '.join(texts) or 'transactions that have ended by now'}"
 
 
 @understood("locks")

@@ -1,7 +1,7 @@
 """What a follower shows, in the text format that Prometheus reads (the one of its node_exporter's
 textfile collector)."""
 
-from collections.abc import Iterator, Mapping
+from collections.abc import Iterable, Iterator, Mapping
 from typing import NamedTuple
 
 from pgsub_feed.version import VERSION
@@ -32,12 +32,8 @@ class Metric(NamedTuple):
     samples: list[Sample]
 
 
-def gauge(name: str, about: str, value: Value) -> Metric:
-    return Metric(name, GAUGE, about, [({}, value)])
-
-
-def counter(name: str, about: str, value: Value) -> Metric:
-    return Metric(name, COUNTER, about, [({}, value)])
+def gauge(name: str, about: str, value: Value, kind: str = GAUGE) -> Metric:
+    return Metric(name, kind, about, [({}, value)])
 
 
 def chosen(name: str, about: str, label: str, values: tuple[str, ...], which: set[str]) -> Metric:
@@ -51,34 +47,39 @@ def metrics(progress: Progress, now: float) -> Iterator[Metric]:
     labels = {**versions, "server": str(progress.server.version or "")}
     yield Metric("pgsub_info", GAUGE, "Versions of what follows.", [(labels, 1)])
     yield chosen("pgsub_state", "What the follower is at.", "state", STATES, {progress.state})
-    text = "When the main loop was alive last."
-    yield gauge("pgsub_heartbeat_timestamp_seconds", text, progress.heartbeat)
-    yield from stream_metrics(progress.stream, now)
+    beat = "pgsub_heartbeat_timestamp_seconds", "When the main loop was alive last."
+    yield gauge(*beat, progress.heartbeat)
+    yield from (gauge(*it) for it in of_stream(progress.stream, now))
     yield from slot_metrics(progress.slot)
     text = "What was found that may have made the copy wrong."
     yield chosen("pgsub_found", text, "kind", KINDS, set(progress.findings.found))
     if progress.findings.counted is not None:
-        yield from missing_metrics(progress.findings.counted)
+        yield from (gauge(*it) for it in of_missing(progress.findings.counted))
     if progress.feed.bytes is not None:
         yield from feed_metrics(progress)
-    yield from counters(progress)
+    yield from (gauge(*it) for it in of_totals(progress))
 
 
-def stream_metrics(stream: StreamCounters, now: float) -> Iterator[Metric]:
-    text = "When the server's last message came."
-    yield gauge("pgsub_last_message_timestamp_seconds", text, stream.last_message)
-    text = "Commit time of the last commit that is confirmed."
-    yield gauge("pgsub_last_commit_timestamp_seconds", text, stream.lag.last_commit)
-    text = "End of the last commit that the store has."
-    yield gauge("pgsub_position_lsn", text, stream.position)
-    text = "LSN up to which the copy is complete and confirmed."
-    yield gauge("pgsub_confirmed_lsn", text, stream.confirmed)
-    text = "Where the server's log ends."
-    yield gauge("pgsub_server_end_lsn", text, stream.server_end() or None)
-    text = "How much of the server's log the copy lacks."
-    yield gauge("pgsub_lag_bytes", text, stream.lag_bytes())
-    text = "At most how old the oldest commit is that the copy lacks."
-    yield gauge("pgsub_lag_seconds", text, stream.lag.seconds(now))
+# What `gauge` is told of metrics without labels of their own.
+Told = Iterable[tuple[str, str, Value] | tuple[str, str, Value, str]]
+
+
+def of_stream(it: StreamCounters, now: float) -> Told:
+    message, commit = "pgsub_last_message_timestamp_seconds", "pgsub_last_commit_timestamp_seconds"
+    age = "At most how old the oldest commit is that the copy lacks."
+    return (
+        (message, "When the server's last message came.", it.last_message),
+        (commit, "Commit time of the last commit that is confirmed.", it.lag.last_commit),
+        ("pgsub_position_lsn", "End of the last commit that the store has.", it.position),
+        (
+            "pgsub_confirmed_lsn",
+            "LSN up to which the copy is complete and confirmed.",
+            it.confirmed,
+        ),
+        ("pgsub_server_end_lsn", "Where the server's log ends.", it.server_end() or None),
+        ("pgsub_lag_bytes", "How much of the server's log the copy lacks.", it.lag_bytes()),
+        ("pgsub_lag_seconds", age, it.lag.seconds(now)),
+    )
 
 
 def slot_metrics(slot: Slot) -> Iterator[Metric]:
@@ -90,14 +91,15 @@ def slot_metrics(slot: Slot) -> Iterator[Metric]:
         yield chosen("pgsub_slot_wal_status", text, "status", WAL_STATUSES, which)
 
 
-def missing_metrics(counted: Counted) -> Iterator[Metric]:
-    after, upto = counted.gap or (0, 0)
-    text = "Changes that found no row, until they are accepted."
-    yield counter("pgsub_missing_total", text, counted.count)
-    text = "LSN up to which changes that found no row are counted."
-    yield gauge("pgsub_counted_lsn", text, counted.upto)
-    text = "Log in which such changes weren't counted, until that is accepted."
-    yield gauge("pgsub_not_counted_bytes", text, upto - after)
+def of_missing(it: Counted) -> Told:
+    missing = "Changes that found no row, until they are accepted."
+    uncounted = "Log in which such changes weren't counted, until that is accepted."
+    after, upto = it.gap or (0, 0)
+    return (
+        ("pgsub_missing_total", missing, it.count, COUNTER),
+        ("pgsub_counted_lsn", "LSN up to which changes that found no row are counted.", it.upto),
+        ("pgsub_not_counted_bytes", uncounted, upto - after),
+    )
 
 
 def feed_metrics(progress: Progress) -> Iterator[Metric]:
@@ -116,17 +118,16 @@ def feed_metrics(progress: Progress) -> Iterator[Metric]:
     yield gauge("pgsub_tables_aside", text, len(feed.tables_aside))
 
 
-def counters(progress: Progress) -> Iterator[Metric]:
-    stream, copy = progress.stream, progress.copy
-    yield counter("pgsub_changes_total", "Changes that were passed on.", stream.changes)
-    yield counter("pgsub_commits_total", "Commits that were passed on.", stream.commits)
-    yield counter("pgsub_sessions_total", "Sessions with the server.", progress.server.sessions)
-    text = "How often the filter was lost."
-    yield counter("pgsub_filter_restarts_total", text, progress.restarts)
-    text = "Rows that this run's initial copy has so far."
-    yield gauge("pgsub_copied_rows", text, copy.rows)
-    text = "Rows to copy, by the server's statistics."
-    yield gauge("pgsub_copy_total_rows", text, copy.total_rows)
+def of_totals(it: Progress) -> Told:
+    restarts = "pgsub_filter_restarts_total", "How often the filter was lost."
+    return (
+        ("pgsub_changes_total", "Changes that were passed on.", it.stream.changes, COUNTER),
+        ("pgsub_commits_total", "Commits that were passed on.", it.stream.commits, COUNTER),
+        ("pgsub_sessions_total", "Sessions with the server.", it.server.sessions, COUNTER),
+        (*restarts, it.restarts, COUNTER),
+        ("pgsub_copied_rows", "Rows that this run's initial copy has so far.", it.copy.rows),
+        ("pgsub_copy_total_rows", "Rows to copy, by the server's statistics.", it.copy.total_rows),
+    )
 
 
 def escaped(text: str) -> str:

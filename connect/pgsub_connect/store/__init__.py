@@ -1,5 +1,4 @@
-"""The files of a store: `file` reads its rows, `completeness` whether it has all, `copied_counts`
-how many, `checkpoint` (`checkpoint_lines`) what is known of it, `repeats_file` which commits that
-come again may be compared, `placing` its names. `at_rest` gives it to readers, who ask its follower
-by `socket_file`; `snapshot` and `export` are copies. Processes make tables (`copied_rows`) and a
-feed's first rows (`base_files`, `base_of_store`)."""
+"""The files of a store: `file` reads its rows, `checkpoint` (`checkpoint_lines`) what is known of
+it, `repeats_file` which commits that come again may be compared, `placing` its names. `at_rest`
+gives it to readers, who ask its follower by `socket_file`; `snapshot` and `export` are copies.
+Processes make tables (`copied_rows`) and a feed's first rows (`base_files`, `base_of_store`)."""

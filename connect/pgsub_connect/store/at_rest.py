@@ -1,5 +1,7 @@
 """A store's file at rest, for whoever reads it: where the store is followed, a copy that its
-follower is asked for."""
+follower is asked for; and whether it has all rows of its initial copy. As long as it hasn't, its
+file has the store's name already, at a position that is none of a server's; its checkpoint says so.
+"""
 
 import contextlib
 import errno
@@ -12,14 +14,14 @@ from collections.abc import Iterator
 
 from pgsub_feed import log
 from pgsub_feed.errors import FileError, Passing
-from pgsub_feed.files import LOG, copy, own_name, remove_files
+from pgsub_feed.files import LOG, copy, meant, own_name, remove_files
 from pgsub_feed.interruption import Check
 from pgsub_feed.ownership import real
 from pgsub_feed.tables.sqlite_files import FULL
 
-from .checkpoint import has_name
-from .completeness import is_being_copied
-from .snapshot import NEW, fold
+from .checkpoint import has_name, read_known
+from .checkpoint_lines import COPYING, SLOT
+from .snapshot import EARLIER, NEW, fold, position_in
 from .socket_file import SUFFIX, Asking
 
 # Where SQLite, and so the program, locks a file: the bytes of its readers.
@@ -28,6 +30,8 @@ SHARED_FIRST, SHARED_SIZE = 0x40000002, 510
 # and how often that is looked for.
 PATIENCE, STARTING = 300.0, 10.0
 LOOK = 0.1
+# The greatest position of a store whose load hasn't ended: each LSN of a server is above it.
+MOST_PARTS = 0xFFFFF
 
 
 @contextlib.contextmanager
@@ -209,3 +213,20 @@ def is_followed(store: str) -> bool:
     if file is not None:
         os.close(file)
     return file is None
+
+
+def is_being_copied(store: str) -> bool:
+    """Whether a store's first rows are being copied, or their copy was interrupted."""
+    if not os.path.exists(store):
+        # (of an earlier version of this program)
+        return os.path.exists(meant(store) + EARLIER)
+    try:
+        return read_known(store + ".connector").phase in (COPYING, SLOT)
+    except FileError:
+        # (of another account)
+        return 0 < (position_in(store) or 0) <= MOST_PARTS
+
+
+def is_whole(store: str) -> bool:
+    """Whether a store is there, with all rows of its initial copy."""
+    return os.path.exists(store) and not is_being_copied(store)

@@ -8,6 +8,7 @@ them then.
 from __future__ import annotations
 
 import contextlib
+import json
 import os
 import shutil
 import sys
@@ -28,7 +29,7 @@ from pgsub_feed.reader.lines import HEAD_SIZE
 from pgsub_feed.relation import Relation
 from pgsub_feed.tables.schema import table_line
 from pgsub_feed.tables.values import Malformed
-from pgsub_feed.texts import counted, lsn_text, parse_lsn
+from pgsub_feed.texts import counted, lsn_text
 
 from ..drift.remembered import Remembered
 from .copied_rows import READ, attempted, rows_of
@@ -42,7 +43,7 @@ NULL, TEXT, BINARY = b"ntb"
 
 class Wanted(NamedTuple):
     """The feed's folder, the store whose tables are remembered, the mode of the files, the LSN as
-    of which the rows are, and what the feed is of."""
+    of which the rows are, and what the feed is of. The process is told it as a list of JSON."""
 
     feed: str
     store: str
@@ -51,14 +52,6 @@ class Wanted(NamedTuple):
     system: str
     database: str
     slot: str
-
-    def words(self) -> list[str]:
-        return [self.feed, self.store, f"{self.mode:o}", lsn_text(self.point), *self[4:]]
-
-
-def wanted_of(words: list[str]) -> Wanted:
-    feed, store, mode, point, *source = words
-    return Wanted(feed, store, int(mode, 8), parse_lsn(point), *source)
 
 
 def row_line(body: bytes) -> bytes:
@@ -214,6 +207,6 @@ def told(wanted: Wanted, write: Callable[[], int]) -> int:
 
 
 def run() -> None:
-    wanted, check = wanted_of(sys.argv[1:]), check_signals()
+    wanted, check = Wanted(*json.loads(sys.argv[1])), check_signals()
     with open(0, "rb", buffering=READ) as source:
         sys.exit(guarded(lambda: written(wanted, source, check)))

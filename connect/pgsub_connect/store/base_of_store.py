@@ -9,6 +9,7 @@ that are to be added goes by the TRUNCATE with which their rows come.
 from __future__ import annotations
 
 import contextlib
+import json
 import sqlite3
 import sys
 from collections.abc import Collection, Iterator
@@ -21,7 +22,7 @@ from pgsub_feed.tables.values import Malformed
 
 from ..drift.remembered import Remembered
 from .at_rest import unopened
-from .base_files import Wanted, told, wanted_of, write_base
+from .base_files import Wanted, told, write_base
 from .export import Held
 from .file import check_store, choose, opened, read_position, read_relations
 
@@ -63,5 +64,5 @@ def written(wanted: Wanted, check: Check) -> int:
 
 def run() -> None:
     # (it ends with its input, so with the follower)
-    wanted, parent = wanted_of(sys.argv[1:]), Parent(check_signals())
+    wanted, parent = Wanted(*json.loads(sys.argv[1])), Parent(check_signals())
     sys.exit(guarded(lambda: written(wanted, parent.check)))

@@ -9,6 +9,7 @@ left of the file.
 from __future__ import annotations
 
 import contextlib
+import json
 import os
 import sqlite3
 import struct
@@ -24,7 +25,6 @@ from pgsub_feed.program import check_signals, collected_rarely, guarded
 from pgsub_feed.tables.first_rows import prepare
 from pgsub_feed.tables.sqlite_files import check_sqlite
 from pgsub_feed.tables.values import Malformed
-from pgsub_feed.texts import lsn_text, parse_lsn
 
 from ..drift.remembered import Remembered
 from ..server.copied_text import tuples
@@ -39,7 +39,8 @@ READ = 1 << 20
 
 class Wanted(NamedTuple):
     """The file, the store that it is of, whose tables are remembered, and the feed that it is to
-    follow; how it has numerics; its mode; and the LSN as of which the rows are."""
+    follow; how it has numerics; its mode; and the LSN as of which the rows are. The process is told
+    it as a list of JSON."""
 
     into: str
     store: str
@@ -47,14 +48,6 @@ class Wanted(NamedTuple):
     form: str
     mode: int
     point: int
-
-    def words(self) -> list[str]:
-        return [*self[:4], f"{self.mode:o}", lsn_text(self.point)]
-
-
-def wanted_of(words: list[str]) -> Wanted:
-    into, store, feed, form, mode, point = words
-    return Wanted(into, store, feed, form, int(mode, 8), parse_lsn(point))
 
 
 def rows_frame(oid: int, width: int, lines: list[bytes]) -> bytes:
@@ -107,6 +100,6 @@ def attempted(make: Callable[[], None], lacks: str) -> int:
 
 
 def run() -> None:
-    wanted, check = wanted_of(sys.argv[1:]), check_signals()
+    wanted, check = Wanted(*json.loads(sys.argv[1])), check_signals()
     with open(0, "rb", buffering=READ) as source, collected_rarely():
         sys.exit(guarded(lambda: filled(wanted, source, check)))

@@ -19,7 +19,7 @@ from functools import partial
 from pgsub_feed import log
 from pgsub_feed.errors import FileError, Passing, Stopped, Unfit
 from pgsub_feed.files import placed
-from pgsub_feed.interruption import Check
+from pgsub_feed.interruption import Check, is_ended
 from pgsub_feed.known_tables import KnownTables
 from pgsub_feed.log import Meter
 from pgsub_feed.relation import Relation
@@ -202,19 +202,6 @@ def repeated(
     yield some
 
 
-def stop(check: Check) -> Callable[[], int]:
-    """What SQLite asks in the midst of a statement: whether that is to end."""
-
-    def ask() -> int:
-        try:
-            check()
-        except Stopped:
-            return 1
-        return 0
-
-    return ask
-
-
 @dataclasses.dataclass(frozen=True)
 class ExportSettings:
     """Which store is exported into which file. `form`: how numerics are kept, or each value;
@@ -257,7 +244,7 @@ def export(path: str, new: str, settings: ExportSettings, check: Check) -> tuple
             sqlite3.connect(new, isolation_level=None)
         ) as into:
             for db in (store, into):
-                db.set_progress_handler(stop(check), STEPS)
+                db.set_progress_handler(lambda: is_ended(check), STEPS)
             meter = Meter("exporting")
             total = store.execute("SELECT count(*) FROM held").fetchone()[0]
             told, note = (settings.form, check, settings.chosen), partial(meter.note, total=total)

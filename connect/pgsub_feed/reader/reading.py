@@ -1,10 +1,13 @@
-"""What somebody who follows a feed is to take, and what it begins with."""
+"""What somebody who follows a feed is to take, and what it begins with; and the tables that
+`--table` names."""
 
 import dataclasses
-from collections.abc import Collection
+from collections.abc import Collection, Iterable
 from typing import Protocol
 
 from ..interruption import Check
+from ..relation import Relation
+from ..tables.names import names_of
 
 
 class Store(Protocol):
@@ -39,3 +42,17 @@ class Reading:
     store: Store | None = None
     name: str | None = None
     mode: int = 0o600
+
+
+class Chosen:
+    """Tells which relations are chosen: all where none is named. `unseen`: the names of none so
+    far."""
+
+    def __init__(self, names: Iterable[str]) -> None:
+        self.names = set(names)
+        self.unseen = set(names)
+
+    def __call__(self, relation: Relation) -> bool:
+        found = self.names & names_of(relation.namespace, relation.name)
+        self.unseen -= found
+        return bool(found) or not self.names

@@ -5,22 +5,18 @@ import argparse
 import errno
 import ipaddress
 import os
-import queue
 import select
 import socket
 import ssl
-import threading
 import time
-from typing import Any, Union
+from typing import Any
 
-from ..interruption import Check
+from ..interruption import Check, looked_up
 
 # For how long one wait lasts at most, in seconds.
 TICK = 0.1
 # An engine has so long for what it was told once the end was asked for, in seconds.
 GRACE = 5.0
-# What getaddrinfo returns of a host: an address and how to make a socket for it.
-Address = tuple[Any, Any, int, str, Any]
 BUSY = (BlockingIOError, ssl.SSLWantReadError, ssl.SSLWantWriteError)
 
 
@@ -28,7 +24,7 @@ def connected(host: str, port: int, seconds: float, check: Check) -> socket.sock
     """A connection to the first of a host's addresses that takes one in this time, which doesn't
     block. An OSError says why there is none."""
     error = OSError(errno.EADDRNOTAVAIL, "the host has no address")
-    for family, kind, protocol, _, address in addresses(host, port, seconds, check):
+    for family, kind, protocol, _, address in looked_up(host, port, seconds, check):
         made = socket.socket(family, kind, protocol)
         try:
             made.setblocking(False)
@@ -41,32 +37,6 @@ def connected(host: str, port: int, seconds: float, check: Check) -> socket.sock
             made.close()
             raise
     raise error
-
-
-def addresses(host: str, port: int, seconds: float, check: Check) -> list[Address]:
-    """A host's addresses. A name is looked up by another thread, since no signal ends that."""
-    end = time.monotonic() + seconds
-    found: queue.SimpleQueue[Union[list[Address], Exception]] = queue.SimpleQueue()
-
-    def look() -> None:
-        try:
-            found.put(socket.getaddrinfo(host, port, type=socket.SOCK_STREAM))
-        except (OSError, ValueError) as error:
-            # (a ValueError: it can't be a name)
-            found.put(error)
-
-    threading.Thread(target=look, daemon=True).start()
-    while True:
-        try:
-            said = found.get(timeout=TICK)
-        except queue.Empty:
-            check()
-            if time.monotonic() > end:
-                raise TimeoutError(errno.ETIMEDOUT, "its name isn't found in time") from None
-            continue
-        if isinstance(said, Exception):
-            raise said if isinstance(said, OSError) else OSError(errno.EINVAL, str(said))
-        return said
 
 
 def connect(made: socket.socket, address: Any, end: float, check: Check) -> None:

@@ -33,10 +33,7 @@ Message = TypeVar("Message")
 
 
 def whole(
-    commit: Commit,
-    messages: Callable[[], Iterable[Message]],
-    check: Check,
-    most: int = sys.maxsize,
+    commit: Commit, messages: Callable[[], Iterable[Message]], check: Check, most: int = sys.maxsize
 ) -> Iterator[Message]:
     """The messages of a commit, the first of them once all could be made: at once where it has at
     most so many changes."""

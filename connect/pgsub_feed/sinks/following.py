@@ -7,7 +7,7 @@ from collections.abc import Callable
 
 from .. import log
 from ..errors import Passing, Stopped
-from ..interruption import Check, at_most, is_ended
+from ..interruption import Check, at_most, is_ended, rest
 from ..reader.following import Following
 from ..reader.polling import Parent, Poll
 from ..reader.positions import Noted
@@ -54,10 +54,7 @@ class Outages:
         self.is_away = False
 
     def wait(self, check: Check) -> None:
-        end = time.monotonic() + self.delay
-        while time.monotonic() < end:
-            check()
-            time.sleep(STEP)
+        rest(self.delay, check, STEP)
 
 
 def keep(

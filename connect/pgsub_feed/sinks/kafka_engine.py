@@ -25,7 +25,7 @@ from ..json_texts import Unreadable, lsn_of, object_of, parsed, whole_of
 from ..known_tables import KnownTables
 from ..reader.commits import Change, Commit, Missed, TableLine
 from ..reader.following import Read
-from ..reader.selection import Chosen
+from ..reader.reading import Chosen
 from ..texts import lsn_text, shortened
 from .engine import Alone, Engine, Wanted, read_about, whole
 from .first_rows import Base, numbered

@@ -13,11 +13,11 @@ from collections.abc import Iterator
 
 from .. import log
 from ..errors import Passing, TooLarge, Unfit
-from ..interruption import Check
+from ..interruption import Check, rest
 from ..json_texts import LARGEST, object_of, parsed
 from ..reader.commits import Commit, TableLine
 from ..reader.following import Read
-from ..reader.selection import Chosen
+from ..reader.reading import Chosen
 from ..texts import lsn_text, shortened
 from .engine import Engine, Trail, Wanted, whole
 from .first_rows import Base, numbered
@@ -113,10 +113,7 @@ class Nats(Engine):
         """Removes the part of a base that a sink has left, but for its last message: by that the
         next start knows what there is. One that publishes it still would go on, and never know of
         it."""
-        end = time.monotonic() + STILL
-        while time.monotonic() < end:
-            self.check()
-            time.sleep(STILL / 20)
+        rest(STILL, self.check, STILL / 20)
         if self.stream.last() != self.stream.sequence:
             raise Passing(f"{self.stream.where}: another sink publishes the rows of a base there")
         log.warning(

@@ -14,9 +14,9 @@ from typing import Any, Protocol, Union
 
 from .. import log
 from ..errors import EngineError, FileError, Passing, Stopped, UsageError
-from ..interruption import Check, interruptible, never
+from ..interruption import Check, interruptible, looked_up, never
 from ..texts import shortened
-from .connecting import GRACE, addresses, is_loopback
+from .connecting import GRACE, is_loopback
 
 Command = Sequence[Union[bytes, str, int]]
 # The errors that may pass: it loads its files or runs a script, its memory or its disk is full, or
@@ -136,12 +136,10 @@ class Connection:
         except ModuleNotFoundError:
             raise FileError("python3-redis is needed: apt-get install python3-redis") from None
         try:
-            # (a socket of a file takes neither)
-            more = (
-                {}
-                if url.startswith("unix:")
-                else {"socket_connect_timeout": CONNECT, "socket_keepalive": True}
-            )
+            more: dict[str, Any] = {"socket_connect_timeout": CONNECT, "socket_keepalive": True}
+            if url.startswith("unix:"):
+                # (a socket of a file takes neither)
+                more = {}
             if self.is_encrypted and "ssl_cert_reqs" not in url:
                 # (what the URL says itself goes before this)
                 more["ssl_check_hostname"] = True
@@ -157,15 +155,12 @@ class Connection:
 
     def look_up(self, url: str, host: str, port: int) -> None:
         """Looks at where it is."""
-        if (
-            urllib.parse.urlsplit(url).password
-            and url.startswith("redis:")
-            and not is_loopback(host)
-        ):
+        has_password = urllib.parse.urlsplit(url).password and url.startswith("redis:")
+        if has_password and not is_loopback(host):
             log.warning(f"{self.where}: the password goes there in plain text: use rediss://")
         try:
             # (the library's own look can't be ended)
-            addresses(host, port, CONNECT, self.check)
+            looked_up(host, port, CONNECT, self.check)
         except OSError as error:
             raise Passing(f"{self.where}: {error}") from None
 
@@ -272,9 +267,8 @@ def connected(url: str, check: Check) -> Calls:
         raise UsageError(
             "the URL of Redis: it is no URL as redis+sentinel://localhost:26379/service/0"
         )
-    master = Connection(
-        f"redis://{login}{sign}{master_of(sentinels, service, check)}/{number}", check
-    )
+    where = master_of(sentinels, service, check)
+    master = Connection(f"redis://{login}{sign}{where}/{number}", check)
     try:
         check_master(master)
     except BaseException:

@@ -67,11 +67,8 @@ class Disk:
         found = fields(info)
         if found.get("aof_enabled") == "1":
             self.note_syncs(told(unsynced(syncs)), now)
-            return (
-                now - LATE
-                if found.get("aof_last_write_status") == "ok" and now - self.unsynced > LATE
-                else 0.0
-            )
+            is_written = found.get("aof_last_write_status") == "ok"
+            return now - LATE if is_written and now - self.unsynced > LATE else 0.0
         if not isinstance(saves, Said) and not any(saves[1:]):
             # (it keeps nothing, so after its end all begins anew)
             return now + 1

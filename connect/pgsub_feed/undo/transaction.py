@@ -15,8 +15,8 @@ from ..formats.keys import key_of
 from ..interruption import Check
 from ..reader.commits import XID, Cell, Change, Commit, Missed, TableLine
 from ..reader.polling import Poll
+from ..reader.reading import Chosen
 from ..reader.segments import Reader
-from ..reader.selection import Chosen
 from ..relation import Column, Relation
 from ..tables.schema import full_name
 from ..texts import PRINTING, identifier, literal, lsn_text
@@ -112,12 +112,7 @@ def plain(it: Column) -> tuple[str, int, int]:
 
 # On these it depends how a value is printed and a constant is read; and rows that a policy hides
 # are an error.
-SETTLED = {
-    **PRINTING,
-    "xmloption": "content",
-    "array_nulls": "on",
-    "row_security": "off",
-}
+SETTLED = {**PRINTING, "xmloption": "content", "array_nulls": "on", "row_security": "off"}
 # Types whose values are looked up in an index by `=`: bool, bytea, "char", name, int8, int2, int4,
 # text, oid, float4, float8, macaddr, inet, bpchar, varchar, date, time, timestamp, timestamptz,
 # interval, timetz, bit, varbit, numeric, uuid, pg_lsn, jsonb. The operator of another type may be

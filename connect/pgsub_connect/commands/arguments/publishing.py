@@ -19,9 +19,7 @@ class PublishingOptions:
         "--table", "with --create: a table to publish", "those that are there"
     )
     all_tables: bool = option(
-        "--all-tables",
-        "with --create: publish all tables, also those that are made later",
-        False,
+        "--all-tables", "with --create: publish all tables, also those that are made later", False
     )
     keyless: str = option(
         "--keyless",

@@ -15,9 +15,9 @@ from ...server import transport
 from ...server.addresses import parameters
 from ...server.publication_setup import check_lengths, inserts_of
 from ...server.session import Subscription
+from ...store.at_rest import is_whole
 from ...store.checkpoint import read_known
 from ...store.checkpoint_lines import COPYING, INTERRUPTED, Known
-from ...store.completeness import is_whole
 from .words import check_texts, each, mode_option, seconds, use_mode
 
 
@@ -62,10 +62,7 @@ Settled = TypeVar("Settled", bound=ServerOptions)
 
 
 def settled_server(
-    options: Settled,
-    store: str = "",
-    keyless: str = "refuse",
-    told: Iterable[tuple[str, str]] = (),
+    options: Settled, store: str = "", keyless: str = "refuse", told: Iterable[tuple[str, str]] = ()
 ) -> Settled:
     """The options with the connection string of a file, and with the slot and the publications that
     a store has followed where none is named; and has files get their mode. `told`: what else the server or

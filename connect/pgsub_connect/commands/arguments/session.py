@@ -158,8 +158,7 @@ class WatchOptions:
     """The files, and how often the snapshot is replaced, in seconds; 0 for when it is asked for."""
 
     status_file: str | None = option(
-        "--status-file FILE",
-        "replace this file each second by a JSON object that says how it goes",
+        "--status-file FILE", "replace this file each second by a JSON object that says how it goes"
     )
     metrics_file: str | None = option(
         "--metrics-file FILE",
