@@ -106,7 +106,7 @@ class Repairs(Case):
             copy = Store(request.copied())
             self.hook("copied")
             with contextlib.closing(copy.base), contextlib.closing(
-                Changes(request.changes(), self.store)
+                Changes(request.changes, self.store)
             ) as changes:
                 self.write(changes, self.world.known[T], lines.get(T, []), copy)
             yield request
@@ -195,7 +195,7 @@ class Repaired(Repairs):
             lambda name: self.world.commit(insert(T, (901, "y"))) if name == "copied" else None
         )
         with self.compared() as request:
-            with open(request.changes(), "rb") as file:
+            with open(request.changes, "rb") as file:
                 written = file.read()
             request.pass_on([T])
         self.assertTrue(run.until(lambda: run.progress.server.sessions == 2))

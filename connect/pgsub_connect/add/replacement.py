@@ -187,7 +187,7 @@ class Rows:
         """Begin, Relation and Truncate."""
         truncate = struct.pack(">cIBI", b"T", 1, 0, self.table.oid)
         items = [frame(self.lsn, it) for it in (self.relation, truncate)]
-        self.cost += sum(map(self.buffered, items))
+        self.cost += sum(len(it) - AROUND + BUFFERED for it in items)
         return [frame(self.lsn, begin(self.lsn, XID, self.clock)), *items]
 
     def rows(self, lines: Sequence[bytes]) -> bytes:
@@ -203,9 +203,6 @@ class Rows:
     def closing(self) -> bytes:
         """Commit."""
         return frame(self.lsn, commit(self.lsn, self.point, self.clock))
-
-    def buffered(self, item: bytes) -> int:
-        return len(item) - AROUND + BUFFERED
 
 
 def payload_of(framed: bytes) -> bytes:

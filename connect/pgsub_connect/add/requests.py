@@ -6,7 +6,6 @@ from typing import Any, Protocol
 
 from pgsub_feed.errors import Passing, Stopped, Unfit
 from pgsub_feed.interruption import Check
-from pgsub_feed.relation import Relation
 
 from ..copy.source import Source
 from ..errors import ServerError
@@ -63,17 +62,6 @@ def too_large(table: Table, size: int, most: int) -> str:
         f"{table.text()} has at least {size} bytes, and {most} may be buffered of a transaction:"
         " give the follower a --max-buffered above that, or copy anew"
     )
-
-
-def table_of(relation: Relation | None) -> Table | None:
-    """A table that isn't published any more, as it was described."""
-    if relation is None:
-        return None
-    return Table(relation.oid, relation.namespace, relation.name, "r", relation.shape)
-
-
-def relation_of(table: Table) -> Relation:
-    return Relation(table.oid, table.namespace, table.name, table.shape)
 
 
 # A table whose files are so many times what may be buffered is refused before anything is done.

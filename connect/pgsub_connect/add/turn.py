@@ -17,7 +17,7 @@ from ..stream.gate import MOST as LONGEST_WAIT, WAITED, Making
 from ..stream.memory_limit import BufferLimits
 from ..stream.stream_log import Noting
 from .replacement import Rows, payload_of
-from .requests import Stream, TooLarge, relation_of, table_of, too_large, too_long
+from .requests import Stream, TooLarge, too_large, too_long
 
 # How long the stream is held at most until the slot is made, and for a lock of somebody else on the
 # table, in seconds; and the latter where commits wait.
@@ -63,7 +63,9 @@ class Turn:
 
     def describe(self, relation: Relation | None) -> None:
         """Takes the definition that the table had, where it isn't published any more."""
-        self.table = self.table or table_of(relation)
+        if relation and not self.table:
+            named = relation.oid, relation.namespace, relation.name
+            self.table = Table(*named, "r", relation.shape)
 
     def maker(self) -> int:
         """The process at the server that makes the slot."""
@@ -100,7 +102,8 @@ class Turn:
 
     def relation(self) -> Relation:
         assert self.table
-        return relation_of(self.table)
+        it = self.table
+        return Relation(it.oid, it.namespace, it.name, it.shape)
 
     def rows(self) -> Rows:
         """The transaction that has them."""

@@ -79,8 +79,8 @@ def judge_identities(facts: Facts, purpose: server.Purpose) -> server.Judged:
 def judge_locks(facts: Facts, purpose: server.Purpose) -> server.Judged:
     """The table of locks has room for so many a transaction, and all of these share it."""
     each = server.number(facts, "max_locks_per_transaction")
-    room = each * (
-        server.number(facts, "max_connections") + server.number(facts, "max_prepared_transactions")
+    room = each * sum(
+        server.number(facts, it) for it in ("max_connections", "max_prepared_transactions")
     )
     text = f"a copy holds {facts.relations} locks, the server has room for about {room}"
     if purpose.has_store or facts.relations * 2 <= room:

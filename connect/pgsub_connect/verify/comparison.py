@@ -148,9 +148,8 @@ class Compared:
     def leave_more(self, chosen: Iterable[Table], why: Mapping[int, str]) -> list[Table]:
         """Notes so beside those that were left before."""
         tables = list(chosen)
-        self.left.update(
-            {it.oid: f"{it.text()} was {why[it.oid]} meanwhile" for it in tables if it.oid in why}
-        )
+        left = [it for it in tables if it.oid in why]
+        self.left |= {it.oid: f"{it.text()} was {why[it.oid]} meanwhile" for it in left}
         return [it for it in tables if it.oid not in why]
 
     def note_different(self, tables: list[Table]) -> None:

@@ -98,10 +98,6 @@ class Sums:
     def total(self) -> int:
         return sum(self.rows)
 
-    def totals(self) -> tuple[int, int, int]:
-        """How many rows the table has, and the two sums that it would have with one chunk."""
-        return self.total(), sum(self.first), sum(self.second)
-
     def differing(self, other: Sums) -> list[int]:
         """The chunks that aren't the same."""
         both = (zip(it.rows, it.first, it.second) for it in (self, other))

@@ -4,14 +4,13 @@ module `stream.hold` says how), and repairs its rows as `verify.repair_rows` say
 import contextlib
 import dataclasses
 import os
-import time
 from collections.abc import Iterator
 from contextlib import closing
 
 from pgsub_feed import log
 from pgsub_feed.errors import Passing
 from pgsub_feed.files import own_name, remove, remove_files
-from pgsub_feed.interruption import Check
+from pgsub_feed.interruption import Check, rest
 from pgsub_feed.texts import counted, lsn_text
 
 from ..copy.source import Source
@@ -47,6 +46,8 @@ class Request:
     def __init__(self, store: str, seconds: float, check: Check, repairs: bool = False) -> None:
         self.store, self.seconds, self.check = store, seconds, check
         self.into = os.path.abspath(own_name(store + ".export"))
+        # the file with changes
+        self.changes = self.into + CHANGES
         self.more = {"repair": True} if repairs else {}
         self.asking: Asking | None = None
 
@@ -91,10 +92,6 @@ class Request:
             kind = Unrepaired if lasts else Delayed if delays else Passing
             raise kind(f"{self.store}: its follower repaired nothing: {answer.get('error')}")
 
-    def changes(self) -> str:
-        """The path of the file with changes."""
-        return self.into + CHANGES
-
     def ended(self) -> Passing:
         return Passing(
             f"nobody follows into {self.store}: a follower has to run, which brings its copy to the LSN of the comparison"
@@ -105,7 +102,7 @@ class Request:
             self.asking.say(ends=True)
             self.asking.close()
             self.asking = None
-        remove(self.changes())
+        remove(self.changes)
         remove_files(self.into)
 
 
@@ -143,15 +140,8 @@ def repair(comparison: StoreComparison, found: Compared, check: Check) -> list[T
             return repair_once(comparison, found, check)
         except Delayed as error:
             log.warning(f"{error}: it is tried again")
-            pause(PAUSE, check)
+            rest(PAUSE, check)
     return repair_once(comparison, found, check)
-
-
-def pause(seconds: float, check: Check) -> None:
-    until = time.monotonic() + seconds
-    while time.monotonic() < until:
-        check()
-        time.sleep(0.1)
 
 
 def repair_once(comparison: StoreComparison, found: Compared, check: Check) -> list[Table]:
@@ -160,7 +150,7 @@ def repair_once(comparison: StoreComparison, found: Compared, check: Check) -> l
     again = among([it.oid for it in found.different])
     with met(comparison, again, check, repairs=True) as (sides, chosen, request, point):
         tables = found.leave_more(chosen, sides.source.left)
-        with closing(Changes(request.changes(), comparison.store)) as changes:
+        with closing(Changes(request.changes, comparison.store)) as changes:
             mender = Mender(sides, changes, bool(Remembered(comparison.store).feed))
             mender.run(tables)
         if mender.written:

@@ -110,13 +110,11 @@ class Files(Tables):
 class ByDigests(Verifier):
     """Compares tables by the digests that are kept, and of those that differ the rows."""
 
-    def __init__(self, show: int, sides: Tables) -> None:
-        super().__init__(show, sides)
-        self.both = sides
+    sides: Tables
 
     def run(self, tables: list[Table]) -> bool:
         plans = [Plan(it, 1) for it in tables if self.has_columns(it)]
-        theirs, ours = self.both.digested(plans)
+        theirs, ours = self.sides.digested(plans)
         equal = {oid for oid, sums in theirs.items() if not sums.differing(ours[oid])}
         rows = sum(it.total() for it in theirs.values())
         if read := [it.table for it in plans if it.table.oid not in equal]:
@@ -134,11 +132,9 @@ def tables_of(views: Sequence[View]) -> list[Table]:
             columns = tuple(Column(*it[:4]) for it in relation.shape.columns)
             named, shape = full_name(relation), Shape(relation.shape.identity, columns)
             found.setdefault(oid, Table(oid, named[0], named[1], "r", shape))
-    asides = {oid: it for view in views for oid, it in view.asides.items() if oid not in found}
-    return [
-        *found.values(),
-        *(Table(oid, it.schema, it.table, "r", Shape("", ())) for oid, it in asides.items()),
-    ]
+    for oid, it in ((oid, it) for view in views for oid, it in view.asides.items()):
+        found.setdefault(oid, Table(oid, it.schema, it.table, "r", Shape("", ())))
+    return [*found.values()]
 
 
 def source_in(view: View, feed: str) -> Head | None:
@@ -196,8 +192,7 @@ LOOK = 0.02
 def compare_tables(comparison: TablesComparison, check: Check) -> int:
     """Compares; the exit status."""
     try:
-        call = with_file if comparison.other else with_server
-        return call(comparison, check)
+        return (with_file if comparison.other else with_server)(comparison, check)
     except Stopped:
         raise Passing("ended before all was compared") from None
     except sqlite3.Error as error:

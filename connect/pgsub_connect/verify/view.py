@@ -106,8 +106,7 @@ class View:
         return table.oid not in self.left_out and (not self.chosen or bool(self.chosen & names))
 
     def columns(self, table: Table) -> list[str]:
-        relation = self.relation(table.oid)
-        return [it.name for it in (relation or table).shape.columns]
+        return [it.name for it in (self.relation(table.oid) or table).shape.columns]
 
     def left(self, tables: Iterable[Table]) -> list[Relation]:
         oids = self.tables.keys() - {it.oid for it in tables}
@@ -138,7 +137,8 @@ class View:
             for fields in self.texts(summing.plan):
                 summing.add_fields(fields, 1)
             kept = self.digests.get(oid) if oid in self.tables else None
-            if kept is not None and kept != summing.sums.totals():
+            sums = summing.sums
+            if kept not in (None, (sums.total(), sum(sums.first), sum(sums.second))):
                 self.wrong.append(self.tables[oid].relation)
         self.take_back(found)
         return {oid: it.sums for oid, it in found.items()}
