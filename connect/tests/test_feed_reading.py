@@ -25,9 +25,10 @@ from pgsub_feed.errors import Damaged, FileError, Unfit
 from pgsub_feed.interruption import never
 from pgsub_feed.reader import commits
 from pgsub_feed.reader.commits import Change, Missed, Part, TableLine
+from pgsub_feed.reader.folder import read_confirmed, segments
 from pgsub_feed.reader.lines import oid, parsed
 from pgsub_feed.reader.polling import Poll
-from pgsub_feed.reader.segments import Reader, read_confirmed, segments
+from pgsub_feed.reader.segments import Reader
 
 from .drawn import ANY
 from .feeds import ID, NAME, STOCK, FeedCase, delete, insert, table, truncate, update

@@ -8,8 +8,8 @@ from unittest import mock
 
 from pgsub_connect.follow.retention import Limits, feed_bytes, read_readers, retire
 from pgsub_feed.errors import FileError
+from pgsub_feed.reader.folder import segments
 from pgsub_feed.reader.positions import Noted
-from pgsub_feed.reader.segments import segments
 
 from .feeds import FeedCase, insert
 

@@ -36,8 +36,9 @@ from pgsub_connect.stream.statuses import Reached
 from pgsub_feed.errors import FileError, Unfit, UsageError
 from pgsub_feed.files import replace_file
 from pgsub_feed.known_tables import read_keys
+from pgsub_feed.reader.folder import CONFIRMED, read_confirmed, segments
 from pgsub_feed.reader.positions import Noted, make_folder
-from pgsub_feed.reader.segments import CONFIRMED, Reader, read_confirmed, segments
+from pgsub_feed.reader.segments import Reader
 
 from .fake_server import Quiet
 from .feeds import ID, FeedCase, insert, table, truncate

@@ -43,6 +43,7 @@ from pgsub_connect.stream.awake import Awake
 from pgsub_connect.stream.filter import Filter
 from pgsub_connect.stream.filter_end import FilterEnded
 from pgsub_connect.stream.messages import flushed
+from pgsub_feed import interruption
 from pgsub_feed.errors import Passing, Unfit
 from pgsub_feed.texts import lsn_text, parse_lsn
 
@@ -143,7 +144,8 @@ class Case(Quiet):
 
     def set_clock(self, clock: list[float]) -> None:
         """Has a follower's time be what the list says."""
-        for where in (*FOLLOW, statuses):
+        clocked = interruption, follower_module, schedule, session_module, upkeep, statuses
+        for where in clocked:
             self.patch(where, "time", mock.Mock(monotonic=lambda: clock[0], sleep=time.sleep))
 
     def confirmed(self) -> int:

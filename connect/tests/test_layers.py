@@ -170,7 +170,7 @@ class Layers(unittest.TestCase):
 
     def test_what_is_imported_for_types_alone(self) -> None:
         it = Module(CONNECT / "pgsub_connect" / "stream" / "missed_rows.py")
-        names = {"pgsub_connect.stream.filter_said", "pgsub_connect.store.checkpoint"}
+        names = {"pgsub_connect.stream.filter_end", "pgsub_connect.store.checkpoint"}
         self.assertEqual(it.imports({*names, "pgsub_connect"}), names)
 
 

@@ -302,7 +302,7 @@ class GoesOn(NatsCase):
                 )
 
         clock = mock.Mock(monotonic=lambda: now[0], sleep=publish)
-        with mock.patch("pgsub_feed.sinks.nats_engine.time", clock):
+        with mock.patch("pgsub_feed.interruption.time", clock):
             self.fails(Passing, "another sink publishes the rows of a base there", base=base)
         self.assertEqual(self.ids(), ["0/100:base:0", "0/100:base:1"])
 

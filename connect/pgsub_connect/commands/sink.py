@@ -14,7 +14,7 @@ from pgsub_feed.interruption import Check
 from pgsub_feed.known_tables import KnownTables, known_beside
 from pgsub_feed.options import add_fields, lsn, option
 from pgsub_feed.ownership import readable_by, readable_text
-from pgsub_feed.reader.segments import segments
+from pgsub_feed.reader.folder import segments
 from pgsub_feed.sinks import (
     connecting,
     kafka_engine,

@@ -15,7 +15,8 @@ from pgsub_feed import options
 from pgsub_feed.errors import FileError, Passing, Stopped
 from pgsub_feed.interruption import Check
 from pgsub_feed.options import duration, option
-from pgsub_feed.reader.segments import Reader, read_confirmed
+from pgsub_feed.reader.folder import read_confirmed
+from pgsub_feed.reader.segments import Reader
 from pgsub_feed.tables.schema import read_position
 from pgsub_feed.tables.set_aside import store_at
 from pgsub_feed.tables.sqlite_files import is_tables

@@ -246,12 +246,8 @@ class Copier(Worker):
         """Makes the slot, and reads the tables under its snapshot."""
         subscription, beside = self.subscription, self.beside
         # (from 16 on the server locks a table to say what is published of it)
-        waiting = Waiting(
-            subscription.dsn,
-            subscription.slot,
-            self.slot.check_all,
-            lock_text("the copy", plain.pid()),
-        )
+        what = lock_text("the copy", plain.pid())
+        waiting = Waiting(subscription.dsn, subscription.slot, self.slot.check_all, what)
         with plain.checked_by(waiting.check):
             settle(plain)
             tables = self.tables.published(plain)

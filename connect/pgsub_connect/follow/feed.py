@@ -28,8 +28,9 @@ from pgsub_feed import log
 from pgsub_feed.errors import Damaged, FileError, Unfit
 from pgsub_feed.interruption import Check, never, rest
 from pgsub_feed.reader.base import remove_begun
+from pgsub_feed.reader.folder import read_confirmed, segments
 from pgsub_feed.reader.positions import make_folder
-from pgsub_feed.reader.segments import Reader, read_confirmed, read_source, segments
+from pgsub_feed.reader.segments import Reader, read_source
 from pgsub_feed.texts import counted, lsn_text
 
 from ..copy.rows_beside import RowsBeside, Several

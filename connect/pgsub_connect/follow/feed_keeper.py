@@ -14,7 +14,7 @@ from pgsub_feed import log
 from pgsub_feed.errors import FileError, Passing
 from pgsub_feed.files import replace_file
 from pgsub_feed.known_tables import KEYS
-from pgsub_feed.reader.segments import CONFIRMED, read_confirmed
+from pgsub_feed.reader.folder import CONFIRMED, read_confirmed
 from pgsub_feed.texts import counted, lsn_text
 
 from ..stream.statuses import Reached

@@ -14,7 +14,7 @@ from typing import Any
 from pgsub_feed import json_texts
 from pgsub_feed.column_types import FORMAT, TYPES, entry_of
 from pgsub_feed.files import remove, replace_file
-from pgsub_feed.reader.segments import segments
+from pgsub_feed.reader.folder import segments
 from pgsub_feed.relation import Column, ColumnType
 from pgsub_feed.texts import lsn_text
 

@@ -9,10 +9,11 @@ from ..errors import Damaged, Passing, Stopped
 from ..interruption import Check
 from ..texts import lsn_text
 from .commits import Commit, Head, Part
+from .folder import read_confirmed
 from .polling import Parent, Poll
 from .positions import Noted
 from .reading import Reading
-from .segments import Reader, read_confirmed
+from .segments import Reader
 
 # How long commits wait for others that come to be settled together, in seconds.
 LONGEST = 0.5

@@ -8,7 +8,7 @@ import time
 from ..files import LOG, replace_file, sync_folder
 from ..ownership import real, set_mode
 from ..texts import lsn_text
-from .segments import segments
+from .folder import segments
 
 READERS = "readers"
 # How often an LSN is noted at most, in seconds.

@@ -11,7 +11,8 @@ from ..errors import Passing, Unfit
 from ..relation import Relation
 from ..texts import lsn_text
 from .commits import XID, Cells, Change, Commit, Cursor
-from .segments import Reader, read_confirmed, segments
+from .folder import read_confirmed, segments
+from .segments import Reader
 
 
 class Image(NamedTuple):

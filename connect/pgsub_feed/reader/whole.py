@@ -12,8 +12,9 @@ from ..tables.schema import table_line
 from ..texts import lsn_text
 from .base import FirstRows, Section, base_of_feed
 from .commits import Cell, Commit, Part, TableLine
+from .folder import segments
 from .lines import as_change
-from .segments import Reader, read_source, segments
+from .segments import Reader, read_source
 
 # The op of a row from before.
 BASE = "r"

@@ -101,6 +101,16 @@ class Digests:
         self.changed = set[int]()
         self.fields: dict[int, Fields] = {}
 
+    @classmethod
+    def begun(cls, db: sqlite3.Connection, tables: Iterable[Kept]) -> Digests:
+        """Has the file keep one of each table from now on."""
+        db.execute(SCHEMA)
+        db.execute(f"PRAGMA user_version = {FORMAT}")
+        digests = cls(db)
+        for kept in tables:
+            digests.add_up(kept)
+        return digests
+
     def add_up(self, kept: Kept) -> None:
         """Reads a table's rows."""
         fields = self.fields[kept.oid] = Fields(kept)

@@ -11,10 +11,10 @@ from ..known_tables import KnownTables
 from ..reader.commits import Head
 from ..relation import Relation
 from ..texts import identifier, lsn_text, parse_lsn
-from .digests import FORMAT as WITH_DIGESTS, SCHEMA as DIGESTS_SCHEMA, Digests, has_digests
+from .digests import FORMAT as WITH_DIGESTS, Digests, has_digests
 from .indexes import Indexes, Keys, inherited
 from .names import OLD, POSITION, TABLES, distinct_name, folded, names_of
-from .reshape import LOOSE, carry, is_alike, loose, sources
+from .reshape import LOOSE, carry, loose, reshaped
 from .schema import (
     FEED,
     FORMAT,
@@ -28,8 +28,7 @@ from .schema import (
 )
 from .set_aside import CANT_KEEP, Asides, Unkept, is_of_table, nested, reason
 from .sqlite_files import inode_of
-from .table import IS_MINUS_ZERO, Kept, is_minus_zero, rows_index
-from .target import key_index
+from .table import IS_MINUS_ZERO, Kept, is_minus_zero
 from .user_sql import Init
 from .values import BOTH
 
@@ -99,9 +98,7 @@ class Rows:
             raise Unfit(f"{self.path}: {FORMS % (form, self.form)}: name that, or another file")
         keys = self.db.execute("SELECT 1 FROM pragma_table_info(?) WHERE pk", (name,)).fetchone()
         kept = Kept(name, relation, form, primary, is_loose=not keys)
-        indexes = [key_index(relation.oid), rows_index(relation.oid)]
-        query = "SELECT 1 FROM sqlite_schema WHERE type = 'index' AND name IN (?, ?)"
-        kept.has_index = bool(self.db.execute(query, indexes).fetchone())
+        kept.find_index(self.db)
         self.kept[relation.oid] = kept
         self.keys.loaded(relation, primary)
         if not name.startswith(OLDER):
@@ -187,11 +184,7 @@ class Rows:
     def keep_digests(self) -> None:
         """Keeps a digest of each table from now on."""
         self.begin()
-        self.db.execute(DIGESTS_SCHEMA)
-        self.db.execute(f"PRAGMA user_version = {WITH_DIGESTS}")
-        self.digests = Digests(self.db)
-        for kept in self.kept.values():
-            self.digests.add_up(kept)
+        self.digests = Digests.begun(self.db, self.kept.values())
         self.settle(self.at)
 
     def is_chosen(self, relation: Relation) -> bool:
@@ -255,7 +248,7 @@ class Rows:
         else:
             primary = inherited(kept, relation) if primary is None else primary
             self.rename(kept, name)
-            kept = self.reshaped(kept, Kept(name, relation, self.form, primary))
+            kept = reshaped(self.db, kept, Kept(name, relation, self.form, primary))
         self.is_init_due = True
         self.note(kept)
         if self.digests and before != relation.shape.columns:
@@ -295,16 +288,6 @@ class Rows:
         self.db.execute(f"ALTER TABLE {OLD} RENAME TO {identifier(name)}")
         self.forget(kept)
         kept.rename(name)
-
-    def reshaped(self, old: Kept, new: Kept) -> Kept:
-        """Makes a table have a new shape, where it is another one."""
-        was, now, columns = old.target, new.target, range(len(new.target.several))
-        is_same = (was.columns, was.places, was.key) == (now.columns, now.places, now.key)
-        if is_same and sources(old, new) == list(columns) and is_alike(old, new, columns):
-            same = Kept(new.name, new.relation, self.form, new.primary, is_loose=not was.is_keyed)
-            same.has_index = old.has_index
-            return same
-        return carry(self.db, old, new)
 
     def rekeyed(self, kept: Kept) -> Kept:
         """Gives a table that is empty now the primary key that the server has."""

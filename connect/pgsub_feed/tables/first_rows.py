@@ -16,10 +16,11 @@ from ..log import Meter
 from ..ownership import real
 from ..reader.base import BaseFiles, base_of_feed
 from ..reader.commits import Head
+from ..reader.folder import read_confirmed, segments
 from ..reader.polling import Poll
 from ..reader.positions import Noted
 from ..reader.reading import Reading
-from ..reader.segments import Reader, read_confirmed, segments
+from ..reader.segments import Reader
 from ..reader.whole import Sections
 from ..texts import identifier, lsn_text, parse_lsn
 from .applier import Applier

@@ -11,11 +11,11 @@ from ..interruption import Check
 from ..known_tables import KnownTables
 from ..reader.base import base_of_feed
 from ..reader.commits import Commit
+from ..reader.folder import segments
 from ..reader.following import Following, Read
 from ..reader.polling import Parent
 from ..reader.positions import Noted
 from ..reader.reading import Reading
-from ..reader.segments import segments
 from ..texts import lsn_text
 from .applier import Applier
 from .digests import has_digests

@@ -46,6 +46,17 @@ def sources(old: Valued, new: Valued) -> list[int | None]:
     return [named.get(column.name) for column in new.target.relation.shape.columns]
 
 
+def reshaped(db: sqlite3.Connection, old: Kept, new: Kept) -> Kept:
+    """Makes a table have a new shape, where it is another one. Returns it."""
+    was, now, columns = old.target, new.target, range(len(new.target.several))
+    is_same = (was.columns, was.places, was.key) == (now.columns, now.places, now.key)
+    if is_same and sources(old, new) == list(columns) and is_alike(old, new, columns):
+        same = Kept(new.name, new.relation, now.form, new.primary, is_loose=not was.is_keyed)
+        same.has_index = old.has_index
+        return same
+    return carry(db, old, new)
+
+
 def carry(db: sqlite3.Connection, old: Kept, new: Kept) -> Kept:
     """Makes a table that is there into one of another shape, with its rows. Returns it."""
     if extend(db, old, new):
@@ -87,7 +98,7 @@ def extend(db: sqlite3.Connection, old: Kept, new: Kept) -> bool:
         return False
     for column, (kind, _, _) in list(zip(now.columns, now.kinds, strict=True))[old.width :]:
         db.execute(f"ALTER TABLE {identifier(new.name)} ADD COLUMN {column} {kind}")
-    new.note_index(old.has_index)
+    new.find_index(db)
     return True
 
 

@@ -10,8 +10,9 @@ from collections.abc import Iterable, Iterator
 from ..errors import Unfit
 from ..interruption import Check
 from ..reader.commits import Change, Commit, Cursor, Missed, Part, TableLine
+from ..reader.folder import segments
 from ..reader.polling import Poll
-from ..reader.segments import Reader, segments
+from ..reader.segments import Reader
 from ..relation import Relation
 from ..texts import identifier, lsn_text
 from .applier import Applier

@@ -111,9 +111,11 @@ class Kept(Valued):
         self.target.rename(name)
         self.write_statements()
 
-    def note_index(self, has_index: bool) -> None:
-        """Whether the index is there by which rows are found."""
-        self.has_index = has_index
+    def find_index(self, db: sqlite3.Connection) -> None:
+        """Looks whether the index is there by which rows are found."""
+        query = "SELECT 1 FROM sqlite_schema WHERE type = 'index' AND name IN (?, ?)"
+        names = key_index(self.oid), rows_index(self.oid)
+        self.has_index = bool(db.execute(query, names).fetchone())
 
     def write_statements(self) -> None:
         target, name = self.target, identifier(self.name)
