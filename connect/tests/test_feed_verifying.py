@@ -435,8 +435,8 @@ class Server(VerifyCase):
         self.equal()
         self.assertEqual((self.known.system, self.known.slot), ("7", "pgsub"))
         for path in self.path.glob("[0-9A-F]" * 16):
-            path.write_bytes(b"")
-        self.fails(Passing, "rows.db has followed nothing yet")
+            path.unlink()
+        self.fails(Unfit, "the feed doesn't have the commits after 0/200")
 
     def test_a_file_of_something_else(self) -> None:
         for path, text in (
