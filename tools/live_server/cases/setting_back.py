@@ -3,6 +3,7 @@ they send other commits than before, and their log has grown past what the store
 
 from __future__ import annotations
 
+import re
 from signal import SIGTERM
 
 from ..child import Child
@@ -107,21 +108,27 @@ def strict_end(place: Place) -> None:
 
 
 def while_followed(place: Place) -> None:
-    """A follower that goes on meanwhile finds it, too."""
-    older = backup(place)
+    """A follower that goes on meanwhile finds it, too, where the server has kept a commit that came
+    since it was started: what came before is forgotten with the first one that is new."""
+    server = place.own_server()
+    place.stock()
+    place.follow("--create")
     proxy = place.proxy()
     child = place.start(dsn=place.dsn(proxy.folder))
     place.catch_up(child)
     place.change()
     place.catch_up(child)
-    server = place.cluster
+    server.stop()
+    older = place.copy_of(server)
+    server.start()
+    for _ in range(3):
+        place.change()
+    place.catch_up(child)
     go_on(place, older, "INSERT INTO stock VALUES (7, 7)", "INSERT INTO stock VALUES (8, 8)")
     proxy.server = older.folder / f".s.PGSQL.{older.port}"
     wait_until(lambda: SHOWN in child.said(), "finding another commit", 60, child.check)
     place.catch_up(child, older)
     place.finds("repeat", SHOWN, ended(child))
-    if server is older:
-        raise Failed("it is the same server")
 
 
 def after_a_crash(place: Place) -> None:
@@ -141,8 +148,8 @@ def after_a_crash(place: Place) -> None:
         place.change()
     place.catch_up(child)
     said = child.stop()
-    equal = [int(it.split()[3]) for it in said.splitlines() if it.endswith("forgotten")]
-    if "found: repeat" in said or not equal or max(equal) == 0:
+    equal = max(map(int, re.findall("repeats: ([0-9]+) equal", said)), default=0)
+    if "found: repeat" in said or not equal:
         raise Failed(f"no commit came again, or another one did: {said}")
     place.equal()
 
