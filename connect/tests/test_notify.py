@@ -96,6 +96,15 @@ class Lines(unittest.TestCase):
             ],
         )
 
+    def test_a_status_comes_again_until_it_is_taken(self) -> None:
+        notifier = Notifier(f"@pgsub-test-later-{os.getpid()}")
+        notifier.beat("following")
+        manager = self.manager(f"@pgsub-test-later-{os.getpid()}")
+        notifier.beat("following")
+        notifier.beat("following")
+        manager.close()
+        self.assertEqual(manager.lines().count("STATUS=following"), 1)
+
     def test_without_an_address(self) -> None:
         with mock.patch.object(socket, "socket", side_effect=AssertionError):
             for notifier in (Notifier(), notifier_of({"WATCHDOG_USEC": "1000000"})):

@@ -44,27 +44,32 @@ class Notifier:
         """The main loop is alive, and at this. Called where it is due."""
         self.next = time.monotonic() + self.interval
         alive = "WATCHDOG=1" if self.is_ready else f"EXTEND_TIMEOUT_USEC={LONGER * 1000000}"
-        self.send(0.0, alive, *self.news(status))
+        self.tell(0.0, status, alive)
 
     def stopping(self, status: str) -> None:
         """The follower is about to end."""
         first = [] if self.is_stopping else ["STOPPING=1"]
         self.is_stopping = True
-        self.send(PATIENCE, *first, *self.news(status))
+        self.tell(PATIENCE, status, *first)
 
-    def news(self, status: str) -> list[str]:
-        is_new, self.status = status != self.status, status
-        return [f"STATUS={status}"] if is_new else []
+    def tell(self, patience: float, status: str, *lines: str) -> None:
+        """Tells these, and the status where the manager hasn't taken it."""
+        news = [] if status == self.status else [f"STATUS={status}"]
+        if self.send(patience, *lines, *news):
+            self.status = status
 
-    def send(self, patience: float, *lines: str) -> None:
-        """Sends these. A manager that doesn't listen any more is none of the follower's faults."""
+    def send(self, patience: float, *lines: str) -> bool:
+        """Sends these, and returns whether they were taken. A manager that doesn't listen any more
+        is none of the follower's faults."""
         if not self.address or not lines:
-            return
+            return True
         with contextlib.suppress(OSError), socket.socket(
             socket.AF_UNIX, socket.SOCK_DGRAM | socket.SOCK_CLOEXEC
         ) as it:
             it.settimeout(patience)
             it.sendto("\n".join(lines).encode(), self.address)
+            return True
+        return False
 
 
 def notifier_of(environment: MutableMapping[str, str]) -> Notifier:
