@@ -22,8 +22,8 @@ const FOLLOW_STATUSES: &str = "Exit statuses:
    0  the stream ended
    1  the stream is rejected
    2  usage error
-   3  a file is no store, or not one of noted commits, the folder no feed of the store, or a name for
-      a feed is too long
+   3  a file is no store, or not one of noted commits, the folder no feed of the store, or a
+      name for a feed is too long
   10  the buffered items of open transactions would cost more than --max-buffered
   11  a frame is longer than --max-frame
   12  the store can't be opened, as while another process has it open
@@ -31,7 +31,7 @@ const FOLLOW_STATUSES: &str = "Exit statuses:
   14  memory has run out
   15  standard input or output failed
   16  the stream ended, and some of its changes found no row
-  17  the server broke a rule, and --watch stop was given";
+  17  the server broke a rule or sent other commits again, and --watch stop was given";
 
 /// What `watch --help` says of what it holds, and of how it ends.
 const WATCH_STATUSES: &str =

@@ -49,8 +49,8 @@ pub enum Task {
     },
     /// Follow a server: its bytes come from standard input, and statuses go to standard output.
     /// Rows and position are kept in the file `store`. With `watch` the server is watched for the
-    /// rules that a well-formed one keeps, and with `repeats` its commits are noted in that file and
-    /// compared where they come again. With `load`, tables as COPY's text come before the first
+    /// rules that a well-formed one keeps, and with `repeats` its commits are noted in that file,
+    /// and compared where they come again. With `load`, tables as COPY's text come before the first
     /// session.
     Follow {
         version: Version,

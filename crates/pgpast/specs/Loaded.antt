@@ -1,5 +1,6 @@
 -- The noted commits that the bytes of a file hold.
-use Rattle.std.specs.Prelude.{◌≡◌, ◌≢◌, ◌<◌, ◌+◌, ◌-◌, ◌*◌, ◌/◌, ℕ, min, length, List, [], ◌∷◌, take, drop, map, Ok}
+use Rattle.std.specs.Prelude.{◌≡◌, ◌≢◌, ◌<◌, ◌+◌, ◌-◌, ◌*◌, ◌/◌, ℕ, min, length}
+use Rattle.std.specs.Prelude.{List, [], ◌∷◌, take, drop, map, Ok}
 use Rattle.std.specs.Prelude.{None}
 use Rattle.std.specs.List.{AllByRecursion}
 use Rattle.pgrepeats.specs.declared.commit.Commit.{Commit}

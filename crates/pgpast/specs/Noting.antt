@@ -1,5 +1,6 @@
 -- What is written to a file of noted commits.
-use Rattle.std.specs.Prelude.{◌≡◌, ◌≤◌, ◌+◌, ◌*◌, ◌%◌, ℕ, List, [], length, codes, Bool, true, false}
+use Rattle.std.specs.Prelude.{◌≡◌, ◌≤◌, ◌+◌, ◌*◌, ◌%◌, ℕ, List, [], length, codes}
+use Rattle.std.specs.Prelude.{Bool, true, false}
 use Rattle.std.specs.Prelude.{Option, Some, None, reverse}
 use Rattle.pgrepeats.specs.declared.commit.Commit.{Commit}
 use Rattle.pgrepeats.specs.declared.past.Past.{Past}

@@ -16,8 +16,8 @@ pub(crate) const RECORD_LEN: usize = 48;
 /// How many of them the CRC is of.
 const BODY_LEN: usize = 44;
 
-/// A commit, the CRC of the record of the one that was noted before it, 0 of none, and the CRC-32 of
-/// these.
+/// A commit, the CRC of the record of the one that was noted before it, 0 of none, and the CRC-32
+/// of these.
 #[derive(Clone, Copy, Debug, PartialEq, Eq)]
 pub(crate) struct Record {
     pub(crate) commit: Commit,
