@@ -126,7 +126,7 @@ class Compared:
             answer = self.past.hear(commit)
         except Contradicted as contradicted:
             told = str(contradicted)
-            self.past = Past(self.limit)
+            self.past.restart()
             self.note(None)
             answer = self.past.hear(commit)
         if answer == NEW:

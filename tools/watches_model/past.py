@@ -66,6 +66,11 @@ class Past:
         self.noted.clear()
         self.since, self.changed, self.last = self.newest, 0, None
 
+    def restart(self) -> None:
+        """Forgets also where the newest one ended."""
+        self.forget()
+        self.since = self.newest = 0
+
     def hear(self, commit: Commit) -> str:
         """What is answered of the next commit of a session."""
         if commit.end in self.noted:

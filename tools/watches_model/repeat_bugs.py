@@ -4,6 +4,7 @@ model with a bug, in place of the program."""
 from __future__ import annotations
 
 from collections.abc import Iterator, Sequence
+from copy import deepcopy
 
 from . import repeating, set_back
 from .comparing import Compared, Transaction, number
@@ -140,7 +141,7 @@ class TellsTwice(Compared):
     """after a contradiction the commits before are still noted"""
 
     def hear(self, commit: Commit) -> str | None:
-        past = self.past
+        self.past, past = deepcopy(self.past), self.past
         told = super().hear(commit)
         self.past = past if told else self.past
         return told
