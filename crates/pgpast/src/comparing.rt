@@ -129,7 +129,11 @@ impl<R: Read + Drop, F: NotesFile + Drop, L: RepeatListener + Drop> Comparing<R,
     }
 
     /// What came of the commits so far.
-    pub fn counts(&self) -> Counts {
+    pub fn counts(&self) -> Counts
+        ensures equal { result.equal ≡ self.now.compared.hearing.noting.equal }
+        ensures unknown { result.unknown ≡ self.now.compared.hearing.noting.past.unknown }
+        ensures forgotten { result.forgotten ≡ self.now.compared.hearing.noting.past.forgotten }
+    {
         let past = self.compared.past();
         Counts {
             equal: self.compared.equal(),

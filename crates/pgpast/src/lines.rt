@@ -1,5 +1,7 @@
 //! What is told of noted commits.
 
+ghost use Rattle.std.specs.Prelude.{◌≡◌, IfOk, string_bytes};
+
 use crate::comparing::RepeatListener;
 use pgcompared::Finding;
 use std::alloc::{AllocError, Global};
@@ -35,7 +37,10 @@ impl<E: Write + Drop> RepeatLines<E> {
     /// # Errors
     ///
     /// Memory has run out.
-    pub fn new(alloc: Global, err: E, path: &str) -> Result<RepeatLines<E>, AllocError> {
+    pub fn new(alloc: Global, err: E, path: &str) -> Result<RepeatLines<E>, AllocError>
+        ensures err { IfOk result (λ it. it.err ≡ err) }
+        ensures path { IfOk result (λ it. string_bytes it.path ≡ path.now) }
+    {
         let path = String::from_str(alloc, path)?;
         Ok(RepeatLines { alloc, err, path })
     }

@@ -1,6 +1,7 @@
 //! The commits that are noted in a file.
 
 ghost use Rattle.std.specs.Prelude.{◌≡◌, ◌<◌, ℕ, List, [], IfOk, OnOk, OnErr, Some, true, false};
+ghost use Rattle.std.specs.BTreeMap.{btree_map_len};
 ghost use Rattle.pgpast.specs.Noting.{IsAdded, IsBegun, IsKept, IsLoaded, head};
 ghost use Rattle.pgpast.specs.Records.{written};
 
@@ -58,7 +59,11 @@ pub struct Opened<F: NotesFile + Drop> {
 
 impl<F: NotesFile + Drop> Opened<F> {
     /// What it was found to hold.
-    pub fn found(&self) -> Found {
+    pub fn found(&self) -> Found
+        ensures count { result.count ≡ btree_map_len self.now.past.commits }
+        ensures newest { result.newest ≡ self.now.past.newest }
+        ensures unreadable { result.unreadable ≡ self.now.unreadable }
+    {
         Found {
             count: self.past.len(),
             newest: Lsn(self.past.newest()),
