@@ -15,7 +15,7 @@ from psycopg import pq
 from pgsub_connect.errors import ServerError, Unconnected
 from pgsub_connect.server import addresses, libpq, login, wire
 from pgsub_connect.server.addresses import addresses_of, connect_limit, hosts_of, parameters
-from pgsub_connect.server.connection import COPY_BOTH, Connection
+from pgsub_connect.server.connection import COPY_BOTH, NO_DSN, Connection
 from pgsub_connect.server.libpq import LIBPQ
 from pgsub_feed.errors import Stopped
 from pgsub_feed.interruption import never
@@ -140,6 +140,18 @@ class Connects(Case):
         with self.assertRaises(ServerError) as raised:
             self.connect(f"host={self.folder} port=5444 user=u")
         self.assertEqual((raised.exception.sqlstate, raised.exception.is_lasting()), ("", False))
+
+    def test_without_a_connection_string(self) -> None:
+        """A command of a log or a status typed as printed lacks it: the error says so."""
+        where = {"PGHOST": self.folder, "PGPORT": "5444"}
+        with mock.patch.dict(os.environ, where), self.assertRaises(Unconnected) as raised:
+            Connection("")
+        text = str(raised.exception)
+        self.assertIn(f'"{self.folder}/.s.PGSQL.5444"', text)
+        self.assertTrue(text.endswith(f"\n{NO_DSN}"), text)
+        with self.assertRaises(Unconnected) as raised:
+            self.connect(f"host={self.folder} port=5444 user=u")
+        self.assertNotIn(NO_DSN, str(raised.exception))
 
     def test_a_lasting_error_of_one_address_of_a_host(self) -> None:
         """It is the host's: no other address is tried, and none that can't be reached takes its

@@ -13,7 +13,7 @@ from psycopg import pq
 from pgsub_feed.interruption import Check, never
 from pgsub_feed.texts import said_text, shortened
 
-from ..errors import ServerError, WrongAnswer, understood
+from ..errors import ServerError, Unconnected, WrongAnswer, understood
 from . import login
 from .addresses import DEFAULTS, parameters
 from .libpq import TICK, Rows, is_by_gssapi, ready
@@ -31,6 +31,7 @@ COPY_BOTH = (pq.ExecStatus.COPY_BOTH,)
 COPIES = (pq.ExecStatus.COPY_OUT, pq.ExecStatus.COPY_BOTH, pq.ExecStatus.COPY_IN)
 # How many bytes are dropped at a time.
 DRAINED = 1 << 20
+NO_DSN = "no --dsn was given, so libpq's environment and defaults say where the server is"
 
 
 class Connection:
@@ -57,8 +58,11 @@ class Connection:
         settings = {**DEFAULTS, "application_name": name, **parameters(dsn)}
         settings |= {"client_encoding": "UTF8"}
         settings |= {"replication": "database"} if replication else {}
-        # (how it is protected)
-        self.raw, self.protection = login.connect(settings, check)
+        try:
+            # (how it is protected)
+            self.raw, self.protection = login.connect(settings, check)
+        except Unconnected as error:
+            raise error if dsn else Unconnected(f"{error}\n{NO_DSN}", error.sqlstate) from None
         # what the server has said of publications whose changes it leaves out, since the caller
         # looked last
         self.left_out: list[str] = []
