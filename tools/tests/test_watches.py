@@ -124,9 +124,12 @@ class Model(unittest.TestCase):
         self.assertEqual((found.passed, found.wrong), (len(STREAMS), []))
 
     def test_there_are_ten_streams_for_each_rule(self) -> None:
-        counts = Counter(it.rule for it in STREAMS)
-        self.assertEqual({*counts}, {*RULES})
-        self.assertGreaterEqual(min(counts.values()), 10)
+        """In each place."""
+        for place in (", in the middle", ", after a cut", ", over a reconnection"):
+            counts = Counter(it.rule for it in STREAMS if it.shows.endswith(place))
+            self.assertEqual({*counts}, {*RULES})
+            self.assertGreaterEqual(min(counts.values()), 10)
+        self.assertEqual(len({(it.rule, it.shows) for it in STREAMS}), len(STREAMS))
 
     def test_one_commit_may_break_several_rules(self) -> None:
         """Any of them is right, with its own frame."""

@@ -13,14 +13,14 @@ from .edits import edited
 from .judging import RULES, WHOLE, Verdict, judged
 from .live import Pipe, of_history
 from .printed import session_difference, sessions_of, status_of
-from .streams import content_of, stream_differences
+from .streams import content_of, placed, stream_differences
 
 history: Any = import_module("histories_model.history")
 stream: Any = import_module("histories_model.stream")
 
 # (contents of sessions, version of the protocol) -> (exit status, what is printed)
 Watch = Callable[[Sequence[bytes], int], tuple[int, str]]
-STREAMS = (
+BY_HAND = (
     *by_order.STREAMS,
     *by_items.UNNESTED,
     *by_items.UNDESCRIBED,
@@ -29,6 +29,7 @@ STREAMS = (
     *by_bytes.TEXTS,
     *by_bytes.MESSAGES,
 )
+STREAMS = tuple(it for stream in BY_HAND for it in placed(stream))
 # a session of more bytes is neither cut off nor edited; what is cut off has so many bytes together
 LONG, CUT_BYTES = 40000, 100000
 CUTS = 30

@@ -4,7 +4,14 @@ docs/PROTOCOL.md gives."""
 from collections.abc import Iterator
 from typing import NamedTuple
 
+from .frames import COPY_DONE, begin, insert, pair, relation
+
 WHOLE = "the end of the bytes"
+# Transactions of another table, below and above the others; and one that is cut off.
+BELOW, ABOVE = (
+    pair(lsn, relation(16400), insert(16400), end=lsn + 8, xid=5) for lsn in (0x40, 0x10000)
+)
+CUT_OFF = [begin(0x60, 6), relation()[:20]]
 
 
 class Marked(NamedTuple):
@@ -52,6 +59,19 @@ def offset_of(session: list[Part], is_cause: bool) -> int | None:
             return at
         at += len(bytes_of(part))
     return None
+
+
+def placed(stream: Stream) -> Iterator[Stream]:
+    """A stream as it is, in the middle of a session, after one that was cut off, and over a
+    reconnection."""
+    yield stream
+    first, shows = stream.sessions, stream.shows
+    middle = [it if offset_of(it, False) is None else [*BELOW, *it, *ABOVE] for it in first]
+    yield stream._replace(shows=f"{shows}, in the middle", sessions=tuple(middle))
+    cut: list[Part] = [*BELOW, *CUT_OFF]
+    yield stream._replace(shows=f"{shows}, after a cut", sessions=(cut, *first))
+    ended: list[Part] = [*BELOW, COPY_DONE]
+    yield stream._replace(shows=f"{shows}, over a reconnection", sessions=(ended, *first))
 
 
 def wrong_lines(lines: list[str], stream: Stream, session: list[Part]) -> Iterator[str]:
