@@ -213,6 +213,22 @@ class Compared(Repeats):
         self.assertEqual((self.repeats(), self.noted()), ([], FIRST + 4))
         self.assertEqual(self.counted()[-1:], [str(FIRST + 1)])
 
+    def test_what_a_crash_has_lost(self) -> None:
+        """The store has commits that aren't noted: none of them comes again, as one that wasn't
+        there before."""
+        path = Path(self.store + ".repeats")
+        for content in (path.read_bytes(), b""):
+            self.change()
+            self.goes_on_to_the_end()
+            path.write_bytes(content)
+            end = self.world.end
+            for _ in range(2):
+                self.goes_on_to_the_end()
+                self.assertEqual((self.server.started[-1][0], self.repeats()), (end, []))
+            self.assertEqual(
+                (read_known(self.store + ".connector").repeats, self.noted()), (end, 2)
+            )
+
     def test_other_publications(self) -> None:
         """What is noted isn't theirs."""
         end = self.world.end
