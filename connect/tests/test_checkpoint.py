@@ -53,12 +53,14 @@ class Gaps(unittest.TestCase):
                         check_gap(known, position, slot_at)
 
     def test_texts(self) -> None:
+        """Each with what is to be done."""
         known = Known("following", position=100, confirmed=150)
-        for position, slot_at, text in (
-            (99, 150, "so this is an older one"),
-            (100, 151, "somebody else moved the slot"),
+        for known, position, slot_at, text in (
+            (Known(), 100, 100, "its checkpoint isn't there"),
+            (known, 99, 150, "so this is an older one"),
+            (known, 100, 151, "somebody else moved the slot, or made it anew"),
         ):
-            with self.assertRaisesRegex(Unfit, text):
+            with self.assertRaisesRegex(Unfit, f"{text}. Copy anew, .*--accept gap, .*--repair"):
                 check_gap(known, position, slot_at)
 
 

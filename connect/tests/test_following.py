@@ -761,7 +761,7 @@ class Fits(Case):
         follower, cure = self.follower(), f"`pgsub-connect drop --store {self.store}`, then a start"
         self.checkpoint.write(False, phase=FOLLOWING)
         with self.assertRaisesRegex(
-            Unfit, f"has no slot .*: it was dropped, .*{cure} with --create"
+            Unfit, f"has no slot .*: it was dropped, or never was .*promoted.*{cure} with --create"
         ):
             self.connect(follower)
 
@@ -874,8 +874,14 @@ class Fits(Case):
             self.assertTrue(raised.exception.is_lasting())
 
     def test_a_log_that_ends_before_the_store(self) -> None:
+        """That is kept: once the log is beyond the store, nothing else may show it."""
+        follower = self.follower_alone()
         with self.assertRaisesRegex(Unfit, "it lost changes.*Copy anew.*--accept history"):
-            self.follower_alone().start.fitting.check_server(self.server_now(1), 0x2000000, 0)
+            follower.start.fitting.check_server(self.server_now(1), 0x2000000, 0x500)
+        (told,) = follower.watch.texts_of("history")
+        self.assertRegex(told, "^the server's log ends at 0/1000000, before .*0/2000000: it lost")
+        self.assertEqual(self.checkpoint.read().found, {"history": "0/500"})
+        self.assertEqual(follower.watch.remembered.found.take_news(), [])
         with self.assertRaisesRegex(ServerError, "a standby whose log ends") as raised:
             self.follower_alone().start.fitting.check_server(
                 self.server_now(1, standby=True), 0x2000000, 0

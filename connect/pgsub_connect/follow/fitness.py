@@ -52,10 +52,12 @@ class Fitting:
         ends = f"log ends at {lsn_text(server.log_end)}, before the store at {lsn_text(least)}"
         if server.is_standby:
             raise ServerError(f"the server is a standby whose {ends}")
+        text = f"the server's {ends}: it lost changes, as a standby that was promoted before it had them, or a backup that was put back"
+        # (once its log is beyond that, nothing else may show it)
+        self.watch.note("history", position, text)
         raise Unfit(
-            f"the server's {ends}: it lost changes, as a standby that was promoted before it had them, or a backup that was put back. Copy anew"
-            " (`pgsub-connect drop`, then a start with --create); or start again once its log is beyond that, and take the copy as it is then"
-            " by --accept history"
+            f"{text}. Copy anew (`pgsub-connect drop`, then a start with --create); or start again once its log is beyond that,"
+            " with --accept history, and `pgsub-connect verify --repair`"
         )
 
     def find_slot(self, connection: Connection, server: Server) -> int:
@@ -70,7 +72,9 @@ class Fitting:
             raise Unfit(f"{text}: --create makes it, --slot names another one")
         store = self.checkpoint.path.removesuffix(".connector")
         cure = f"`pgsub-connect drop --store {store}`, then a start with --create, copies anew"
-        raise Unfit(f"{text}: it was dropped, so what has changed since may be gone: {cure}")
+        raise Unfit(
+            f"{text}: it was dropped, or never was on this one, as where it was promoted, rewound or restored. What has changed since may be gone: {cure}"
+        )
 
     def check_timeline(self, connection: Connection, server: Server, position: int) -> int | None:
         """Checks that what the store has is in the server's history too, where its timeline isn't

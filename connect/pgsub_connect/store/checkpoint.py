@@ -316,20 +316,21 @@ def check_gap(known: Known, position: int, slot_at: int) -> None:
     moved it there: then this file says so. It is ahead of a store that was put back from a backup
     too, or where somebody else read from the slot or made it anew.
     """
+    cure = "Copy anew, or take it as it is by --accept gap, and `pgsub-connect verify --repair`"
     if known.phase == NEW and position > 0:
         raise Unfit(
-            f"nothing is known of where the store at {lsn_text(position)} is from: its checkpoint isn't there"
+            f"nothing is known of where the store at {lsn_text(position)} is from: its checkpoint isn't there. {cure}"
         )
     if slot_at <= position:
         return
     gap = f"the store is at {lsn_text(position)} and the slot at {lsn_text(slot_at)}: changes between may be missing"
     if position < known.position:
         raise Unfit(
-            f"{gap}; the store was at {lsn_text(known.position)} before, so this is an older one"
+            f"{gap}; the store was at {lsn_text(known.position)} before, so this is an older one. {cure}"
         )
     if slot_at > known.confirmed:
         raise Unfit(
-            f"{gap}; up to {lsn_text(known.confirmed)} was confirmed from here, so somebody else moved the slot"
+            f"{gap}; up to {lsn_text(known.confirmed)} was confirmed from here, so somebody else moved the slot, or made it anew. {cure}"
         )
 
 
