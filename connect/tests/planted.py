@@ -206,9 +206,30 @@ BUGS = (
     Bug(
         "commits that come again aren't compared",
         "pgsub_connect/commands/follow.py",
-        "    child.note_repeats(",
-        "    repr(",
+        "    return child.note_repeats(",
+        "    return repr(",
         ("test_broken_rules",),
+    ),
+    Bug(
+        "commits that weren't noted meanwhile are missed later",
+        "pgsub_connect/commands/follow.py",
+        "        return common.checkpoint.forget_repeats()\n",
+        "        return None\n",
+        ("test_broken_rules",),
+    ),
+    Bug(
+        "what a crash has lost of the noted commits is missed when it comes again",
+        "pgsub_connect/follow/comparing.py",
+        "if since and self.is_noted(since):",
+        "if since:",
+        ("test_repeats",),
+    ),
+    Bug(
+        "a server whose log ended before the store is well once it has grown",
+        "pgsub_connect/follow/fitness.py",
+        '        self.watch.note("history", position, text)\n        raise Unfit(\n            f"{text}. Copy anew (`',
+        '        raise Unfit(\n            f"{text}. Copy anew (`',
+        ("test_following",),
     ),
     Bug(
         "a load is taken for a session of which commits are noted",
@@ -367,8 +388,8 @@ BUGS = (
     Bug(
         "the rows of a copy are watched as a server's session",
         "pgsub_connect/commands/follow.py",
-        "child.add_words([",
-        "part.add_words([",
+        "        child.add_words([",
+        "        list([",
         ("test_broken_rules",),
     ),
     Bug(

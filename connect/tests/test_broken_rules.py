@@ -313,6 +313,23 @@ class Words(FollowCase):
             self.assertEqual(parts.child.repeats.path, self.store + ".repeats")
             # (without it while it loads the first rows, which are no session)
             self.assertIs(parts.copier.filter, parts.child)
+            checkpoint.forget_repeats.assert_not_called()
+
+    def test_how_far_it_watches(self) -> None:
+        """Commits that come while none are noted aren't compared later, either."""
+        for words, told in (
+            (("--watch", "rules"), ["--watch", "tell"]),
+            (("--watch", "rules", "--strict"), ["--watch", "stop"]),
+            (("--watch", "no"), []),
+        ):
+            _, options = cli.arguments(
+                ["follow", "--store", self.store, "--dsn", "", "--pgsub", FAKE, *words]
+            )
+            checkpoint = mock.Mock(file=0)
+            child = follow.made(follow.settled(options), checkpoint).child
+            at = child.words.index("--watch") if "--watch" in child.words else len(child.words)
+            self.assertEqual((child.words[at:], child.repeats), (told, None), words)
+            checkpoint.forget_repeats.assert_called_once_with()
 
     def test_statuses(self) -> None:
         with open(self.store, "w", encoding="ascii") as file:

@@ -86,6 +86,8 @@ class Words(Quiet):
             "follow --store s --max-buffered 0",
             "follow --store s --skip 5",
             "follow --store s --accept x",
+            "follow --store s --watch x",
+            "follow --store s --watch no --strict",
             "follow --store s --seconds 5",
             "follow --store s --create temporary",
             "drop",

@@ -39,13 +39,15 @@ from ..store.checkpoint_lines import COPYING, FOLLOWING, INTERRUPTED, NEW
 from ..store.placing import OF_STORE, check_meant
 from ..store.repeats_file import RepeatsFile
 from ..stream.common import Common, Tolerance
-from ..stream.filter import Filter
+from ..stream.filter import WATCH, Filter
 from .arguments import words
 from .arguments.feed import FeedOptions, settled_feed
 from .arguments.following import check_numeric
 from .arguments.publishing import CopyOptions, add_copying, check_creates, check_publishing
 from .arguments.server import ServerOptions, settled_server
 from .arguments.session import (
+    ALL,
+    NO,
     AlterOptions,
     SessionOptions,
     SizeOptions,
@@ -109,6 +111,8 @@ def check_options(parser: argparse.ArgumentParser, options: Options) -> Options:
     if options.tables and options.without_tables:
         parser.error("--tables and --without-tables exclude each other")
     check_numeric(parser, options.numeric, options.digests)
+    if options.strict and options.watch == NO:
+        parser.error("--strict and --watch no exclude each other")
     if not options.store:
         parser.error("--store is needed")
     check_publishing(parser, options)
@@ -252,8 +256,7 @@ def made(options: Options, checkpoint: Checkpoint) -> Parts:
     feeding = Feeding(options.feed_settings(store, mode), common)
     feeding.check()
     child = make_filter(options, checkpoint)
-    child.add_words(["--watch", "stop" if tolerance.stops else "tell"])
-    child.note_repeats(RepeatsFile(store, checkpoint, lambda: subscription.publications))
+    begin_watching(options, common, child)
     told = subscription, checkpoint, child, progress, remembered
     copier = Copier(options.copy_settings(), *told, feeding.rows_beside())
     recording, requests = recording_of(options), RequestSocket(store, mode)
@@ -282,6 +285,18 @@ def make_filter(options: Options, checkpoint: Checkpoint) -> Filter:
     words += ["--max-buffered", str(options.max_buffered), "--max-frame", str(options.max_frame)]
     words += ["--cache", str(options.cache)] if options.cache else []
     return Filter(words, (checkpoint.file,), options.proto, options.mode)
+
+
+def begin_watching(options: Options, common: Common, child: Filter) -> None:
+    """Has the filter watch the server, as far as it is to."""
+    if options.watch != NO:
+        child.add_words([WATCH, "stop" if common.tolerance.stops else "tell"])
+    if options.watch != ALL:
+        # (commits come now that aren't noted)
+        return common.checkpoint.forget_repeats()
+    subscription = common.subscription
+    file = RepeatsFile(options.store, common.checkpoint, lambda: subscription.publications)
+    return child.note_repeats(file)
 
 
 def follow_with(options: Options, parts: Parts) -> None:

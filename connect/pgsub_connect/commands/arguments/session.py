@@ -85,9 +85,13 @@ ACCEPTED = (
 )
 
 
+# How far a server is watched.
+ALL, RULES, NO = "all", "rules", "no"
+
+
 @dataclasses.dataclass(frozen=True)
 class SessionOptions:
-    """Where it ends, and what is taken as it is, or passed over."""
+    """Where it ends, and what is watched, taken as it is, or passed over."""
 
     until: int | str | None = option(
         "--until LSN|now",
@@ -104,6 +108,12 @@ class SessionOptions:
         "--strict",
         "end with status 5 where something was found that may have made the copy wrong",
         False,
+    )
+    watch: str = option(
+        "--watch",
+        "watch whether the server keeps the rules of the proof, and whether commits that it sends again are the same; the rules alone, which takes less of the processor; or nothing (default: all)",
+        ALL,
+        choices=(ALL, RULES, NO),
     )
     accept: Sequence[str] = option(
         "--accept KIND",
