@@ -629,12 +629,13 @@ class Fits(Case):
         follower.confirming.position = 0x900
         self.connect(follower)
         self.assertEqual(self.checkpoint.read().timeline, 2)
-        text = "the server's commits from 0/500 to 0/900 are missing, and the store has others: verify --repair, then --accept history again"
+        text = "the server's commits from 0/500 to 0/900 are missing, and the store has others"
         self.assertEqual(
             (self.checkpoint.read().found, list(follower.watch.remembered.found["history"].texts)),
             ({"history": "0/900"}, [text]),
         )
-        self.assertIn(f"warning: found: history at 0/900: {text}", self.said)
+        again = "verify --repair, then --accept history again"
+        self.assertIn(f"warning: found: history at 0/900: {text}: {again}", self.said)
         follower.session.disconnect()
         self.identity[1], self.started = "3", "3000"
         self.brain.answer("TIMELINE_HISTORY", [["x", "1\t0/500\treason\n2\t0/600\treason"]])
@@ -881,7 +882,7 @@ class Fits(Case):
         (told,) = follower.watch.texts_of("history")
         self.assertRegex(told, "^the server's log ends at 0/1000000, before .*0/2000000: it lost")
         self.assertEqual(self.checkpoint.read().found, {"history": "0/500"})
-        self.assertEqual(follower.watch.remembered.found.take_news(), [])
+        self.assertEqual(self.progress.findings.found, {"history": told})
         with self.assertRaisesRegex(ServerError, "a standby whose log ends") as raised:
             self.follower_alone().start.fitting.check_server(
                 self.server_now(1, standby=True), 0x2000000, 0

@@ -116,7 +116,7 @@ class Probes(unittest.TestCase):
         self.fails(
             "the copy may be wrong: history, values (following, ",
             "\n  values: t.x has old values: `pgsub-connect add --store /s/copy.db --table T`, or",
-            "\n  history: y: `pgsub-connect verify --repair --store /s/copy.db`, once it was started with --accept history\n",
+            "\n  history: y: `pgsub-connect verify --repair --store /s/copy.db`, once it was started with --accept history; then start it so again\n",
         )
 
     def test_one_finding_says_its_kind_once(self) -> None:

@@ -136,6 +136,8 @@ class Found(Case):
             with logged():
                 self.watch().note("slot", 200, "somebody else moved the slot")
             self.assertEqual(list(self.checkpoint.read().found), ["slot"])
+            shown = self.progress.findings.found
+            self.assertEqual(shown, {"slot": "somebody else moved the slot"})
             with logged() as said:
                 self.watch(word, strict=True)
             self.assertEqual(

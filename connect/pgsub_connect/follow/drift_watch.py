@@ -2,7 +2,7 @@
 accepts it, and tells it."""
 
 import time
-from collections.abc import Sequence
+from collections.abc import Iterable, Sequence
 from contextlib import closing
 
 from pgsub_feed import log
@@ -94,8 +94,7 @@ class Watch:
     def show(self) -> None:
         """Tells the progress what was found, and ends the following where it is to be strict."""
         began = time.monotonic()
-        kinds = self.checkpoint.findings()
-        self.progress.findings.note({kind: "; ".join(self.texts_of(kind)) for kind in kinds})
+        kinds = self.show_found()
         ends = filter(self.tolerance.ends_at, kinds)
         lasting = {kind: it for kind in ends if (it := "; ".join(self.lasting_of(kind)))}
         if lasting:
@@ -104,6 +103,12 @@ class Watch:
             raise Unfit(f"{told}\n{texts}")
         took = time.monotonic() - began
         self.is_shown, self.next_show = True, began + (PART * took if took > LITTLE else 0.0)
+
+    def show_found(self) -> Iterable[str]:
+        """Tells the progress what was found. Returns the kinds."""
+        kinds = self.checkpoint.findings()
+        self.progress.findings.note({kind: "; ".join(self.texts_of(kind)) for kind in kinds})
+        return kinds
 
     def compare(self, connection: Connection, position: int) -> bool:
         """Compares what the server has with what is remembered; false where a lock is held."""
@@ -215,6 +220,7 @@ class Watch:
         self.remembered.found.take_news()
         self.remembered.save()
         self.checkpoint.note_found(kind, lsn)
+        self.show_found()
 
     def tend(self, wants_look: bool, check: Check, position: int) -> bool:
         """Called after each lot of payloads, before anything of them is confirmed. Returns whether

@@ -124,22 +124,25 @@ class Fitting:
             self.watch.note("history", position, text)
             raise Unfit(f"{text}. Copy anew, or take it as it is by --accept history")
         after = "below" if left is None else f"from {lsn_text(left)} to"
-        text = f"the server's commits {after} {at} are missing, and the store has others: verify --repair, then --accept history again"
+        text = f"the server's commits {after} {at} are missing, and the store has others"
         self.watch.note("history", position, text)
-        log.warning(f"found: history at {at}: {text}")
+        log.warning(f"found: history at {at}: {text}: verify --repair, then --accept history again")
 
     def check_start(self, slot_at: int, position: int) -> None:
         """Rejects a gap between store and slot, unless it was said to be wanted."""
         known = self.checkpoint.known
-        if self.tolerance.accepts("gap") or (known.phase == NEW and self.no_copy and position == 0):
+        is_wanted = known.phase == NEW and self.no_copy and position == 0
+        try:
+            check_gap(known, position, slot_at)
+        except Unfit:
+            if not (is_wanted or self.tolerance.accepts("gap")):
+                raise
             log.warning(
                 f"whatever changed before {lsn_text(slot_at)} and isn't in the store stays missing"
             )
             self.tolerance.use_gap()
             self.checkpoint.forget_server()
             self.checkpoint.write(False, confirmed=max(slot_at, position), position=position)
-        else:
-            check_gap(known, position, slot_at)
 
     def note_server(self, server: Server, confirmed: int, position: int) -> None:
         """Notes durably whose changes the store has, and what its filter confirms."""

@@ -31,6 +31,7 @@ CURES = {
     "publication": "`pgsub-connect refresh --store {store}`",
     "values": "`pgsub-connect add --store {store} --table T`, or start it with --accept values",
     "missing": "`pgsub-connect verify --repair --store {store}`, then start it with --accept missing",
+    "history": "`pgsub-connect verify --repair --store {store}`, once it was started with --accept history; then start it so again",
 }
 ADDED = "its rows are being copied: wait for that"
 # What doesn't make the copy wrong by itself.
