@@ -96,14 +96,30 @@ class Cluster:
     def stop(self, mode: str = "fast") -> None:
         self.control("-m", mode, "stop")
 
-    def promote(self) -> None:
-        """Starts it as a standby and makes a primary of it, with a timeline of its own."""
+    def be_standby(self) -> None:
+        """Has the next start begin as a standby."""
         signal = self.data / "standby.signal"
         signal.touch()
         if self.installed.account:
             os.chown(signal, self.installed.account.uid, self.installed.account.gid)
+
+    def promote(self) -> None:
+        """Starts it as a standby and makes a primary of it, with a timeline of its own."""
+        self.be_standby()
         self.start()
         self.control("promote")
+
+    def rewind(self, source: Cluster) -> None:
+        """Takes back what another server hasn't that has gone on from this one's files. The next
+        start begins as its standby."""
+        from_there = source.dsn_inside("postgres")
+        self.call(
+            "pg_rewind", "-D", self.installed.inside(self.data), "--source-server", from_there
+        )
+        # (the other one's settings come, too)
+        own = {"unix_socket_directories": self.installed.inside(self.folder)}
+        self.configure({**own, "primary_slot_name": "", "primary_conninfo": from_there})
+        self.be_standby()
 
     def dsn(self, database: str = "shop", user: str = "") -> str:
         limit = round(10 * Patience.factor)

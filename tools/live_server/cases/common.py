@@ -13,6 +13,7 @@ import threading
 import time
 from collections.abc import Callable, Iterator
 from pathlib import Path
+from signal import SIGTERM
 from typing import Any, Optional
 
 from ..child import Child
@@ -20,7 +21,7 @@ from ..errors import Failed
 from ..feeds import reading
 from ..follower import wait_until
 from ..load import SCHEMA, Worker, final_statements
-from ..place import OK, PASSING, Place
+from ..place import MISSED, OK, PASSING, Place
 
 Cells = tuple[Optional[str], ...]
 Line = dict[str, Any]
@@ -159,6 +160,28 @@ def verify(place: Place, *more: str, status: int = OK, dsn: str = "") -> tuple[l
     """Compares. Returns the differences that were printed, and all that was said."""
     said = place.has_ended(place.started(verify_words(place, *more, dsn=dsn)), status, "")
     return [json.loads(line) for line in said.splitlines() if line.startswith("{")], said
+
+
+def ended(child: Child) -> str:
+    """Asks for the end. Rows of commits that the store has passed over may have been missed."""
+    child.signal(SIGTERM)
+    if (status := child.end()) not in (OK, MISSED):
+        raise Failed(f"it ended with status {status}: {child.said()}")
+    return child.said()
+
+
+def mend(place: Place, *accepted: str) -> None:
+    """Does what `status` says: the copy is the server's again, and nothing is found any more."""
+    child = place.start(*(word for it in accepted for word in ("--accept", it)))
+    place.catch_up(child)
+    verify(place, "--repair")
+    ended(child)
+    place.equal()
+    if left := place.found().keys() - {"missing"}:
+        raise Failed(f"it still has {left}")
+    place.change()
+    place.follow("--strict", "--accept", "missing")
+    place.equal()
 
 
 def verified(place: Place) -> None:

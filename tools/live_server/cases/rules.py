@@ -51,6 +51,7 @@ def recorded(place: Place, proto: str) -> Told:
     child.stop()
     place.equal()
     found = told(place, str(recording))
+    print("   sessions that kept it:", ", ".join(f"{it} {found[it][KEPT]}" for it in WATCHED))
     # (one that is ended at once has no commit)
     if found["rule 1"].total() <= ENDED or found["order"][KEPT] < 2:
         raise Failed(f"too few sessions: {found}")

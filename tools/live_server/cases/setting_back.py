@@ -4,15 +4,13 @@ they send other commits than before, and their log has grown past what the store
 from __future__ import annotations
 
 import re
-from signal import SIGTERM
 
-from ..child import Child
 from ..cluster import Cluster
 from ..errors import Failed
 from ..follower import wait_until
-from ..place import MISSED, OK, REJECTED, UNFIT, Place
+from ..place import REJECTED, UNFIT, Place
 from .case import Case
-from .common import verify
+from .common import ended, mend
 
 SHOWN = "the commit that ends at"
 
@@ -35,32 +33,35 @@ def backup(place: Place, lost: int = 3) -> Cluster:
     return older
 
 
-def go_on(place: Place, older: Cluster, *commands: str) -> None:
-    """Puts the copy in the server's place, and changes it until its log has grown past the
-    server's."""
+def put_back(place: Place, older: Cluster) -> str:
+    """Puts the copy in the server's place. Returns where the server's log ended."""
     end = place.cluster.log_end()
     place.cluster.stop()
     older.start()
     place.cluster = older
-    place.run(*commands)
+    return end
+
+
+def grow(place: Place, end: str) -> None:
+    """Changes the server until its log has grown past an LSN."""
     while place.value(f"SELECT pg_current_wal_insert_lsn() > '{end}'") != "t":
         place.run("SELECT pg_switch_wal()")
         place.change()
 
 
-def ended(child: Child) -> str:
-    """Asks for the end. Rows of commits that the store has passed over may have been missed."""
-    child.signal(SIGTERM)
-    if (status := child.end()) not in (OK, MISSED):
-        raise Failed(f"it ended with status {status}: {child.said()}")
-    return child.said()
+def go_on(place: Place, older: Cluster, *commands: str) -> None:
+    """Puts the copy in the server's place, and changes it until its log has grown past the
+    server's."""
+    end = put_back(place, older)
+    place.run(*commands)
+    grow(place, end)
 
 
-def told(place: Place, said: str) -> None:
+def told(place: Place, said: str, kind: str = "repeat", text: str = SHOWN) -> None:
     """What was found is told and kept, and `status` has the cure."""
-    place.finds("repeat", SHOWN, said)
+    place.finds(kind, text, said)
     said = place.subcommand("status", "--store", str(place.store), status=REJECTED)
-    for it in ("the copy may be wrong: ", f"repeat: {SHOWN}", "--accept repeat", "verify --repair"):
+    for it in ("the copy may be wrong: ", text, f"--accept {kind}", "verify --repair"):
         if it not in said:
             raise Failed(f"status doesn't tell {it!r}: {said}")
 
@@ -73,16 +74,7 @@ def set_back(place: Place) -> None:
     child = place.start()
     place.catch_up(child)
     told(place, ended(child))
-    child = place.start("--accept", "repeat", "--accept", "missing")
-    place.catch_up(child)
-    verify(place, "--repair")
-    ended(child)
-    place.equal()
-    if "repeat" in place.found():
-        raise Failed(f"it still has {place.found()}")
-    place.change()
-    place.follow("--strict", "--accept", "missing")
-    place.equal()
+    mend(place, "repeat", "missing")
 
 
 def same_ends(place: Place) -> None:
@@ -131,6 +123,30 @@ def while_followed(place: Place) -> None:
     place.finds("repeat", SHOWN, ended(child))
 
 
+def seen_behind(place: Place) -> None:
+    """A start that meets a log which ends before the store keeps that: it is told once the log has
+    grown, though none of the commits that are lost was noted."""
+    server = place.own_server()
+    place.stock()
+    child = place.start("--create")
+    place.catch_up(child)
+    server.stop()
+    older = place.copy_of(server)
+    server.start()
+    for _ in range(3):
+        place.change()
+    place.catch_up(child)
+    # (the filter that makes the copy notes no commits)
+    child.stop()
+    end = put_back(place, older)
+    place.ends(UNFIT, "it lost changes")
+    grow(place, end)
+    child = place.start()
+    place.catch_up(child)
+    told(place, ended(child), "history", "log ends at")
+    mend(place, "history", "missing")
+
+
 def after_a_crash(place: Place) -> None:
     """A server that crashes sends again what it forgot was confirmed, and that is the same."""
     server = place.own_server()
@@ -159,5 +175,6 @@ CASES = (
     Case("server-that-was-set-back-by-one-commit", same_ends, breaks_rules=True),
     Case("server-that-was-set-back-ends-a-strict-one", strict_end, breaks_rules=True),
     Case("server-that-was-set-back-while-followed", while_followed, breaks_rules=True),
+    Case("server-that-was-set-back-and-seen-behind", seen_behind),
     Case("server-that-crashes-sends-commits-again", after_a_crash),
 )

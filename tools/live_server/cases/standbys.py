@@ -13,9 +13,10 @@ from ..cluster import Cluster
 from ..copies import Standby
 from ..errors import Failed
 from ..follower import is_confirmed, wait_until
-from ..place import UNFIT, Place
+from ..place import PASSING, UNFIT, Place
 from ..rows import compare, rows_of_server
 from .case import Case
+from .common import mend
 
 
 def standby_of(place: Place, primary: Cluster, **settings: str) -> Standby:
@@ -168,9 +169,72 @@ def failover_too_early(place: Place) -> None:
         raise Failed(f"the checkpoint doesn't keep it: {place.found()}")
 
 
+def became_primary(cluster: Cluster) -> None:
+    wait_until(lambda: cluster.value("SELECT pg_is_in_recovery()") == "f", "promotion")
+
+
+def make_slot(place: Place) -> None:
+    """Makes the slot by hand, as is said where it isn't there."""
+    place.ends(UNFIT, "has no slot")
+    place.run(f"SELECT pg_create_logical_replication_slot('{place.slot}', 'pgoutput')")
+
+
+def without_slot(place: Place) -> None:
+    """A standby that is promoted hasn't the slot. One is made there by hand, and what is said then
+    mends the copy: the promoted one has changes from before the slot, and lacks none."""
+    primary = place.own_server()
+    place.stock()
+    place.follow("--create")
+    second = standby_of(place, primary)
+    place.change()
+    place.follow()
+    second.catch_up()
+    primary.stop()
+    second.promote()
+    became_primary(second)
+    place.cluster = second
+    place.change()
+    make_slot(place)
+    place.change()
+    place.ends(UNFIT, "somebody else moved the slot, or made it anew")
+    mend(place, "gap")
+
+
+def rewound(place: Place) -> None:
+    """A primary is rewound to a standby that was promoted without its last commits, and becomes the
+    primary again: it has neither these nor the slot."""
+    primary = place.own_server({"wal_log_hints": "on"})
+    place.stock()
+    place.follow("--create")
+    second = standby_of(place, primary)
+    second.stop()
+    place.change()
+    place.follow()
+    end = primary.log_end()
+    primary.stop()
+    second.start()
+    second.promote()
+    became_primary(second)
+    second.run("CHECKPOINT", "INSERT INTO stock VALUES (7, 7)")
+    primary.rewind(second)
+    primary.start()
+    place.ends(PASSING, "the server is a standby")
+    primary.control("promote")
+    became_primary(primary)
+    while place.value(f"SELECT pg_current_wal_insert_lsn() > '{end}'") != "t":
+        place.run("SELECT pg_switch_wal()")
+        place.change()
+    make_slot(place)
+    place.ends(UNFIT, "the store has changes that the server hasn't")
+    place.ends(UNFIT, "--accept gap", "--accept", "history")
+    mend(place, "history", "gap", "missing")
+
+
 CASES = (
     Case("standby-is-followed", standby, since=16),
     Case("restarted-primary-of-several-hosts", hosts),
+    Case("promoted-standby-without-the-slot", without_slot),
+    Case("rewound-primary", rewound),
     Case("failover-slot", failover, since=17),
     Case("failover-before-the-standby-had-all", failover_too_early, since=17),
 )

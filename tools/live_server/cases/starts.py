@@ -15,7 +15,7 @@ from ..follower import wait_until
 from ..place import FILE, LOG, PASSING, REJECTED, SERVER, UNFIT, USAGE, Place, killed_at
 from ..rows import compare, quoted, rows_of_server, rows_of_store
 from .case import Case
-from .common import now_in_tables
+from .common import mend, now_in_tables
 from .copying import added
 
 
@@ -185,14 +185,20 @@ def store_gone(place: Place) -> None:
 
 
 def slot_gone(place: Place) -> None:
-    """Rejects where the slot is gone, or was made anew."""
+    """Rejects where the slot is gone, or was made anew. What it says then mends the copy, whose
+    commits of before don't come again."""
     place.stock()
     place.follow("--create")
+    place.change()
+    place.follow()
     place.run(f"SELECT pg_drop_replication_slot('{place.slot}')")
     place.ends(UNFIT, "has no slot")
     place.change()
     place.run(f"SELECT pg_create_logical_replication_slot('{place.slot}', 'pgoutput')")
-    place.ends(UNFIT, "somebody else moved the slot")
+    said = place.ends(UNFIT, "somebody else moved the slot, or made it anew")
+    if "--accept gap" not in said or "verify --repair" not in said:
+        raise Failed(f"what mends it isn't told: {said}")
+    mend(place, "gap")
 
 
 def others(place: Place) -> None:

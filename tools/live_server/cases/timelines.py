@@ -60,7 +60,7 @@ def ends_before(place: Place) -> None:
     server.start()
     for _ in range(3):
         # (a large transaction would be streamed, and its commit be one of the store's, though it is
-        # empty)
+        # empty; so is each before version 15)
         place.run("INSERT INTO unpublished VALUES ('x')", "SELECT pg_switch_wal()")
     place.follow()
     server.stop()
@@ -110,6 +110,6 @@ def older_timeline(place: Place) -> None:
 CASES = (
     Case("promoted-server-lacks-changes", lacks_changes),
     Case("promoted-server-has-all-changes", has_all_changes),
-    Case("promoted-server-ends-before-a-keepalive", ends_before),
+    Case("promoted-server-ends-before-a-keepalive", ends_before, since=15),
     Case("server-of-before-a-promotion", older_timeline),
 )
