@@ -232,6 +232,13 @@ BUGS = (
         ("test_following",),
     ),
     Bug(
+        "a finding that a start ends with isn't shown",
+        "pgsub_connect/follow/drift_watch.py",
+        "        self.checkpoint.note_found(kind, lsn)\n        self.show_found()\n",
+        "        self.checkpoint.note_found(kind, lsn)\n",
+        ("test_watching", "test_following"),
+    ),
+    Bug(
         "a load is taken for a session of which commits are noted",
         "pgsub_connect/stream/filter.py",
         "self.repeats is not None and not loads",
