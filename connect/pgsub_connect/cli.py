@@ -44,7 +44,7 @@ HELP = "help"
 OF_PROGRAM = dict.fromkeys(("apply", "show", "same", "resume", "lsn"), "")
 OF_PROGRAM[
     "dump"
-] = ". While a follower has the store open, it gets `store 8 Refused`: `pgsub-connect export` copies the rows, `snapshot` the store"
+] = ". While a follower has the store open, `pgsub-connect export` copies the rows, `snapshot` the store"
 
 
 class Command(Protocol):

@@ -148,12 +148,25 @@ def follows(following: Following) -> None:
     wait_for_rows(following.folder)
 
 
+def refused_dump(folder: Path) -> None:
+    """The program doesn't open a store that the follower has open. Why, and what shows the rows
+    meanwhile, is told before its own line."""
+    words = ["runuser", "-u", USER, "--", "pgsub", "dump", "--store", str(folder / "copy.db")]
+    ran = subprocess.run(words, env=ENVIRONMENT, capture_output=True, text=True)
+    told = ran.stderr.splitlines()
+    if (ran.returncode, ran.stdout, told[1:]) != (3, "", ["pgsub: store 8 Refused"]) or (
+        "another process has" not in told[0] or "`pgsub-connect export`" not in told[0]
+    ):
+        raise Wrong(f"status {ran.returncode}: {ran.stdout}{ran.stderr}")
+
+
 def upgrade(counts: Counts, folder: Path) -> None:
     """Installs the second build while the first one follows and the server changes. Nothing is
     lost."""
     insert = "INSERT INTO stock SELECT 'G-' || count(*), count(*) FROM stock"
     following = Following(folder)
     counts.tried("the first build follows", lambda: follows(following))
+    counts.tried("dump says that the store is open", lambda: refused_dump(folder))
 
     def install() -> None:
         run("psql", "-q", "-c", insert, "shop", user=USER)

@@ -1,5 +1,6 @@
 """What ./install puts where. The program is a script in its place, so nothing is built."""
 
+import fcntl
 import os
 import shutil
 import subprocess
@@ -109,6 +110,7 @@ class Case(unittest.TestCase):
                 "bin/pgsub-connect",
                 "bin/pgsub-feed",
                 "lib/pgsub/pgsub",
+                "lib/pgsub/pgsub-run",
                 "lib/pgsub/pgsub-connect",
                 "lib/pgsub/BUILD",
                 "lib/pgsub/pgsub-feed",
@@ -146,6 +148,18 @@ class Case(unittest.TestCase):
         self.assertEqual(build["version"], "1.2+3")
         self.assertEqual(build["kit"], "the kit")
         self.assertIn("1.2+3", self.run_it("--version").stdout)
+
+    def test_the_program_by_its_name(self) -> None:
+        """What it doesn't say of a store is told before it runs."""
+        self.install("--pages", self.make_pages())
+        store = self.room / "copy.db"
+        store.touch()
+        words = [self.root / "bin/pgsub", "dump", "--store", store]
+        with store.open("r+") as file:
+            fcntl.lockf(file, fcntl.LOCK_EX)
+            ran = subprocess.run(words, capture_output=True, text=True, check=True)
+        self.assertEqual(ran.stdout, subprocess.check_output([self.room / "program"], text=True))
+        self.assertIn(f"another process has {store} open", ran.stderr)
 
     def test_a_program_that_says_no_kit(self) -> None:
         program = self.room / "silent"

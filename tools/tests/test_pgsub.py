@@ -52,8 +52,9 @@ class Case(unittest.TestCase):
         )
         (self.top / "crates/pgsub/src").mkdir(parents=True)
         shutil.copy(TOP / "pgsub", self.top)
-        (self.top / "tools").mkdir()
-        shutil.copy(TOP / "tools/building.py", self.top / "tools")
+        for folder, file in (("tools", "building.py"), ("connect", "pgsub-run")):
+            (self.top / folder).mkdir()
+            shutil.copy(TOP / folder / file, self.top / folder)
         for name, text in (
             ("KITS", f"# kits\nanother\n{KIT}\n"),
             ("HANDLES", "none\n"),
@@ -110,7 +111,7 @@ class Case(unittest.TestCase):
         self.assertEqual(self.calls.read_text(), f"{self.room()}/crates/pgsub\n")
         self.assertEqual(
             sorted(os.listdir(self.top)),
-            ["HANDLES", "KITS", "crates", "crates.txt", "pgsub", "tools"],
+            ["HANDLES", "KITS", "connect", "crates", "crates.txt", "pgsub", "tools"],
         )
 
     def test_help_builds_nothing(self) -> None:
@@ -141,6 +142,30 @@ class Case(unittest.TestCase):
         self.assertIn("pgsub: pgsub is proved, 1 of 1 crates, less than a minute left\n", err)
         self.assertEqual(self.run_it("a"), (0, "second a\n", ""))
         self.assertEqual(self.builds(), 2)
+
+    def test_a_store_that_another_process_has_open(self) -> None:
+        """The program's own line doesn't say so."""
+        self.run_it()
+        store = self.top / "my copy.db"
+        told = (
+            f"pgsub: another process has {store} open, as a follower does: `pgsub-connect export`"
+            " copies its rows, `pgsub-connect snapshot` the store\n"
+        )
+        words = (
+            ("dump", "--store", str(store)),
+            ("apply", f"--store={store}", "--raw", "f"),
+            ("follow", "--store", str(store)),
+            ("dump", "--", "--store", str(store)),
+        )
+        store.touch()
+        with store.open("r+") as file:
+            self.assertEqual([self.run_it(*it)[2] for it in words], [""] * 4)
+            fcntl.lockf(file, fcntl.LOCK_EX)
+            self.assertEqual([self.run_it(*it)[2] for it in words], [told, told, "", ""])
+            os.symlink(store, self.top / "link")
+            status, out, err = self.run_it("dump", "--store", "link")
+        self.assertEqual((status, out), (0, "first dump --store link\n"))
+        self.assertIn("another process has link open", err)
 
     def git(self, *words: str) -> str:
         words = ("git", "-C", str(self.top), "-c", "user.name=a", "-c", "user.email=a@b.c", *words)
