@@ -173,6 +173,9 @@ def upgrade(counts: Counts, folder: Path) -> None:
         run("apt-get", "-y", "-qq", "install", *(str(it) for it in (HERE / "second").iterdir()))
         if ".later" not in run("pgsub-connect", "--version"):
             raise Wrong("the version is the old one")
+        told = run("pgsub-connect", "status", "--store", str(folder / "copy.db"), user=USER)
+        if ".later" not in told or "is installed: start it again" not in told:
+            raise Wrong(f"that the follower is of the old build isn't told: {told}")
         run("psql", "-q", "-c", insert, "shop", user=USER)
 
     counts.tried("the second build is installed", install)

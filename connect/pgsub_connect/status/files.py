@@ -42,7 +42,7 @@ def status_fields(
         "server_version": progress.server.version or None,
         "timeline": progress.server.timeline or None,
         **transport.OWN.shown(),
-        "connector_version": VERSION,
+        "connector_version": OWN.get("version", VERSION),
         "connector_commit": OWN.get("commit"),
         "program_version": progress.program or None,
         "pid": os.getpid(),

@@ -198,7 +198,7 @@ def cures_of(status: Mapping[str, Any], wrong: list[Fault]) -> Iterator[str]:
         head = f"{fault.text}: " if len(wrong) > 1 and len(lines) == 1 else ""
         yield from (f"  {log.escaped(head + it)}" for it in lines)
     runs = (status.get("connector_version"), status.get("connector_commit"))
-    if runs[0] and runs != (own := (VERSION, OWN.get("commit"))):
+    if runs[0] and runs != (own := (OWN.get("version", VERSION), OWN.get("commit"))):
         old, new = (" of ".join(map(str, filter(None, it))) for it in (runs, own))
         yield log.escaped(f"  it runs version {old}, and {new} is installed: start it again")
 
