@@ -104,7 +104,9 @@ class Case(unittest.TestCase):
         self.assertEqual(self.run_it("--is-current")[0], 1)
         status, out, err = self.run_it("a", "b")
         self.assertEqual((status, out), (0, "first a b\n"))
-        self.assertIn("an hour and more on four cores", err)
+        found = re.search("an hour and more on four cores, .* its log is (/.+)\n", err)
+        assert found
+        self.assertFalse(os.path.exists(found[1]))
         self.assertEqual(self.run_it("c"), (0, "first c\n", ""))
         self.assertEqual(self.run_it("--is-current"), (0, "", ""))
         self.assertEqual(self.builds(), 1)
