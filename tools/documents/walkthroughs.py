@@ -8,6 +8,7 @@ says what it is run with:
     <!--run:server,stays-->    its last command goes on, and later blocks are run beside it
     <!--run:server,stopped-->  what goes on is stopped before it, as by Ctrl-C
     <!--run:package-->         an installed package
+    <!--run:redis-->           Redis at its usual port, in the folder of the one with a server
     <!--run:hand-->            nothing: a person has to look
 
 The blocks of one kind are run from top to bottom in one folder. A command is a line `$ ..` with the
@@ -26,7 +27,7 @@ from collections.abc import Iterable, Mapping, Sequence
 from dataclasses import dataclass
 from pathlib import Path
 
-KINDS = ("program", "server", "package", "hand")
+KINDS = ("program", "server", "package", "redis", "hand")
 MARK = re.compile(r"^<!--\s*run:\s*([a-z]+)((?:\s*,\s*[a-z]+)*)\s*-->$")
 WORDS = {"stays", "stopped"}
 FENCE = re.compile(r"^```")

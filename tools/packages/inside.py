@@ -21,14 +21,17 @@ from trying.faults import try_faults
 from trying.machine import ENVIRONMENT, SECONDS, SERVER, USER, Counts, Following, Wrong, run
 
 HERE = Path(__file__).resolve().parent
-# Debian's packages that the trial needs, each with a command of it.
+# Debian's packages that the trial needs, each with a command of it, and what a sink needs of those
+# that the package suggests.
 NEEDS = {
     "postgresql": "pg_lsclusters",
+    "redis-server": "redis-server",
     "sqlite3": "sqlite3",
     "man-db": "man",
     "systemd": "systemd-analyze",
     "procps": "pgrep",
 }
+SUGGESTED = ("python3-redis",)
 UNITS = [
     Path("/usr/lib/systemd/system", it)
     for it in ("pgsub@.service", "pgsub-account@.service", "pgsub-sink@.service")
@@ -38,14 +41,12 @@ UNITS = [
 def prepared() -> None:
     """What the trial itself needs is there: a server, and what looks at databases and documents."""
     run("apt-get", "-qq", "update")
-    needed = {it: where for it, where in NEEDS.items() if not shutil.which(where)}
-    if not needed:
-        return
+    needed = [it for it, where in NEEDS.items() if not shutil.which(where)]
     # (where nothing is running but the trial no package starts a service)
     policy = Path("/usr/sbin/policy-rc.d")
     policy.write_text("#!/bin/sh\nexit 101\n")
     policy.chmod(0o755)
-    run("apt-get", "-y", "-qq", "--no-install-recommends", "install", *needed)
+    run("apt-get", "-y", "-qq", "--no-install-recommends", "install", *needed, *SUGGESTED)
 
 
 def bare() -> None:
@@ -79,6 +80,8 @@ def walk(counts: Counts, kind: str, user: str, folder: Path) -> None:
         os.setgid(account.pw_gid)
         os.setuid(account.pw_uid)
         environment = {**ENVIRONMENT, "HOME": account.pw_dir, "USER": user, "LOGNAME": user}
+        # (so redis-cli prints what it does on a terminal)
+        environment["FAKETTY"] = "1"
         for block, wrong in walkthroughs.run_kind(text, kind, folder, environment):
             mine.note(f"README.md:{block.line}, run with {kind}", wrong)
         if not mine.passed + mine.failed:
@@ -115,6 +118,17 @@ def start_server() -> None:
         "postgres",
         user="postgres",
     )
+
+
+def start_redis() -> None:
+    log = open("/tmp/redis.log", "w")
+    words = ["runuser", "-u", USER, "--", "redis-server", "--save", ""]
+    subprocess.Popen(words, stdout=log, stderr=log, cwd="/tmp")
+    until = time.monotonic() + SECONDS
+    while subprocess.run(["redis-cli", "ping"], capture_output=True).returncode:
+        if time.monotonic() > until:
+            raise Wrong("Redis doesn't start")
+        time.sleep(0.2)
 
 
 def rows(folder: Path) -> dict[str, str]:
@@ -283,6 +297,8 @@ def main() -> int:
     folder = Path(f"/home/{USER}/walk")
     run("mkdir", str(folder), user=USER)
     walk(counts, "server", USER, folder)
+    counts.tried("a Redis", start_redis)
+    walk(counts, "redis", USER, folder)
     upgrade(counts, folder)
     try_faults(counts, Path(f"/home/{USER}/faults"))
     counts.tried("the tar file", unpack_tar)
