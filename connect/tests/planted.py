@@ -211,6 +211,13 @@ BUGS = (
         ("test_broken_rules",),
     ),
     Bug(
+        "a filter with which a copy goes on notes commits",
+        "pgsub_connect/stream/filter.py",
+        "file, self.repeats = self.repeats, None",
+        "file = self.repeats",
+        ("test_broken_rules",),
+    ),
+    Bug(
         "commits that weren't noted meanwhile are missed later",
         "pgsub_connect/commands/follow.py",
         "        return common.checkpoint.forget_repeats()\n",

@@ -154,7 +154,7 @@ class Remembers(Begun):
             options = self.follow()
             checkpoint: Any = mock.Mock(known=Known(phase))
             known = Tolerance(), checkpoint, Progress(), remembered
-            parts: Any = mock.Mock(common=Common(Subscription(), *known))
+            parts: Any = mock.MagicMock(common=Common(Subscription(), *known))
             if not begins:
                 with self.assertRaisesRegex(Unfit, "is gone, and the slot"):
                     follow.begin(options, parts)
@@ -178,7 +178,7 @@ class Remembers(Begun):
 
     def parts(self, phase: str) -> Any:
         known = Tolerance(), mock.Mock(known=Known(phase)), Progress(), Remembered(self.store)
-        return mock.Mock(common=Common(Subscription(), *known))
+        return mock.MagicMock(common=Common(Subscription(), *known))
 
     def test_what_a_checkpoint_has_no_room_for(self) -> None:
         checkpoint = Checkpoint(self.store)

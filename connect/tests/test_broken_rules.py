@@ -107,6 +107,17 @@ class Lines(unittest.TestCase):
         for line in (*said, *NOTED, COUNTED, UNUSABLE):
             self.assertIsNone(told_of(line))
 
+    def test_counts_of_nothing_are_heard_alone(self) -> None:
+        """Nobody who reads what a follower says has to know them."""
+        none = "pgsub: repeats: 0 equal, 0 unknown, 0 forgotten"
+        said = FilterSaid()
+        with mock.patch("pgsub_connect.stream.filter_said.log.info") as info:
+            for line in (*NOTED, none, COUNTED):
+                said.hear(line)
+        told = [f"filter: {it}" for it in (NOTED[2], COUNTED)]
+        self.assertEqual([it.args[0] for it in info.call_args_list], told)
+        self.assertEqual((said.noted, said.said), (0x100000118, ""))
+
     def test_what_is_noted_is_no_reason_of_an_end(self) -> None:
         """The fault that it told before is."""
         for line, end in zip(NOTED, (0x118, 0, 0x100000118)):
@@ -314,6 +325,17 @@ class Words(FollowCase):
             # (without it while it loads the first rows, which are no session)
             self.assertIs(parts.copier.filter, parts.child)
             checkpoint.forget_repeats.assert_not_called()
+
+    def test_none_are_noted_while_rows_are_copied(self) -> None:
+        """Which is no session, and may end for want of room."""
+        words = ["follow", "--create", "--store", self.store, "--dsn", "", "--pgsub", FAKE]
+        options = follow.settled(cli.arguments(words)[1])
+        parts, seen = follow.made(options, mock.Mock(file=0)), list[object]()
+        file = parts.child.repeats
+        with mock.patch.object(parts.copier, "run", lambda: seen.append(parts.child.repeats)):
+            follow.begin(options, parts)
+        self.assertEqual((seen, file is None), ([None], False))
+        self.assertIs(parts.child.repeats, file)
 
     def test_how_far_it_watches(self) -> None:
         """Commits that come while none are noted aren't compared later, either."""

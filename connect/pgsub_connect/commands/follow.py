@@ -322,7 +322,8 @@ def begin(options: Options, parts: Parts) -> None:
             f"{options.store} lacks rows, since its copy was interrupted: leave --no-copy out to go on with it, or `pgsub-connect drop` it"
         )
     if (options.create or is_interrupted) and not options.no_copy:
-        return parts.copier.run()
+        with parts.child.noting_none():
+            return parts.copier.run()
     if checkpoint.known.phase == FOLLOWING and not tolerance.accepts("gap"):
         raise Unfit(
             f"{options.store} is gone, and the slot {checkpoint.known.slot} went on: remove {checkpoint.path} to begin anew"

@@ -1,12 +1,13 @@
 """The filter `pgsub follow` as a child: frames go to its standard input, statuses come from its
 standard output."""
 
+import contextlib
 import errno
 import os
 import select
 import signal
 import subprocess
-from collections.abc import Sequence
+from collections.abc import Iterator, Sequence
 
 from pgsub_feed import log
 from pgsub_feed.errors import Passing
@@ -94,6 +95,15 @@ class Filter:
         """The next one compares commits that come again with what this file has of them."""
         self.repeats = file
 
+    @contextlib.contextmanager
+    def noting_none(self) -> Iterator[None]:
+        """Filters that begin meanwhile note no commits: what a copy gives them is no session."""
+        file, self.repeats = self.repeats, None
+        try:
+            yield
+        finally:
+            self.repeats = file
+
     def compares_by(self) -> RepeatsFile | None:
         """What the one that runs compares commits with, None where it doesn't."""
         return self.repeats if self.compares else None
@@ -136,7 +146,7 @@ class Filter:
             return [*self.words, REPEATS, self.repeats.path]
         if not loads or WATCH not in self.words:
             return self.words
-        log.info("the server isn't watched by the filter that makes the copy, but by the next one")
+        log.info("what the server sends is compared with its rules from the next start on")
         return without(self.words, WATCH)
 
     def start(self, check: Check = never) -> int:

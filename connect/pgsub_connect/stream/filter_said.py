@@ -8,7 +8,7 @@ from pgsub_feed import log
 
 from .filter_end import BREACH, Missing, missing_of
 from .filter_input import PIECE
-from .watch_lines import Told, counted_in, told_of
+from .watch_lines import Told, counted_in, tells_nothing, told_of
 
 
 class FilterSaid:
@@ -53,7 +53,8 @@ class FilterSaid:
         if missing := missing_of(line):
             self.missing = missing
             return
-        log.info(f"filter: {line}")
+        if not tells_nothing(line):
+            log.info(f"filter: {line}")
         if told := told_of(line):
             self.news.append(told)
             self.told = told.text

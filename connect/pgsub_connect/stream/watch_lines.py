@@ -25,6 +25,10 @@ UNKEPT = re.compile(r"can't write .+: not kept")
 # What it has noted, at its beginning, and what it found, at its end.
 NOTED = re.compile(f"[0-9]{{1,20}} commits are noted, up to ({LSN})(?:, .+)?")
 COUNTED = re.compile("[0-9]{1,20} equal, [0-9]{1,20} unknown, [0-9]{1,20} forgotten")
+# What of that tells nothing.
+NOTHING = re.compile(
+    f"[0-9]{{1,20}} commits are noted, up to {LSN}|0 equal, 0 unknown, 0 forgotten"
+)
 # Why it can't begin.
 UNUSABLE = re.compile("can't use .+: .+")
 UNREAD = "what the filter said of it can't be read: "
@@ -75,6 +79,11 @@ def counted_in(line: str) -> int | None:
     if found := NOTED.fullmatch(said):
         return parse_lsn(found[1])
     return 0 if COUNTED.fullmatch(said) else None
+
+
+def tells_nothing(line: str) -> bool:
+    """Whether it counts what is as it should be, where nothing came again."""
+    return line.startswith(REPEATS) and bool(NOTHING.fullmatch(line.removeprefix(REPEATS)))
 
 
 def is_unusable(line: str) -> bool:
