@@ -68,6 +68,14 @@ class Cure(unittest.TestCase):
         self.assertIs(with_cure(error, ["few"]), error)
         self.assertIs(with_cure(other, ["few", "more"]), other)
 
+    def test_of_a_publication_that_is_gone(self) -> None:
+        error = ServerError('publication "pgsub" does not exist', "42704")
+        cured = with_cure(error, ["pgsub"])
+        self.assertRegex(str(cured), "is too late: `pgsub-connect drop`, then .* --create")
+        self.assertTrue(str(cured).startswith(str(error)) and cured.is_lasting())
+        other = ServerError('type "colour" does not exist', "42704")
+        self.assertIs(with_cure(other, ["pgsub"]), other)
+
 
 class Unlogged(unittest.TestCase):
     """Rows of partitions whose changes are in no log aren't read."""

@@ -13,6 +13,8 @@ from .catalog_reader import listed_oids, read_parts
 from .connection import Connection
 
 DIFFERENT_LISTS = "0A000"
+# That of a publication that isn't there, or wasn't when what is read was written.
+NO_PUBLICATION = "42704"
 
 
 @understood("published tables")
@@ -71,8 +73,14 @@ def below_roots(connection: Connection, oids: Iterable[int]) -> set[int]:
 
 def with_cure(error: ServerError, publications: Sequence[str]) -> ServerError:
     """The error with which the server ended a session, with what to do where it may be that of
-    different column lists: it reads its log by the catalog of that time, so it says so again once
-    they are equal."""
+    different column lists, or of a publication that is gone: it reads its log by the catalog of
+    that time, so it says so again once they are equal, or it was made anew."""
+    if error.sqlstate == NO_PUBLICATION and "publication" in str(error):
+        cure = "`pgsub-connect drop`, then a start with --create, copies anew"
+        return ServerError(
+            f"{error}\nThe server reads its log by the publications of that time, so to make it again is too late: {cure}",
+            NO_PUBLICATION,
+        )
     if error.sqlstate != DIFFERENT_LISTS or len(publications) < 2:
         return error
     return ServerError(
