@@ -64,6 +64,8 @@ class Building:
         self.began, self.crate, self.functions, self.all = now, "", 0, 0
 
     def left(self, now: float) -> str:
+        if len(self.done) == len(self.below):
+            return "compiling it takes some minutes more"
         rest = sum(cost for name, cost in self.costs.items() if name not in self.done)
         if self.spent:
             return f"{minutes(rest * (now - self.began) / self.spent)} left"
@@ -91,6 +93,8 @@ class Building:
 
     def waiting(self, now: float) -> str:
         """What is told where nothing was for a while."""
+        if len(self.done) == len(self.below):
+            return f"all is proved, {self.left(now)}"
         count = f"{self.functions} of {self.all}" if self.all else f"{self.functions}"
         at = f"{count} functions of {self.crate} are proved" if self.crate else "proving"
         return f"{at}, {len(self.done)} of {len(self.below)} crates, {self.left(now)}"

@@ -63,7 +63,10 @@ class Case(unittest.TestCase):
         )
         self.assertEqual(
             build.note("crate pgsub: modules", 2000.0),
-            "pgsub is proved, 3 of 3 crates, less than a minute left",
+            "pgsub is proved, 3 of 3 crates, compiling it takes some minutes more",
+        )
+        self.assertEqual(
+            build.waiting(2060.0), "all is proved, compiling it takes some minutes more"
         )
 
     def test_what_was_kept_is_done(self) -> None:
