@@ -807,7 +807,17 @@ class Fits(Case):
                 with self.assertRaisesRegex(error, text):
                     follower.start.fitting.check_server(self.server_now(1), 0, 0)
 
-    def test_a_database_that_was_renamed(self) -> None:
+    def test_a_publication_that_isnt_there(self) -> None:
+        """A store that begins where its slot is isn't begun without it."""
+        self.patch(Checkpoint, "lock", lambda *_: None)
+        with self.assertRaisesRegex(ServerError, "no publication pgsub: make it .*") as raised:
+            self.connect(self.follower(no_copy=True))
+        self.assertTrue(raised.exception.is_lasting())
+        self.assertEqual(self.checkpoint.read().phase, "new")
+        self.brain.answer("FROM pg_catalog.pg_publication WHERE pubname", [[]])
+        self.connect(self.follower(no_copy=True))
+        self.assertEqual(self.checkpoint.read().phase, "following")
+
         """It is known by its OID, where that was noted, and another one by that, too."""
         self.patch(Checkpoint, "lock", lambda *_: None)
         self.brain.answer("FROM pg_catalog.pg_database", [["16384"]])

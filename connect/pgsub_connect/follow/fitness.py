@@ -16,6 +16,8 @@ from pgsub_feed.texts import lsn_text
 from ..errors import ServerError
 from ..server import transport
 from ..server.connection import Connection
+from ..server.publication_content import has_publication
+from ..server.publication_setup import refusal
 from ..server.session import Server, is_same_database, left_at, settle, slot_position
 from ..store.checkpoint import check_gap
 from ..store.checkpoint_lines import FOLLOWING, NEW
@@ -128,10 +130,12 @@ class Fitting:
         self.watch.note("history", position, text)
         log.warning(f"found: history at {at}: {text}: verify --repair, then --accept history again")
 
-    def check_start(self, slot_at: int, position: int) -> None:
+    def check_start(self, slot_at: int, position: int, check: Check) -> None:
         """Rejects a gap between store and slot, unless it was said to be wanted."""
         known = self.checkpoint.known
         is_wanted = known.phase == NEW and self.no_copy and position == 0
+        if is_wanted:
+            self.check_publications(check)
         try:
             check_gap(known, position, slot_at)
         except Unfit:
@@ -143,6 +147,20 @@ class Fitting:
             self.tolerance.use_gap()
             self.checkpoint.forget_server()
             self.checkpoint.write(False, confirmed=max(slot_at, position), position=position)
+
+    def check_publications(self, check: Check) -> None:
+        """Rejects names of none: the server would say so at the first change alone, and from 18 on
+        never."""
+        subscription = self.subscription
+        name = f"{subscription.slot} check"
+        with closing(Connection(subscription.dsn, name=name, check=check)) as connection:
+            settle(connection)
+            names = subscription.publications
+            missing = [it for it in names if not has_publication(connection, it)]
+        if missing:
+            raise refusal(
+                f"there is no publication {', '.join(missing)}: make it with its tables, or name another one by --publication"
+            )
 
     def note_server(self, server: Server, confirmed: int, position: int) -> None:
         """Notes durably whose changes the store has, and what its filter confirms."""

@@ -92,7 +92,7 @@ class SessionStart:
             # (what a keepalive confirmed above that LSN is of the other history)
             self.life.finish()
             raise ServerError("the filter is started anew on the server's new timeline")
-        fitting.check_start(slot_at, position)
+        fitting.check_start(slot_at, position, self.ending.check_stop)
         self.confirming.begin_session(connection)
         fitting.note_server(server, confirmed, position)
         return slot_at
