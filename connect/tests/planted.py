@@ -246,6 +246,20 @@ BUGS = (
         ("test_watching", "test_following"),
     ),
     Bug(
+        "a disk without room isn't told",
+        "pgsub_connect/stream/filter.py",
+        "if status in ROOMLESS",
+        "if status in ()",
+        ("test_filtering",),
+    ),
+    Bug(
+        "a store begins without its publication",
+        "pgsub_connect/follow/fitness.py",
+        "        if missing:\n",
+        "        if missing and not names:\n",
+        ("test_following",),
+    ),
+    Bug(
         "a load is taken for a session of which commits are noted",
         "pgsub_connect/stream/filter.py",
         "self.repeats is not None and not loads",

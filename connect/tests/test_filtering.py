@@ -26,6 +26,7 @@ from pgsub_connect.stream.messages import (
     header,
     without_received,
 )
+from pgsub_connect.stream.room import is_full, rooms
 from pgsub_feed.errors import Stopped
 
 from .fake_server import Quiet
@@ -148,6 +149,19 @@ class Ends(Case):
             busy = "(another program may have the store open, as `pgsub dump`: let that end"
             self.assertEqual(busy in str(raised.exception), status == 12)
             self.assertEqual(raised.exception.said, "pgsub: store 8 Refused")
+
+    def test_a_disk_with_little_room(self) -> None:
+        """What of a feed that can't be written the program doesn't say."""
+        disks = [("/x/copy.db", 1 << 30), ("/x/copy.db.feed", 5)]
+        told = r"13: pgsub: store 8 Refused \(the disk of /x/copy.db.feed has 5 bytes left\)$"
+        for status, text in ((13, told), (12, "has 5 bytes left"), (1, "8 Refused$")):
+            with mock.patch("pgsub_connect.stream.room.rooms", return_value=disks):
+                with self.assertRaisesRegex(FilterEnded, text):
+                    self.shell(f"echo 'pgsub: store 8 Refused' >&2; exit {status}").start()
+        words = ["pgsub", "follow", "--store", "/proc/self/copy.db", "--feed", "/nowhere/feed"]
+        self.assertEqual(list(rooms(words)), [("/proc/self/copy.db", 0)])
+        self.assertTrue(is_full(words))
+        self.assertEqual((list(rooms(["pgsub"])), is_full(["pgsub"])), ([], False))
 
     def test_a_cause_before_its_fault(self) -> None:
         """It is passed on, and the fault stays what was said last."""

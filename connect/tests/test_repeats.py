@@ -286,6 +286,23 @@ class Unusable(Repeats):
         self.goes_on_to_the_end(accept=[UNWATCHED])
         self.assertEqual((self.found(), self.noted()), ([], 1))
 
+    def test_a_full_disk_is_waited_for(self) -> None:
+        """Where that is why."""
+        tries = list[RepeatsFile]()
+
+        def prepare(file: RepeatsFile) -> None:
+            self.path.rmdir() if tries else self.path.unlink()
+            tries.append(file)
+            if len(tries) < 3:
+                self.path.mkdir()
+
+        life = "pgsub_connect.follow.filter_life"
+        with mock.patch.object(RepeatsFile, "prepare", prepare), mock.patch(
+            f"{life}.is_full", lambda _: True
+        ), mock.patch(f"{life}.OPENED_AFTER", (0, 0, 0)):
+            run = self.goes_on_to_the_end()
+        self.assertEqual((self.found(), len(tries), run.progress.restarts), ([], 3, 2))
+
 
 class LeftOut(Repeats):
     """While changes are left out."""

@@ -15,6 +15,7 @@ from ..errors import FilterFault
 from ..stream.awake import Awake, Numbers, Served
 from ..stream.filter_end import BREACH, MISSED, FilterEnded
 from ..stream.memory_limit import BufferLimits, Kills, limit_text
+from ..stream.room import is_full
 from ..stream.statuses import Confirming
 from ..stream.watch_lines import Told, is_unusable
 from .drift_watch import Watch
@@ -27,6 +28,7 @@ STEP, SLEEP = 0.5, 0.2
 # After how many seconds each a store that can't be opened is tried again, the last one again and
 # again.
 OPENED_AFTER = (1, 2, 4, 8, 15, 30)
+IN_USE = "the store can't be opened now, as where another program has it open"
 
 
 class FilterLife:
@@ -69,7 +71,8 @@ class FilterLife:
         self.progress.stream.note_confirmed(position, position)
 
     def open_store(self) -> int:
-        """Starts the filter. A store that somebody else has open, to dump it say, is waited for."""
+        """Starts the filter. A store that somebody else has open, to dump it say, is waited for, and
+        so is a disk that is full."""
         for tried in itertools.count():
             meter = Meter("opening the store", "MB")
 
@@ -82,16 +85,16 @@ class FilterLife:
             try:
                 return self.filter.start(check)
             except FilterEnded as ended:
-                if is_unusable(ended.said):
+                is_waited_for = tried < len(OPENED_AFTER) and is_full(self.filter.words)
+                if is_unusable(ended.said) and not is_waited_for:
                     self.note_unusable(ended.said)
                     continue
-                if not ended.is_unopened():
+                if not (is_unusable(ended.said) or ended.is_unopened()):
                     raise
                 self.progress.note_restart(str(ended))
+                why = str(ended) if is_waited_for else IN_USE
             delay = OPENED_AFTER[min(tried, len(OPENED_AFTER) - 1)]
-            log.warning(
-                f"the store can't be opened now, as where another program has it open: it is tried again in {counted(delay, 'second')}"
-            )
+            log.warning(f"{why}: it is tried again in {counted(delay, 'second')}")
             rest(delay, self.ending.check_stop, SLEEP)
         raise AssertionError
 

@@ -17,10 +17,11 @@ from .. import version
 from ..errors import FilterFault
 from ..store.repeats_file import RepeatsFile
 from .awake import Awake, Numbers, Served
-from .filter_end import FilterEnded, Missing
+from .filter_end import ROOMLESS, FilterEnded, Missing
 from .filter_input import PIECE, ROOM, FilterInput
 from .filter_said import FilterSaid
 from .messages import COPY_DONE, HEADERS, STATUS, STATUS_HEAD, flushed, without_received
+from .room import room_text
 
 # For how long one that opens its store is waited for, until it is looked whether the end was asked
 # for, in seconds.
@@ -266,7 +267,8 @@ class Filter:
         status = self.child.wait()
         while self.said.has_said():
             self.said.read()
-        ended = FilterEnded(status, self.said.reason(status))
+        room = room_text(self.words) if status in ROOMLESS else ""
+        ended = FilterEnded(status, self.said.reason(status), room)
         self.close(ended.has_told_all())
         return ended
 

@@ -15,6 +15,8 @@ PASSING = (UNOPENED, REFUSED, MEMORY, BROKEN)
 BUSY = "another program may have the store open, as `pgsub dump`: let that end. Beside a follower `pgsub-connect export` or `follow --tables` has the rows"
 # The status of one whose input ended, after changes that found no row.
 MISSED = 16
+# Those with which it may end where a disk is full.
+ROOMLESS = (errors.FILE, UNOPENED, REFUSED)
 # The status of one that was to store nothing by which the server breaks a rule.
 BREACH = 17
 # What it says of these on standard error, before the status that confirms their commits: how many
@@ -25,14 +27,16 @@ MISSING = re.compile(
 
 
 class FilterEnded(Failure):
-    """The filter ended: with a status above 0 by a fault, below 0 by a signal."""
+    """The filter ended: with a status above 0 by a fault, below 0 by a signal. `room`: that a disk
+    has little, where that may be why."""
 
-    def __init__(self, status: int, said: str) -> None:
+    def __init__(self, status: int, said: str, room: str = "") -> None:
         ended = f"the filter ended with status {status}"
         ended = ended if status >= 0 else f"signal {-status} ended the filter"
         ended = f"{ended}: {said}" if said else ended
         is_busy = status == UNOPENED and said.endswith(" Refused")
-        super().__init__(f"{ended} ({BUSY})" if is_busy else ended)
+        why = room or (BUSY if is_busy else "")
+        super().__init__(f"{ended} ({why})" if why else ended)
         self.status, self.said = status, said
 
     def is_rejection(self) -> bool:
