@@ -64,6 +64,7 @@ class FakeConnection:
         self.server = server
         self.check: Callable[[], None] = lambda: None
         self.protection = Protection()
+        self.broken: ServerError | None = None
         self.ends = os.pipe()
         server.open.append(self)
 

@@ -239,6 +239,13 @@ BUGS = (
         ("test_following",),
     ),
     Bug(
+        "a session that was lost within a look is waited for",
+        "pgsub_connect/follow/session.py",
+        "        if connection.broken:\n",
+        "        if connection.broken and self.hold.kept:\n",
+        ("test_following",),
+    ),
+    Bug(
         "a finding that a start ends with isn't shown",
         "pgsub_connect/follow/drift_watch.py",
         "        self.checkpoint.note_found(kind, lsn)\n        self.show_found()\n",

@@ -5,6 +5,7 @@ from __future__ import annotations
 import contextlib
 import errno
 import os
+import socket
 import threading
 import time
 import unittest
@@ -707,6 +708,30 @@ class Fits(Case):
                 "isn't encrypted, and the connections were encrypted before.*--accept plaintext",
             ):
                 self.connect(follower)
+
+    def test_a_session_that_is_lost_within_a_look(self) -> None:
+        """A status that is due meanwhile meets it first; another session begins."""
+        peers, looked, copy = list[socket.socket](), list[int](), self.server.copy
+        self.patch(self.server, "copy", lambda peer: (peers.append(peer), copy(peer)))
+        follower = self.follower()
+
+        def look(*_: object) -> bool:
+            if peers and not looked:
+                looked.append(self.server.sessions)
+                peers[0].shutdown(socket.SHUT_RDWR)
+                with self.assertRaises(ServerError):
+                    while True:
+                        follower.confirming.repeat()
+                connection = follower.session.connection
+                assert connection
+                connection.end_copy()
+                connection.drain(5.0)
+            return True
+
+        self.patch(drift_watch, "AT_LEAST", 0.0)
+        self.patch(drift_watch.Watch, "look_again", look)
+        self.run_until(follower, lambda: self.server.sessions == 2)
+        self.assertEqual(looked, [1])
 
     def test_a_promotion_ends_the_session(self) -> None:
         follower = self.follower()

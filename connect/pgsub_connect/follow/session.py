@@ -71,6 +71,9 @@ class Session:
     def pass_on(self, connection: Connection, more: bool | None) -> bool | None:
         """Waits until something comes, and passes it on both ways. `more`: something has come
         already. Returns that anew, None after the end."""
+        if connection.broken:
+            # (within a look, say, which tells it as its own)
+            raise connection.broken
         room = not self.requests.holds_for_copy() and self.filter.has_room()
         listens, socket = time.monotonic(), connection.socket()
         asked = self.requests.socket.fileno()

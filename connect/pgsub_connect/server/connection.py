@@ -53,7 +53,8 @@ class Connection:
     ) -> None:
         self.check = check
         self.unsent = False
-        # what broke the stream of CopyData off, and is to be raised after those that came before it
+        # what broke the stream of CopyData off, and is to be raised after those that came before it;
+        # libpq may have closed the socket by then
         self.broken: ServerError | None = None
         settings = {**DEFAULTS, "application_name": name, **parameters(dsn)}
         settings |= {"client_encoding": "UTF8"}
@@ -325,7 +326,8 @@ class Connection:
         """Notes what libpq says of sending: whether something waits, or that it failed. What ended
         the stream before says why."""
         if left < 0:
-            raise self.broken or ServerError(self.error())
+            self.broken = self.broken or ServerError(self.error())
+            raise self.broken
         self.unsent = left > 0
 
     def end_copy(self) -> None:
@@ -342,7 +344,7 @@ class Connection:
         seconds at most."""
         until = time.monotonic() + seconds
         with contextlib.suppress(psycopg.OperationalError, ServerError):
-            while (left := until - time.monotonic()) > 0:
+            while not self.broken and (left := until - time.monotonic()) > 0:
                 if select.select([self.number], [], [], left)[0]:
                     self.consume()
                 while (found := self.payloads(DRAINED, DRAINED))[0]:
