@@ -225,6 +225,21 @@ class Probes(unittest.TestCase):
         self.fails("the slot is lost (failed, ", "\n  `pgsub-connect drop --store /s/copy.db`, and")
         self.assertNotIn("goes on", self.probe()[1])
 
+    def test_a_full_disk(self) -> None:
+        """On which the status file of a follower that fails isn't replaced any more."""
+        said = status_fields(self.progress, 0.0, time.time() - 8.0, "/s/copy.db") | self.status
+        for left, age, state, code in (
+            (0, 8, "copying", 1),
+            (1 << 20, 8, "copying", 0),
+            (0, 2, "copying", 0),
+        ):
+            said |= {"heartbeat": time_text(time.time() - age), "state": state}
+            with mock.patch("pgsub_connect.commands.status.room_of", return_value=left):
+                found, text = self.probe(status=said)
+            self.assertEqual(found, code, text)
+            self.assertEqual(f"the disk of {self.path} is full (copying, " in text, code == 1)
+            self.assertEqual("  make room there: " in text, code == 1)
+
     def test_no_such_file(self) -> None:
         self.assertEqual(
             self.run_it("--status-file", self.path),

@@ -21,7 +21,8 @@ from pgsub_feed.interruption import Check
 from pgsub_feed.options import BYTES, SECONDS, add_fields, duration, option
 
 from ..status.files import STATUS
-from ..status.health import KINDS, Fault, Limit, cures_of, faults, line_of, screen_of
+from ..status.health import ENDED, KINDS, Fault, Limit, cures_of, faults, line_of, screen_of
+from ..stream.room import NONE, room_of
 
 ABOUT = """\
 tell how a follower is, as a probe does, or on a screen
@@ -40,6 +41,8 @@ LAG = re.compile(rf"(\d+(?:\.\d+)?)({'|'.join([*SECONDS, *BYTES])})")
 SERVICE = "/run/pgsub/*/status.json"
 # How often the screen is drawn, and how often a line is written where there is none, in seconds.
 DRAWN, WRITTEN = 1.0, 30.0
+# Which follower hasn't replaced its file for so many seconds may have a disk that is full.
+UNREPLACED = 5.0
 CLEARED = "\x1b[H\x1b[2J"
 
 
@@ -130,6 +133,9 @@ def look(path: str, options: Options, text: Text) -> tuple[int, list[str]]:
         status = read(path)
         age = age_of(status, time.time())
         wrong = faults(status, age, options.max_age, options.max_lag)
+        if age > UNREPLACED and status["state"] not in ENDED and room_of(path) < NONE:
+            cure = "make room there: the follower goes on by itself, and then tells more"
+            wrong.insert(0, Fault(f"the disk of {path} is full", cure))
         return BAD if wrong else FINE, list(text(status, age, wrong))
     except OSError as error:
         return NO_FILE, [log.escaped(f"{path}: {error.strerror}")]

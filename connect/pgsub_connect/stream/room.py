@@ -1,5 +1,6 @@
 """How much room is left where a filter writes: of a feed it doesn't say that there is none."""
 
+import contextlib
 import os
 from collections.abc import Iterator, Sequence
 
@@ -10,16 +11,19 @@ from pgsub_feed.texts import counted
 LITTLE, NONE = 16 << 20, 1 << 20
 
 
+def room_of(path: str) -> int:
+    """How many bytes the disk of a file has left."""
+    disk = os.statvfs(os.path.dirname(os.path.realpath(path)))
+    return disk.f_bavail * disk.f_frsize
+
+
 def rooms(words: Sequence[str]) -> Iterator[tuple[str, int]]:
     """The store and the feed that a filter's words name, each with what its disk has left."""
     for option in ("--store", "--feed"):
         if option in words:
             path = words[words.index(option) + 1]
-            try:
-                disk = os.statvfs(os.path.dirname(os.path.realpath(path)))
-            except OSError:
-                continue
-            yield path, disk.f_bavail * disk.f_frsize
+            with contextlib.suppress(OSError):
+                yield path, room_of(path)
 
 
 def room_text(words: Sequence[str]) -> str:
