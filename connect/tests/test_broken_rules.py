@@ -203,6 +203,15 @@ class Kept(FollowCase):
                 os.unlink(self.store)
                 self.server.forget()
 
+    def test_what_is_told_right_before_a_rejection(self) -> None:
+        """It is shown, too."""
+        follower = self.follower()
+        follower.watch.hear([Told(RULE, TEXT)], 0x108)
+        self.patch(follower.life, "tell_rejected", lambda _: None)
+        with self.assertRaises(FilterEnded):
+            follower.life.note_end(FilterEnded(1, "pgsub: relation 5 UnknownRelation"))
+        self.assertEqual(self.progress.findings.found, {RULE: TEXT})
+
     def test_where_the_disk_is_full(self) -> None:
         """The checkpoint says that there was something, and the log what."""
         self.says(f"tells {0x118} {LINE}")

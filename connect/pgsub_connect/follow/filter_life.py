@@ -172,6 +172,8 @@ class FilterLife:
                 log.error(text)
             if ended.is_rejection():
                 self.tell_rejected(ended)
+                # (what it told last, it may have told just now)
+                self.watch.show_found()
                 if ended.status == BREACH:
                     # (that was found, and is told as such)
                     self.watch.show()
