@@ -21,8 +21,8 @@ NEW = ".new"
 STALE = 3600.0
 # What a file that a process makes for itself has in its name behind another one's: its id, as
 # nobody else names files. Beside it there may be such a file again, changes of rows that are
-# repaired, what earlier versions wrote a request to, and what SQLite makes.
-OWN = r"\.pgsub-([0-9]+)(?:(?:\.copied)?\.pgsub-[0-9]+)?(?:\.pgsub-new|\.request|\.changes)?(?:-wal|-shm|-journal)?"
+# repaired, and what SQLite makes.
+OWN = r"\.pgsub-([0-9]+)(?:(?:\.copied)?\.pgsub-[0-9]+)?(?:\.pgsub-new|\.changes)?(?:-wal|-shm|-journal)?"
 
 
 def meant(path: str) -> str:

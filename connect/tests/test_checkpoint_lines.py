@@ -1,4 +1,4 @@
-"""The lines of the checkpoint: what a power cut leaves, earlier versions, who may open it."""
+"""The lines of the checkpoint: what a power cut leaves, and who may open it."""
 
 from __future__ import annotations
 
@@ -108,85 +108,6 @@ class Crashes(FileCase):
                 except FileError:
                     found = None
                 self.assertEqual(found, wanted, at)
-
-
-class Earlier(FileCase):
-    """A file of version 1, as commit b18159ea and those before it have written it."""
-
-    FIRST = (
-        b'{"phase":"following","system":"7350123456789012345","database":"sh\\u00f6p",'
-        b'"slot":"pgsub","timeline":3,"started":1764149400000000,"confirmed":26700000,'
-        b'"position":26600000,"found":{"values":"0/1958B68"},"skipped":"0/1958C10",'
-        b'"adding":{"16384":26650000}}'
-    )
-    SECOND = b'{"since":100,"upto":26600000,"count":3,"first":120,"relation":16384,"gap":[7,9]}'
-    KNOWN = Known(
-        "following",
-        "7350123456789012345",
-        "sh\u00f6p",
-        "pgsub",
-        3,
-        1764149400000000,
-        26700000,
-        26600000,
-        {"values": "0/1958B68"},
-        "0/1958C10",
-        {"16384": 26650000},
-    )
-
-    def content_of(self, *lines: bytes) -> bytes:
-        return b"".join(it.ljust(511) + b"\n" for it in lines)
-
-    def written(self, content: bytes, mode: int = 0o644) -> Checkpoint:
-        with open(self.store + ".connector", "wb") as file:
-            os.fchmod(file.fileno(), mode)
-            file.write(content)
-        return self.open_again()
-
-    def test_it_is_taken_over(self) -> None:
-        counted = Counted(100, 26600000, 3, 120, 16384, (7, 9))
-        for lines, known, told in (
-            ((self.FIRST, self.SECOND), self.KNOWN, counted),
-            ((self.FIRST, b""), self.KNOWN, None),
-            ((self.FIRST,), self.KNOWN, None),
-            (
-                (
-                    b'{"phase":"copying","system":"","database":"","slot":"","timeline":0,'
-                    b'"started":0,"confirmed":0,"position":0,"found":{},"skipped":""}',
-                    b"",
-                ),
-                Known("copying"),
-                None,
-            ),
-        ):
-            checkpoint = self.written(self.content_of(*lines))
-            self.assertEqual((checkpoint.known, checkpoint.counted), (known, told))
-            self.assertEqual(read_known(self.store + ".connector"), known)
-            checkpoint.note(26800000, 26800000)
-            again = self.open_again()
-            self.assertEqual((again.known, again.known.position), (checkpoint.known, 26800000))
-
-    def test_it_stays_until_the_disk_has_a_new_line(self) -> None:
-        old = self.content_of(self.FIRST, self.SECOND)
-        checkpoint = self.written(old)
-        for durably in (False, False, True):
-            checkpoint.write(durably, position=26700000)
-            content = self.content()
-            self.assertTrue(content.startswith(old))
-            for end in (len(old), SIZE, SIZE + 200):
-                self.assertEqual(self.written(content[:end]).known, self.KNOWN)
-            self.written(content)
-        checkpoint.write(False, position=26800000)
-        self.assertFalse(self.content().startswith(old))
-        self.assertEqual(
-            self.written(self.content()[:100] + b"x" + self.content()[101:]).known.position,
-            26700000,
-        )
-
-    def test_an_earlier_version_rejects_a_new_one(self) -> None:
-        self.open().write(True, position=5)
-        with self.assertRaises((ValueError, TypeError)):
-            Known(**json.loads(self.content()[:512].strip()))
 
 
 class Locked(FileCase):

@@ -396,28 +396,6 @@ class Linked(Copying):
             ["copy.db", "copy.db.connector", "copy.db.tables", "far"],
         )
 
-    def test_what_was_complete_gets_its_name_there(self) -> None:
-        """An earlier version was cut off before its renames, or between them."""
-        for before in ((".copying-wal", ".copying"), ("-wal", ".copying")):
-            with self.subTest(before):
-                self.setUp()
-                self.check_named(before)
-
-    def check_named(self, before: Sequence[str]) -> None:
-        copier = self.copier()
-        self.slots = [["pgoutput", "t", "f", str(POINT)]]
-        self.checkpoint.write(
-            True, phase=COPIED, system="77", slot="pgsub", confirmed=POINT, position=POINT
-        )
-        for suffix in before:
-            with open(f"{self.far}/shop.db{suffix}", "wb"):
-                pass
-        self.patch(FakeFilter, "start", lambda *_: POINT)
-        copier.run()
-        self.assertEqual(
-            (self.filter.sent, sorted(os.listdir(self.far))), (b"", ["shop.db", "shop.db-wal"])
-        )
-
     def test_the_log_of_a_store_that_is_gone(self) -> None:
         with open(self.far + "/shop.db-wal", "wb"):
             pass

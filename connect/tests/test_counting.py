@@ -65,10 +65,6 @@ class Whole(Case):
             self.assertEqual(is_whole(self.store), whole)
             os.unlink(self.store)
 
-    def test_one_of_an_earlier_version(self) -> None:
-        open(self.store + ".copying", "w").close()
-        self.assertEqual((is_being_copied(self.store), is_whole(self.store)), (True, False))
-
 
 class Texts(Case):
     def test_a_row_of_any_length(self) -> None:

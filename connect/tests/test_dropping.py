@@ -20,7 +20,7 @@ from pgsub_feed.tables.first_rows import prepare
 
 from .fake_server import FakeServer, Quiet, Row
 
-FILES = ("", "-wal", "-shm", ".connector", ".tables", ".copying", ".copying-wal")
+FILES = ("", "-wal", "-shm", ".connector", ".tables")
 
 
 class Dropping(Quiet):
@@ -86,7 +86,7 @@ class Dropping(Quiet):
         self.remember(made={"pgsub": 777})
         self.run_it()
         self.assertEqual(
-            [it.split(" ")[1] for it in self.asked], ["the", "the", self.store + ".copying,"]
+            [it.split(" ")[1] for it in self.asked], ["the", "the", self.store + "-wal,"]
         )
         self.assertIn("the slot s1", self.asked[0])
         self.assertEqual(self.asked[1], "drop the publication pgsub?")
@@ -171,10 +171,10 @@ class Dropping(Quiet):
         self.assertEqual(len(files_of(self.store)), len(FILES))
 
     def test_a_store_by_a_link(self) -> None:
-        """The rows go, and with them the log that the program has beside them, and an initial copy;
-        what is of another follower there stays."""
+        """The rows go, and with them the log that the program has beside them; what is of another
+        follower there stays."""
         os.mkdir(self.folder + "/far")
-        for suffix in ("", "-wal", ".copying", ".copying-wal", ".connector"):
+        for suffix in ("", "-wal", ".connector"):
             with open(f"{self.folder}/far/shop.db{suffix}", "wb"):
                 pass
         os.unlink(self.store)
@@ -192,8 +192,7 @@ class Dropping(Quiet):
             "copy.db.export.20261101",
             "copy.db.tables.db",
             "copy.db.connector.bak",
-            "copy.db.copying.old",
-            "copy.db.request.1",
+            "copy.db.request",
             "copy.db.filter.txt",
             "copy.db.export.pgsub-7.sqlite",
             "copy.db.base.db",
@@ -202,15 +201,12 @@ class Dropping(Quiet):
         own = [
             "copy.db.export.pgsub-7",
             "copy.db.export.pgsub-7.pgsub-new",
-            "copy.db.export.pgsub-7.request",
             "copy.db.base.pgsub-7",
             "copy.db-journal",
             "copy.db.base.pgsub-7.copied.pgsub-7-wal",
             "copy.db.tables.new",
-            "copy.db.copying.pgsub-new",
             "copy.db.pgsub-new",
             "copy.db.status",
-            "copy.db.request",
         ]
         for name in (*kept, *own):
             with open(os.path.join(self.folder, name), "wb"):

@@ -102,9 +102,9 @@ class File(Case):
         self.assertEqual(after.publications(), ["pgsub", "other"])
         self.assertFalse(after.unsaved.is_urgent or after.unsaved.is_changed)
 
-    def test_of_an_earlier_version(self) -> None:
-        """What it didn't keep is taken as it is found then; and it reads the file, too, which has
-        what it knows where that was."""
+    def test_who_has_written_it_is_kept(self) -> None:
+        """A publication, a table or a partition that another transaction has put there was gone in
+        between."""
         part, publication = Part(None, None, False, ("16401",)), dataclasses.replace(
             PGSUB, owner=10, since="742"
         )
@@ -114,23 +114,6 @@ class File(Case):
         now = a_catalog(
             root, publication=publication, partitions=[Partition(10, 0, "public.root", False), leaf]
         )
-        self.remembered.begin_copy(now, 100)
-        written = json.loads(json.dumps(self.remembered.written()))
-        self.assertEqual(
-            (written["tables"][0]["parts"], written["partitions"][1]),
-            ({"pgsub": [None, None, False]}, [11, 10, "public.p", True, 0]),
-        )
-        del (
-            written["attached"],
-            written["unlogged"],
-            written["toast"],
-            written["tables"][0]["since"],
-            written["publications"]["pgsub"]["since"],
-            written["publications"]["pgsub"]["owner"],
-        )
-        self.remembered.restore(written)
-        self.remembered.look(dataclasses.replace(now, lsn=200))
-        self.assertEqual(self.remembered.found, {})
         for later in (
             dataclasses.replace(
                 now,
@@ -168,7 +151,7 @@ class File(Case):
         self.assertEqual(self.remembered.catalog.running, 1 << 40)
 
     def test_primary_keys(self) -> None:
-        """They are kept, and a new one is urgent. Older files have none."""
+        """They are kept, and a new one is urgent."""
         table = dataclasses.replace(a_table(1, "t"), primary=("name", "id"))
         self.remembered.begin_copy(a_catalog(table), 100)
         self.remembered.save()
@@ -182,18 +165,10 @@ class File(Case):
         wrong: tuple[object, ...] = (None, "id", [5], [None])
         for primary in wrong:
             said["tables"][0]["primary"] = primary
-            self.write(said)
+            with open(self.store + ".tables", "w", encoding="utf-8") as file:
+                file.write(json.dumps(said) + "\n")
             with self.assertRaisesRegex(FileError, "not a file of tables"):
                 Remembered(self.store)
-        del said["tables"][0]["primary"]
-        self.write(said)
-        older = Remembered(self.store).catalog
-        assert older
-        self.assertEqual(older.tables[1].primary, ())
-
-    def write(self, said: dict[str, object]) -> None:
-        with open(self.store + ".tables", "w", encoding="utf-8") as file:
-            file.write(json.dumps(said) + "\n")
 
     def test_mode(self) -> None:
         self.remembered.begin(a_catalog(T))
@@ -398,8 +373,7 @@ class Looks(Case):
         self.assertEqual((len(found.texts), found.more, found.tables), (2, 1, {16385, 16386}))
 
     def test_what_they_are_about_is_kept(self) -> None:
-        """Whatever the texts say: an OID in one is no more than a word. Those of an earlier version
-        are about nothing that is known."""
+        """Whatever the texts say: an OID in one is no more than a word."""
         about = About((1,), "p (2)", 3, "update", True, "public.t (2)")
         self.remembered.begin_copy(a_catalog(T, U), 100)
         for text, it in (
@@ -414,13 +388,6 @@ class Looks(Case):
         )
         self.assertEqual(
             (again.found_of(1), again.found_of(2)), (["all", "public.u (2) can't be read"], [])
-        )
-        written = again.written()
-        written["found"] = {"values": ["0/7", ["column c of public.t (1) was added"], 0]}
-        again.restore(written)
-        self.assertEqual(
-            (list(again.found["values"].texts.items()), again.found_of(1)),
-            ([("column c of public.t (1) was added", NOTHING)], []),
         )
 
 

@@ -34,7 +34,7 @@ from ..server.publication_setup import inserts_of
 from ..server.session import Server, database_oid, is_same_database, other_slot, settle
 from ..status.files import STATUS
 from ..store.checkpoint import locked, read_known
-from ..store.placing import OF_COPY, OF_STORE
+from ..store.placing import OF_STORE
 from .arguments.server import StoreOptions, settled_store
 from .arguments.words import store_option
 
@@ -90,7 +90,7 @@ def files_beside(path: str, suffixes: Iterable[str]) -> list[str]:
 def files_of(store: str) -> list[str]:
     """The files of a store that are there, the checkpoint last."""
     # (the program has its own ones beside what a link leads to)
-    linked = (*OF_COPY, *OF_FILE[1:], "") if os.path.islink(store) else ()
+    linked = (*OF_FILE[1:], "") if os.path.islink(store) else ()
     files = [*files_beside(store, ASKED), *(meant(store) + it for it in linked)]
     files += [store + it for it in (STATUS, *OF_STORE)]
     return [it for it in files if os.path.lexists(it)]

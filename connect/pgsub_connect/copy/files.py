@@ -9,10 +9,9 @@ from pgsub_feed.files import LOG, meant, sync_folder
 from pgsub_feed.ownership import set_mode
 from pgsub_feed.texts import lsn_text
 
-from ..store.at_rest import hold
-from ..store.at_rest import MOST_PARTS
+from ..store.at_rest import MOST_PARTS, hold
 from ..store.checkpoint_lines import COPIED, COPYING, SLOT
-from ..store.snapshot import EARLIER, position_in
+from ..store.snapshot import position_in
 
 
 class CopyFiles:
@@ -20,28 +19,15 @@ class CopyFiles:
 
     def __init__(self, store: str, mode: int) -> None:
         self.store, self.mode = meant(store), mode
-        # where an earlier version of this program has kept a copy that wasn't complete
-        self.earlier = self.store + EARLIER
 
     def take(self, phase: str) -> None:
         """Checks, before a copy begins or goes on, that nothing of another one is in the way."""
         log_path = self.store + LOG
         if os.path.exists(log_path) and phase not in (COPYING, SLOT, COPIED):
             raise Unfit(f"{log_path} is the log of a store that is gone: remove it to begin anew")
-        for path in (self.store, self.earlier):
-            if os.path.exists(path):
-                # (the checkpoint of another name of this store doesn't keep its connector away)
-                os.close(hold(path))
-        if phase == COPIED and os.path.exists(self.earlier):
-            self.rename()
-
-    def rename(self) -> None:
-        """Gives a copy that an earlier version has completed its own name."""
-        with told_of(self.store):
-            with contextlib.suppress(FileNotFoundError):
-                os.rename(self.earlier + LOG, self.store + LOG)
-            os.rename(self.earlier, self.store)
-            sync_folder(self.store)
+        if self.is_there():
+            # (the checkpoint of another name of this store doesn't keep its connector away)
+            os.close(hold(self.store))
 
     def is_there(self) -> bool:
         return os.path.exists(self.store)
@@ -58,10 +44,9 @@ class CopyFiles:
         if self.is_there():
             self.check_own(position_in(self.store) or 0, point)
         with told_of(self.store):
-            for it in (self.store, self.earlier):
-                for path in (it, it + LOG):
-                    with contextlib.suppress(FileNotFoundError):
-                        os.unlink(path)
+            for path in (self.store, self.store + LOG):
+                with contextlib.suppress(FileNotFoundError):
+                    os.unlink(path)
 
     def keep(self) -> None:
         """Gives the files the mode that was asked for, whatever the filter made them with, and has

@@ -4,7 +4,6 @@ was found by it."""
 import dataclasses
 from typing import Any
 
-from pgsub_feed.json_texts import text_of
 from pgsub_feed.relation import Relation, Shape
 from pgsub_feed.texts import lsn_text, parse_lsn
 
@@ -244,15 +243,13 @@ class Baseline:
     def restore(self, said: dict[str, Any]) -> None:
         """Takes what the first line of a file says."""
         self.made = {str(name): int(oid) for name, oid in said["made"].items()}
-        # (an earlier version of this program had no feeds)
-        self.feed, self.has_base = text_of(said.get("feed", "")), said.get("base", False) is True
+        self.feed, self.has_base = said["feed"], said.get("base", False)
         if "followed" not in said:
             # (nothing was copied yet)
             return
         self.catalog = catalog_of(said)
-        # (an earlier version of this program noted no OID)
-        if database := said.get("database"):
-            self.database = (int(database[0]), str(database[1]))
+        if database := said["database"]:
+            self.database = (database[0], database[1])
         self.sent = {
             int(oid): Sent(parse_lsn(lsn), shape_of(*shape) if shape else None)
             for oid, (lsn, shape) in said["sent"].items()

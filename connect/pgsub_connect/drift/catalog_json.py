@@ -26,8 +26,7 @@ def noted_written(relation: Relation, lsn: int) -> list[Any]:
 def noted_of(said: list[Any]) -> Noted:
     """A Relation message that was noted, and the LSN of its commit."""
     lsn, oid, namespace, name, identity, columns = said
-    shape = shape_of(identity, columns)
-    return Relation(int(oid), str(namespace), str(name), shape), parse_lsn(lsn)
+    return Relation(oid, namespace, name, shape_of(identity, columns)), parse_lsn(lsn)
 
 
 def catalog_written(catalog: Catalog) -> dict[str, Any]:
@@ -67,55 +66,42 @@ def catalog_written(catalog: Catalog) -> dict[str, Any]:
 
 def catalog_of(said: dict[str, Any]) -> Catalog:
     publications = {name: publication_of(it) for name, it in said["publications"].items()}
-    attached = {str(oid): str(since) for oid, since in said.get("attached", {}).items()}
-    # (an earlier version of this program didn't keep these two, nor what ran)
-    unlogged = {int(oid) for oid in said.get("unlogged", [])}
-    toast = {int(oid): int(it) for oid, it in said.get("toast", {}).items()}
+    attached = {int(oid): str(since) for oid, since in said["attached"].items()}
+    unlogged = {int(oid) for oid in said["unlogged"]}
+    toast = {int(oid): int(it) for oid, it in said["toast"].items()}
     tables, partitions = dict[int, Table](), dict[int, Partition]()
     for it in said["tables"]:
-        more = {"logged": it["oid"] not in unlogged, "toast": toast.get(it["oid"], 0)}
-        tables[it["oid"]] = dataclasses.replace(table_of(it), **more)
-    # (an earlier version of this program didn't keep the number of a file)
-    for oid, parent, name, leaf, *node in said["partitions"]:
-        since, logged = attached.get(str(oid), ""), oid not in unlogged
-        about = int(oid), int(parent), str(name), bool(leaf), False, int(node[0]) if node else 0
-        partitions[oid] = Partition(*about, since, logged, toast.get(oid, 0))
+        oid, table = it["oid"], table_of(it)
+        is_logged, kept = oid not in unlogged, toast.get(oid, 0)
+        tables[oid] = dataclasses.replace(table, logged=is_logged, toast=kept)
+    for oid, parent, name, leaf, node in said["partitions"]:
+        more = attached.get(oid, ""), oid not in unlogged, toast.get(oid, 0)
+        partitions[oid] = Partition(oid, parent, name, leaf, False, node, *more)
     types = {int(oid): dict(it) for oid, it in said["types"].items()}
-    names, at = tuple(str(it) for it in said["followed"]), parse_lsn(said["lsn"])
-    running = int(said.get("running", 0))
-    both = tables, partitions
-    return Catalog(names, at, int(said["highest"]), publications, *both, types, running)
+    read = tuple(said["followed"]), parse_lsn(said["lsn"]), said["highest"], publications
+    return Catalog(*read, tables, partitions, types, said["running"])
 
 
 def publication_of(said: dict[str, Any]) -> Publication:
-    """A publication; earlier versions didn't keep whose it is and who has written it."""
-    whole, via_root, generated = (bool(said[it]) for it in ("whole", "via_root", "generated"))
-    more = int(said.get("owner", 0)), str(said.get("since", ""))
-    actions = tuple(said["actions"])
-    return Publication(int(said["oid"]), whole, actions, via_root, generated, *more)
+    named: dict[str, Any] = {it.name: said[it.name] for it in dataclasses.fields(Publication)}
+    named["actions"] = tuple(named["actions"])
+    return Publication(**named)
 
 
 def table_of(said: dict[str, Any]) -> Table:
-    """A table; an earlier version of this program didn't keep when its columns were altered, nor by
-    what publications have it, nor its primary key and indexes."""
-    parts, since = dict[str, Part](), said.get("since", {})
+    parts, since = dict[str, Part](), said["since"]
     for name, (row_filter, listed, whole) in said["parts"].items():
         columns, ways = (None if it is None else tuple(it) for it in (listed, since.get(name)))
-        parts[name] = Part(row_filter, columns, bool(whole), ways)
+        parts[name] = Part(row_filter, columns, whole, ways)
     shape = shape_of(said["identity"], said["columns"])
-    schema, name, kind = (str(said[it]) for it in ("schema", "name", "kind"))
     return Table(
-        *(int(said["oid"]), schema, name, kind, shape, parts),
-        node=int(said.get("node", 0)),
-        altered=str(said.get("altered", "")),
-        primary=tuple(str(it) for it in said.get("primary", ())),
-        indexes=tuple(index_of(it) for it in said.get("indexes", ())),
+        *(said["oid"], said["schema"], said["name"], said["kind"], shape, parts),
+        node=said["node"],
+        altered=said["altered"],
+        primary=tuple(said["primary"]),
+        indexes=tuple(index_of(it) for it in said["indexes"]),
     )
 
 
 def shape_of(identity: str, columns: list[Any]) -> Shape:
-    several = (
-        Column(str(name), int(oid), int(modifier), bool(key), int(number))
-        for name, oid, modifier, key, number in columns
-    )
-    return Shape(str(identity), tuple(several))
+    return Shape(identity, tuple(Column(*it) for it in columns))

@@ -10,7 +10,6 @@ Each difference has the kind of fault that it may be in the copy:
 | `values` | values in rows that were there before were changed by a command that isn't in the stream |
 """
 
-import re
 from collections.abc import Iterable, Iterator
 
 from pgsub_feed.relation import Column, Shape
@@ -92,8 +91,6 @@ def type_differences(oid: int, old: dict[str, str], new: dict[str, str]) -> Iter
 
 
 TRUNCATE = ACTIONS[3]
-# Who has put a table into a schema, as `ways_to` has it.
-PUT = re.compile("@[0-9]+")
 
 
 def differences(before: Catalog, now: Catalog) -> Iterator[Difference]:
@@ -298,11 +295,7 @@ def stays(old: Part | None, new: Part) -> bool:
     """Whether a publication had a table all the time between two readings."""
     if old is None or old.since is None or new.since is None:
         return old is not None
-    if old.since == new.since or set(old.since) & set(new.since):
-        return True
-    # (an earlier version of this program didn't keep who put it into a schema)
-    ways = ((one, other) for one in old.since for other in new.since)
-    return any(("@" in a) != ("@" in b) and PUT.sub("", a) == PUT.sub("", b) for a, b in ways)
+    return old.since == new.since or not set(old.since).isdisjoint(new.since)
 
 
 def filter_text(ways: Iterable[str | None]) -> str:

@@ -147,8 +147,7 @@ class Findings(dict[str, Found]):
         return gone
 
     def about(self, text: str) -> About:
-        """What a text that was found is about. Those of an earlier version of this program don't
-        say it."""
+        """What a text that was found is about."""
         return next((it.texts[text] for it in self.values() if text in it.texts), NOTHING)
 
     def of(self, oid: int, catalog: Catalog | None) -> list[str]:
@@ -183,17 +182,10 @@ class Findings(dict[str, Found]):
         """Takes what a file has kept of it."""
         self.clear()
         for kind, (lsn, texts, more) in said["found"].items():
-            self[kind] = Found(parse_lsn(lsn), texts_of(texts), int(more))
+            abouts = {text: about_of(it) for text, it in texts.items()}
+            self[kind] = Found(parse_lsn(lsn), abouts, int(more))
         self.told = {text: parse_lsn(lsn) for text, lsn in said["told"].items()}
-        mended = said.get("mended", {})
-        self.mended = {text: [int(it) for it in oids] for text, oids in mended.items()}
-
-
-def texts_of(said: dict[str, Any] | list[str]) -> dict[str, About]:
-    """The texts of a kind; an earlier version of this program didn't keep what they are about."""
-    if isinstance(said, list):
-        return dict.fromkeys(said, NOTHING)
-    return {text: about_of(it) for text, it in said.items()}
+        self.mended = said["mended"]
 
 
 def lasts(about: About, catalog: Catalog | None) -> bool:

@@ -44,10 +44,9 @@ class Outstanding:
 
     def restore(self, said: dict[str, Any]) -> None:
         """Takes what a file has kept of it."""
-        self.wanted = {int(oid): str(why) for oid, why in said.get("wanted", {}).items()}
-        self.copied = {int(oid): int(end) for oid, end in said.get("copied", {}).items()}
-        self.unwanted = {int(oid) for oid in said.get("unwanted", [])}
-        self.partial = {int(oid) for oid in said.get("partial", [])}
+        self.wanted = {int(oid): why for oid, why in said["wanted"].items()}
+        self.copied = {int(oid): end for oid, end in said["copied"].items()}
+        self.unwanted, self.partial = set(said["unwanted"]), set(said["partial"])
 
 
 class Unsaved:

@@ -26,7 +26,7 @@ alone.
 | `told` | texts that a Relation message up to an LSN may give again, since the look at the server gave them already |
 
 What another program has written there is rejected before anything is taken from it. Parts that
-only later versions have are left to these; those that earlier ones hadn't may be missing.
+only later versions have are left to these.
 """
 
 import os
@@ -139,12 +139,11 @@ def each(kind: Kind) -> Kind:
     return check
 
 
-def row(*kinds: Kind, least: int | None = None) -> Kind:
-    """A list of one of each; `least`: the others may be missing."""
+def row(*kinds: Kind) -> Kind:
+    """A list of one of each."""
 
     def check(value: Any) -> None:
-        fewest = len(kinds) if least is None else least
-        if not fewest <= len(list_of(value)) <= len(kinds):
+        if len(list_of(value)) != len(kinds):
             raise Unreadable(f"{len(value)} values in place of {len(kinds)}")
         for kind, it in zip(kinds, value):
             kind(it)
@@ -181,32 +180,24 @@ COLUMN = row(name, oid_of, signed, flag_of, signed)
 SHAPE = row(name, each(COLUMN))
 PUBLICATION = fields(
     {
-        "oid": oid_of,
-        "whole": flag_of,
+        **dict.fromkeys(("oid", "owner"), oid_of),
+        **dict.fromkeys(("whole", "via_root", "generated"), flag_of),
         "actions": each(name),
-        "via_root": flag_of,
-        "generated": flag_of,
-    },
-    owner=oid_of,
-    since=name,
+        "since": name,
+    }
 )
 TABLE = fields(
     {
-        "oid": oid_of,
-        "schema": name,
-        "name": name,
-        "kind": name,
-        "identity": name,
+        **dict.fromkeys(("oid", "node"), oid_of),
+        **dict.fromkeys(("schema", "name", "kind", "identity", "altered"), name),
         "columns": each(COLUMN),
         "parts": mapped(name, row(maybe(name), maybe(each(signed)), flag_of)),
-    },
-    since=mapped(name, maybe(each(name))),
-    node=oid_of,
-    altered=name,
-    primary=each(name),
-    indexes=each(row(oid_of, name, each(row(name, flag_of)), name)),
+        "since": mapped(name, maybe(each(name))),
+        "primary": each(name),
+        "indexes": each(row(oid_of, name, each(row(name, flag_of)), name)),
+    }
 )
-PARTITION = row(oid_of, oid_of, name, flag_of, oid_of, least=4)
+PARTITION = row(oid_of, oid_of, name, flag_of, oid_of)
 ABOUT = fields(
     {},
     tables=each(oid_of),
@@ -219,38 +210,31 @@ ABOUT = fields(
 )
 
 
-def texts(value: Any) -> None:
-    """The texts of a kind; an earlier version didn't keep what they are about."""
-    (each(name) if isinstance(value, list) else mapped(name, ABOUT))(value)
-
-
 NOTED = each(row(lsn_of, oid_of, name, name, name, each(COLUMN)))
-BEGUN = fields({"made": mapped(name, oid_of)}, feed=name, base=flag_of)
+BEGUN = fields({"made": mapped(name, oid_of), "feed": name}, base=flag_of)
 COPIED = fields(
     {
         "followed": each(name),
         "lsn": lsn_of,
+        "running": whole_of,
         "highest": oid_of,
         "publications": mapped(name, PUBLICATION),
         "tables": each(TABLE),
         "partitions": each(PARTITION),
+        "attached": mapped(oid_of, name),
+        "unlogged": each(oid_of),
+        "toast": mapped(oid_of, oid_of),
         "types": mapped(oid_of, mapped(name, name)),
         "sent": mapped(oid_of, row(lsn_of, maybe(SHAPE))),
         "names": each(row(name, name, maybe(oid_of), lsn_of, each(oid_of))),
-        "found": mapped(name, row(lsn_of, texts, whole_of)),
+        "found": mapped(name, row(lsn_of, mapped(name, ABOUT), whole_of)),
         "told": mapped(name, lsn_of),
-        "left": each(oid_of),
-    },
-    attached=mapped(oid_of, name),
-    mended=mapped(name, each(oid_of)),
-    wanted=mapped(oid_of, name),
-    copied=mapped(oid_of, whole_of),
-    unwanted=each(oid_of),
-    partial=each(oid_of),
-    unlogged=each(oid_of),
-    toast=mapped(oid_of, oid_of),
-    running=whole_of,
-    database=maybe(row(oid_of, name)),
+        "database": maybe(row(oid_of, name)),
+        "mended": mapped(name, each(oid_of)),
+        "copied": mapped(oid_of, whole_of),
+        "wanted": mapped(oid_of, name),
+        **dict.fromkeys(("left", "unwanted", "partial"), each(oid_of)),
+    }
 )
 
 

@@ -14,14 +14,14 @@ from collections.abc import Iterator
 
 from pgsub_feed import log
 from pgsub_feed.errors import FileError, Passing
-from pgsub_feed.files import LOG, copy, meant, own_name, remove_files
+from pgsub_feed.files import LOG, copy, own_name, remove_files
 from pgsub_feed.interruption import Check
 from pgsub_feed.ownership import real
 from pgsub_feed.tables.sqlite_files import FULL
 
 from .checkpoint import has_name, read_known
 from .checkpoint_lines import COPYING, SLOT
-from .snapshot import EARLIER, NEW, fold, position_in
+from .snapshot import NEW, fold, position_in
 from .socket_file import SUFFIX, Asking
 
 # Where SQLite, and so the program, locks a file: the bytes of its readers.
@@ -218,8 +218,7 @@ def is_followed(store: str) -> bool:
 def is_being_copied(store: str) -> bool:
     """Whether a store's first rows are being copied, or their copy was interrupted."""
     if not os.path.exists(store):
-        # (of an earlier version of this program)
-        return os.path.exists(meant(store) + EARLIER)
+        return False
     try:
         return read_known(store + ".connector").phase in (COPYING, SLOT)
     except FileError:

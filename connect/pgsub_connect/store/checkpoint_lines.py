@@ -13,10 +13,6 @@ turns: as long as one isn't whole the other one counts. A line is one object of 
 
 A text ends with a line feed and blanks fill the rest, which nobody reads: so one that is shorter
 than a sector of the disk is there or not, as the disk finishes each sector it begins.
-
-Version 3 had no `repeats` and `publications` in `known`, version 2 no `tables`, either. Version 1 had `known` and `counted` as lines of 512 bytes,
-without a checksum. Both are read, and their lines stay until a line of this version, which is
-written behind them, is on the disk.
 """
 
 import dataclasses
@@ -32,8 +28,7 @@ from pgsub_feed.json_texts import Unreadable, object_of, parsed, whole_of
 
 from ..status.state import Counted
 
-VERSION, SIZE, OLD_SIZE = 4, 4096, 512
-READ = (2, 3, VERSION)
+VERSION, SIZE = 4, 4096
 TEXT = json.JSONEncoder(separators=(",", ":"))
 LINE = re.compile(rb'\{"version":([0-9]{1,9}),"crc32":"([0-9a-f]{8})",(.*)', re.DOTALL)
 NEW, COPYING, SLOT, COPIED, FOLLOWING = "new", "copying", "slot", "copied", "following"
@@ -72,7 +67,7 @@ NUMBERS = [it for it in dataclasses.fields(Known) if type(it.default) is int]
 
 
 class Line(NamedTuple):
-    """A line. `at`: which of the two places has it, or the older form of both."""
+    """A line. `at`: which of the two places has it."""
 
     number: int
     known: Known
@@ -105,12 +100,12 @@ def read_lines(content: bytes, path: str) -> Line:
             return max(found, key=lambda it: it.number)
         if not content.strip(b"\0 \n"):
             return Line(0, Known(), None, 1)
-        return read_old(content)
     except Unreadable:
-        raise FileError(
-            f"{path}: not a checkpoint of this program, or a spoiled one: put back a backup of all"
-            " files of the store, or remove them to copy anew"
-        ) from None
+        pass
+    raise FileError(
+        f"{path}: not a checkpoint of this program, or a spoiled one: put back a backup of all"
+        " files of the store, or remove them to copy anew"
+    )
 
 
 def read_line(content: bytes, at: int, path: str) -> Line | None:
@@ -118,18 +113,11 @@ def read_line(content: bytes, at: int, path: str) -> Line | None:
     found = LINE.match(content[: content.find(b"\n") + 1])
     if not found or checksum(version := int(found[1]), found[3]) != int(found[2], 16):
         return None
-    if version not in READ:
+    if version != VERSION:
         raise FileError(f"{path}: of another version of this program ({version}): install that one")
     said = object_of(parsed(b"{" + found[3]))
     counted = None if said.get("counted") is None else counted_of(said["counted"])
     return Line(whole_of(said.get("number")), known_of(said.get("known")), counted, at)
-
-
-def read_old(content: bytes) -> Line:
-    """Both lines of version 1; of a still earlier one there is the first alone."""
-    first, second = (content[at : at + OLD_SIZE].strip() for at in (0, OLD_SIZE))
-    counted = counted_of(parsed(second)) if second.strip(b"\0") else None
-    return Line(0, known_of(parsed(first)), counted, 0)
 
 
 def known_of(said: Any) -> Known:

@@ -10,17 +10,12 @@ from pgsub_feed.files import OF_FILE, meant
 from pgsub_feed.ownership import real
 
 from .repeats_file import SUFFIX as REPEATS
-from .snapshot import EARLIER, NEW
+from .snapshot import NEW
 from .socket_file import SUFFIX
 
-# What follows a store's name in those of an initial copy's files of earlier versions of this program.
-OF_COPY = (*(EARLIER + it for it in OF_FILE), EARLIER + NEW)
-# What follows it in those of all its own files, the checkpoint last: as long as it is there, a
-# start tells what is missing. (`.request` is one of earlier versions of this program.)
-OF_STORE = (
-    *(*OF_COPY, NEW, *OF_FILE[1:], "", SUFFIX, ".request"),
-    *(REPEATS, ".tables.new", ".tables", ".connector"),
-)
+# What follows a store's name in those of all its own files, the checkpoint last: as long as it is
+# there, a start tells what is missing.
+OF_STORE = (NEW, *OF_FILE[1:], "", SUFFIX, REPEATS, ".tables.new", ".tables", ".connector")
 Identity = str | tuple[int, int]
 
 

@@ -5,9 +5,8 @@ import os
 import sqlite3
 import urllib.parse
 
-# What a file that is being made has behind its name, and what one of an initial copy that wasn't
-# complete had by earlier versions of this program.
-NEW, EARLIER = ".pgsub-new", ".copying"
+# What a file that is being made has behind its name.
+NEW = ".pgsub-new"
 
 
 def fold(path: str) -> None:
