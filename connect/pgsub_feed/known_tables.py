@@ -6,17 +6,19 @@ the feed has the LSN up to which they are right: where a commit may have come af
 follower looks at the server first.
 """
 
+import dataclasses
 import os
 import time
-from typing import Any, NamedTuple
+from typing import NamedTuple
 
 from . import json_texts, log
 from .errors import Passing
 from .interruption import Check
+from .json_values import Lsn, Oid, form_of
 from .tables.set_aside import store_at
 from .texts import lsn_text, parse_lsn
 
-FORMAT, KEYS = 1, "keys"
+FORMAT, KEYS = 2, "keys"
 # For how long a look at the server is waited for, in seconds, and how often it is asked for.
 PATIENCE, OFTEN = 20.0, 0.1
 # Which file it is, when it was written, and its length.
@@ -27,17 +29,29 @@ class Index(NamedTuple):
     """An index of the server's: its columns, and whether each is in descending order. `why` says
     why tables of SQLite can't have it, "" where they can."""
 
-    oid: int
+    oid: Oid
     name: str
     columns: tuple[tuple[str, bool], ...]
     why: str = ""
 
 
-class KnownTable(NamedTuple):
+@dataclasses.dataclass(frozen=True)
+class KnownTable:
     """The columns of a table's primary key, none where it has none, and its indexes."""
 
     primary: tuple[str, ...]
     indexes: tuple[Index, ...] = ()
+
+
+@dataclasses.dataclass(frozen=True)
+class KnownCatalog:
+    """What the last look has found: nothing that was committed above that LSN was seen."""
+
+    lsn: Lsn = 0
+    tables: dict[Oid, KnownTable] = dataclasses.field(default_factory=dict)
+
+
+CATALOG = form_of(KnownCatalog | None)
 
 
 class KnownTables:
@@ -49,9 +63,8 @@ class KnownTables:
         self.right = 0
         self.stamp: Stamp | None = None
         self.first = b""
-        # the LSN of the last look: nothing that was committed above it was seen
-        self.lsn = 0
-        self.tables = dict[int, KnownTable]()
+        # of the last look
+        self.lsn, self.tables = 0, dict[int, KnownTable]()
         self.told = set[str]()
         # what the file was when a look was waited for in vain
         self.waited: Stamp | None = None
@@ -77,13 +90,9 @@ class KnownTables:
             said = json_texts.object_of(json_texts.parsed(first, json_texts.LARGEST))
             if said.get("format") != FORMAT:
                 raise json_texts.Unreadable("of another version of this program")
-            # (before rows are copied it has no tables)
-            found = map(json_texts.object_of, json_texts.list_of(said.get("tables", [])))
-            tables, lsn = {json_texts.oid_of(it["oid"]): table_of(it) for it in found}, said.get(
-                "lsn", "0/0"
-            )
-            self.lsn, self.tables = json_texts.lsn_of(lsn), tables
-            self.first = first
+            # (before rows are copied it has none)
+            found = CATALOG.read(said["catalog"]) or KnownCatalog()
+            self.lsn, self.tables, self.first = found.lsn, found.tables, first
         except FileNotFoundError:
             return
         except OSError as error:
@@ -144,31 +153,6 @@ def read_keys(folder: str) -> int | None:
         return None
     except (OSError, ValueError):
         return 0
-
-
-def table_of(said: dict[str, Any]) -> KnownTable:
-    """(An earlier version of this program didn't keep these.)"""
-    return KnownTable(
-        tuple(json_texts.text_of(it) for it in json_texts.list_of(said.get("primary", []))),
-        tuple(
-            index_of(json_texts.list_of(it)) for it in json_texts.list_of(said.get("indexes", []))
-        ),
-    )
-
-
-def index_of(said: list[Any]) -> Index:
-    oid, name, columns, why = said
-    return Index(
-        json_texts.oid_of(oid),
-        json_texts.text_of(name),
-        tuple(map(column_of, json_texts.list_of(columns))),
-        json_texts.text_of(why),
-    )
-
-
-def column_of(said: Any) -> tuple[str, bool]:
-    name, descends = json_texts.list_of(said)
-    return json_texts.text_of(name), json_texts.flag_of(descends)
 
 
 def stamp_of(path: str) -> Stamp:

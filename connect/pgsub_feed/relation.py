@@ -3,13 +3,15 @@
 import dataclasses
 from typing import NamedTuple
 
+from .json_values import Oid, Signed, unkept
+
 
 class Column(NamedTuple):
     """A published column. `number`: its attribute's, 0 where only a Relation message is known."""
 
     name: str
-    type_oid: int
-    modifier: int
+    type_oid: Oid
+    modifier: Signed
     key: bool
     number: int = 0
 
@@ -53,11 +55,11 @@ class TableTypes(NamedTuple):
 class Relation:
     """A Relation message. `types`: what the catalog has said of it, None where that isn't known."""
 
-    oid: int
+    oid: Oid
     namespace: str
     name: str
     shape: Shape
-    types: TableTypes | None = dataclasses.field(default=None, compare=False, repr=False)
+    types: TableTypes | None = unkept(None)
 
     def text(self) -> str:
         return f"{self.namespace}.{self.name} ({self.oid})"

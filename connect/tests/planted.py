@@ -367,8 +367,8 @@ BUGS = (
     Bug(
         "what is noted of commits stays where its store goes",
         "pgsub_connect/store/placing.py",
-        "*(REPEATS, ",
-        "*(",
+        "SUFFIX, REPEATS, ",
+        "SUFFIX, ",
         ("test_repeats",),
     ),
     Bug(
@@ -827,10 +827,10 @@ BUGS = (
         ("test_refreshing",),
     ),
     Bug(
-        "what texts are about isn't kept",
+        "what was found isn't kept",
         "pgsub_connect/drift/findings.py",
-        "{text: about.written() for",
-        "{text: {} for",
+        "        self.update(found)\n",
+        "",
         ("test_remembered",),
     ),
     Bug(

@@ -16,7 +16,14 @@ from pgsub_connect.commands.arguments.session import ACCEPTED
 from pgsub_connect.status.state import Counted
 from pgsub_connect.store import checkpoint as known_of
 from pgsub_connect.store.at_rest import locked_checkpoint
-from pgsub_connect.store.checkpoint import MISSING, Checkpoint, check_gap, locked, read_known
+from pgsub_connect.store.checkpoint import (
+    MISSING,
+    Checkpoint,
+    check_gap,
+    locked,
+    read_known,
+    spelled,
+)
 from pgsub_connect.store.checkpoint_lines import COPYING, FOLLOWING, SIZE, Known, line_of
 from pgsub_feed.errors import FileError, Passing, Stopped, Unfit
 
@@ -116,7 +123,8 @@ class File(FileCase):
                 self.open()
 
     def test_fields_of_another_kind(self) -> None:
-        """They have the right checksum, or are of the version that had none."""
+        """They have the right checksum, or none."""
+        whole = spelled(Known())
         for fields in (
             '{"phase":"old"}',
             '{"phase":1}',
@@ -143,6 +151,9 @@ class File(FileCase):
             "[" * 5000 + "]" * 5000,
             '{"position":' + "9" * 5000 + "}",
         ):
+            if fields.startswith("{"):
+                # (of two fields with one name the last counts)
+                fields = f"{whole[:-1]},{fields[1:]}"
             for content in (line_of(1, fields, None), fields.encode()):
                 with open(self.store + ".connector", "wb") as file:
                     file.write(content + b"\n")
@@ -205,7 +216,7 @@ class File(FileCase):
             (7, 6, {}),
             (8, 8, {"found": {text: "0/5"}}),
             (9, 8, {}),
-            (9, 9, {"adding": {"7": 5}}),
+            (9, 9, {"adding": {7: 5}}),
             (90, 80, {}),
         )
         for confirmed, position, fields in changes:

@@ -278,7 +278,7 @@ class Dropping(Quiet):
         self.assertIn("somebody else", self.asked[1])
 
     def test_all_that_were_made(self) -> None:
-        self.remember(made={"pgsub": 777, "pgsub_inserts": 778}, followed=["more"])
+        self.remember(made={"pgsub": 777, "pgsub_inserts": 778}, catalog={"names": ["more"]})
         self.publications = {"pgsub": "777", "pgsub_inserts": "778", "more": "779"}
         self.run_it()
         self.assertEqual(len(self.server.told("DROP PUBLICATION")), 3)

@@ -72,48 +72,78 @@ class Files(StoreCase):
     """Those beside a store."""
 
     TABLES: Any = {
-        "format": 1,
+        "format": 2,
         "made": {"pgsub": 5},
         "feed": "",
-        "followed": ["pgsub"],
-        "lsn": "0/100",
-        "highest": 20000,
-        "publications": {
-            "pgsub": {
-                "oid": 5,
-                "whole": False,
-                "actions": ["insert"],
-                "via_root": False,
-                "generated": False,
-                "owner": 10,
-                "since": "7",
+        "base": False,
+        "database": [5, "shop"],
+        "catalog": {
+            "names": ["pgsub"],
+            "lsn": "0/100",
+            "highest": 20000,
+            "running": 7,
+            "publications": {
+                "pgsub": {
+                    "oid": 5,
+                    "whole": False,
+                    "actions": ["insert"],
+                    "via_root": False,
+                    "generated": False,
+                    "owner": 10,
+                    "since": "7",
+                }
+            },
+            "tables": {
+                "16384": {
+                    "oid": 16384,
+                    "namespace": "public",
+                    "name": "t",
+                    "kind": "r",
+                    "shape": {"identity": "d", "columns": [["id", 23, -1, True, 1]]},
+                    "parts": {"pgsub": [None, [1], False, ["7"]]},
+                    "node": 16384,
+                    "altered": "7",
+                    "logged": True,
+                    "toast": 0,
+                    "primary": ["id"],
+                    "indexes": [[16390, "i", [["id", False]], ""]],
+                }
+            },
+            "partitions": {
+                "16385": {
+                    "oid": 16385,
+                    "parent": 16384,
+                    "name": "public.p",
+                    "leaf": True,
+                    "node": 16385,
+                    "since": "7",
+                    "logged": True,
+                    "toast": 0,
+                }
+            },
+            "types": {"23": {"name": "int4"}},
+        },
+        "sent": {
+            "16384": {
+                "lsn": "0/100",
+                "shape": {"identity": "d", "columns": [["id", 23, -1, True, 0]]},
             }
         },
-        "tables": [
-            {
-                "oid": 16384,
-                "schema": "public",
-                "name": "t",
-                "kind": "r",
-                "identity": "d",
-                "columns": [["id", 23, -1, True, 1]],
-                "parts": {"pgsub": [None, [1], False]},
-                "since": {"pgsub": ["7"]},
-                "node": 16384,
-                "altered": "7",
-            }
-        ],
-        "partitions": [[16385, 16384, "public.p", True, 16385]],
-        "attached": {"16385": "7"},
-        "types": {"23": {"name": "int4"}},
-        "sent": {"16384": ["0/100", ["d", [["id", 23, -1, True, 0]]]]},
         "names": [["public", "t", 16384, "0/100", [5]]],
-        "found": {"values": ["0/100", {"a text": {"tables": [16384], "type_oid": 23}}, 0]},
+        "found": {
+            "values": {
+                "lsn": "0/100",
+                "texts": {"a text": [[16384], "", 23, "", False, "", ""]},
+                "more": 0,
+            }
+        },
         "mended": {"a text": [16384]},
-        "copied": {"16384": 256},
-        "wanted": {"16384": "why"},
-        "unwanted": [5],
-        "partial": [6],
+        "outstanding": {
+            "copied": {"16384": 256},
+            "wanted": {"16384": "why"},
+            "unwanted": [5],
+            "partial": [6],
+        },
         "left": [7],
         "told": {"a text": "0/100"},
     }
@@ -140,7 +170,7 @@ class Files(StoreCase):
             with contextlib.suppress(FileError):
                 remembered = Remembered(self.path)
                 # (what is taken is right: it can be looked through and written)
-                remembered.names.written(), remembered.found_of(16384), remembered.text_of(16384)
+                remembered.names.rows(), remembered.found_of(16384), remembered.text_of(16384)
                 remembered.save()
             made_publications(read_remembered(path))
         self.assertGreater(count, 1000)

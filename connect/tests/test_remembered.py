@@ -164,7 +164,7 @@ class File(Case):
             said = json.load(file)
         wrong: tuple[object, ...] = (None, "id", [5], [None])
         for primary in wrong:
-            said["tables"][0]["primary"] = primary
+            said["catalog"]["tables"]["1"]["primary"] = primary
             with open(self.store + ".tables", "w", encoding="utf-8") as file:
                 file.write(json.dumps(said) + "\n")
             with self.assertRaisesRegex(FileError, "not a file of tables"):
@@ -213,12 +213,8 @@ class File(Case):
             b"17",
             b'"text"',
             b"\xff\xfe",
-            b'{"format": 1}',
-            *(
-                json.dumps({**said, name: 5}).encode()
-                for name in said
-                if name not in ("format", "highest", "running")
-            ),
+            b'{"format": 2}',
+            *(json.dumps({**said, name: 5}).encode() for name in said if name != "format"),
         ]
         for content in (*pieces, *others):
             with open(self.store + ".tables", "wb") as file:
@@ -228,10 +224,10 @@ class File(Case):
             ):
                 Remembered(self.store)
 
-    def test_of_a_later_version(self) -> None:
+    def test_of_another_version(self) -> None:
         with open(self.store + ".tables", "w", encoding="ascii") as file:
-            file.write('{"format": 2}')
-        with self.assertRaisesRegex(FileError, "later version"):
+            file.write('{"format": 3}')
+        with self.assertRaisesRegex(FileError, "another version"):
             Remembered(self.store)
 
     def test_cant_be_read(self) -> None:

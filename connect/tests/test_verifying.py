@@ -402,7 +402,7 @@ class Reads(Case):
                 self.assertEqual(verifier.different, different)
 
     def test_what_is_being_added_is_not_compared(self) -> None:
-        known = Known(FOLLOWING, adding={"2": 0})
+        known = Known(FOLLOWING, adding={2: 0})
         self.assertEqual(settled([KEYED], known), [KEYED])
         with self.assertRaisesRegex(Passing, "being added just now, or refused: public.whole"):
             settled([KEYED, WHOLE], known)

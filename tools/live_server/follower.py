@@ -270,4 +270,4 @@ def is_adding(store: Path) -> bool:
     except FileNotFoundError:
         return True
     is_copied = store.exists() and known.get("phase") not in ("copying", "slot")
-    return not is_copied or bool(remembered.get("wanted") or known.get("adding"))
+    return not is_copied or bool(remembered["outstanding"]["wanted"] or known.get("adding"))

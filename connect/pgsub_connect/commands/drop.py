@@ -188,7 +188,8 @@ class Dropper:
     def candidates(self, connection: Connection) -> list[tuple[str, bool]]:
         """The publications to ask for, and whether it is known that the connector made them."""
         made = made_publications(self.remembered)
-        known = self.remembered.get("followed")
+        catalog = self.remembered.get("catalog")
+        known = catalog.get("names") if isinstance(catalog, dict) else None
         followed = [str(it) for it in known] if isinstance(known, list) else []
         names = list(dict.fromkeys([*made, *self.options.publication, *followed]))
         names += [inserts_of(name) for name in list(names) if inserts_of(name) not in names]

@@ -9,9 +9,10 @@ from pgsub_feed import log
 from pgsub_feed.errors import FileError, Passing, Stopped
 from pgsub_feed.files import LOG, copy, placed, remove
 from pgsub_feed.interruption import Check
+from pgsub_feed.tables.sqlite_files import failed
 from pgsub_feed.texts import lsn_text
 
-from ..store.at_rest import at_rest, failed
+from ..store.at_rest import at_rest
 from ..store.file import check_store, is_store
 from ..store.placing import check_into
 from ..store.snapshot import fold, position_in

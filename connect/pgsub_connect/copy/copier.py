@@ -34,7 +34,6 @@ from ..drift.remembered import Remembered
 from ..errors import ServerError
 from ..preconditions.judged import require, require_reading
 from ..server import transport
-from ..server.catalog import Table
 from ..server.connection import Connection
 from ..server.publication_setup import Wanted
 from ..server.publications import estimated_rows, stored_in

@@ -9,15 +9,15 @@ import os
 import sqlite3
 
 from pgsub_feed import log
-from pgsub_feed.errors import FileError
 from pgsub_feed.interruption import Check
+from pgsub_feed.tables.sqlite_files import failed
 from pgsub_feed.texts import counted
 
 from ..server.catalog import Table
 from ..server.connection import Connection
 from ..server.publications import sizes_of
 from ..server.session import is_lost, settle
-from ..store.at_rest import failed, hold
+from ..store.at_rest import hold
 from ..store.file import is_store, opened
 from ..stream.filter_end import FilterEnded
 from .files import CopyFiles

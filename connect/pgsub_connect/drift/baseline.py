@@ -2,28 +2,17 @@
 was found by it."""
 
 import dataclasses
-from typing import Any
 
 from pgsub_feed.relation import Relation, Shape
-from pgsub_feed.texts import lsn_text, parse_lsn
 
 from ..server.catalog import Catalog, Table
-from .catalog_json import catalog_of, catalog_written, shape_of
 from .differences import differences, gone, shape_differences
 from .findings import NAMES, NOTHING, About, Findings, tables_of
 from .names import Names
 from .pending import Outstanding, Unsaved
+from .remembered_lines import Kept, Sent
 
-FORMAT = 1
-
-
-@dataclasses.dataclass(frozen=True)
-class Sent:
-    """The last Relation message of an OID: its commit's LSN, and what it said; None where only the
-    copy's rows are known."""
-
-    lsn: int
-    shape: Shape | None
+FORMAT = 2
 
 
 class Baseline:
@@ -240,38 +229,19 @@ class Baseline:
         was = before[1] if before else name
         return f"the database {was} was renamed: it is {name} now" if was != name else ""
 
-    def restore(self, said: dict[str, Any]) -> None:
-        """Takes what the first line of a file says."""
-        self.made = {str(name): int(oid) for name, oid in said["made"].items()}
-        self.feed, self.has_base = said["feed"], said.get("base", False)
-        if "followed" not in said:
-            # (nothing was copied yet)
-            return
-        self.catalog = catalog_of(said)
-        if database := said["database"]:
-            self.database = (database[0], database[1])
-        self.sent = {
-            int(oid): Sent(parse_lsn(lsn), shape_of(*shape) if shape else None)
-            for oid, (lsn, shape) in said["sent"].items()
-        }
-        self.left = {int(oid) for oid in said["left"]}
-        self.names.restore(said["names"])
-        self.found.restore(said)
-        self.outstanding.restore(said)
+    def restore(self, kept: Kept) -> None:
+        """Takes what a file has kept of it."""
+        self.made, self.feed, self.has_base = kept.made, kept.feed, kept.base
+        self.database, self.catalog = kept.database, kept.catalog
+        self.sent, self.left, self.outstanding = kept.sent, kept.left, kept.outstanding
+        self.names.restore(kept.names)
+        self.found.restore(kept.found, kept.mended, kept.told)
 
-    def written(self) -> dict[str, Any]:
-        begun = {"format": FORMAT, "made": self.made, "feed": self.feed}
-        if self.has_base:
-            begun["base"] = True
-        if self.catalog is None:
-            return begun
-        sent = {
-            oid: [lsn_text(it.lsn), it.shape and [it.shape.identity, it.shape.columns]]
-            for oid, it in self.sent.items()
-        }
-        begun |= {"database": self.database, **catalog_written(self.catalog), "sent": sent}
-        begun |= {"names": self.names.written(), **self.found.written()}
-        return {**begun, **self.outstanding.written(), "left": sorted(self.left)}
+    def kept(self) -> Kept:
+        """What a file is to have of it."""
+        begun = FORMAT, self.made, self.feed, self.has_base, self.database, self.catalog
+        found = self.found, self.found.mended, self.found.told
+        return Kept(*begun, self.sent, self.names.rows(), *found, self.outstanding, self.left)
 
 
 def described(table: Table, relation: Relation, is_told: bool) -> Table:

@@ -6,9 +6,10 @@ of each table is.
 
 import dataclasses
 from collections.abc import Callable, Iterable
-from typing import Any, NamedTuple
+from typing import NamedTuple
 
-from pgsub_feed.texts import lsn_text, parse_lsn, shortened
+from pgsub_feed.json_values import Lsn, Oid
+from pgsub_feed.texts import lsn_text, shortened
 
 from ..server.catalog import Catalog, types_having
 
@@ -24,9 +25,9 @@ class About(NamedTuple):
     """What a text is about: tables, or those of a publication, or those that have a column of a
     type."""
 
-    tables: tuple[int, ...] = ()
+    tables: tuple[Oid, ...] = ()
     publication: str = ""
-    type_oid: int = 0
+    type_oid: Oid = 0
     # the changes that the publication doesn't send: as long as it is so, no copy mends it
     lacks: str = ""
     # whether rows are missing that were there before
@@ -36,20 +37,8 @@ class About(NamedTuple):
     # the column that was added, and is no renamed one: null is right where nothing filled it in
     added: str = ""
 
-    def written(self) -> dict[str, Any]:
-        """What is kept of it in a file."""
-        return {name: value for name, value in self._asdict().items() if value}
-
 
 NOTHING = About()
-
-
-def about_of(said: dict[str, Any]) -> About:
-    """What a file has kept of one. What only a later version has is left to that."""
-    known: dict[str, Any] = {name: it for name, it in said.items() if name in About._fields}
-    known["tables"] = tuple(map(int, said.get("tables", ())))
-    known["type_oid"] = int(said.get("type_oid", 0))
-    return About(**known)
 
 
 class Difference(NamedTuple):
@@ -64,7 +53,7 @@ class Difference(NamedTuple):
 class Found:
     """What was found since an LSN. `more`: how many texts aren't kept that are of no one table."""
 
-    lsn: int
+    lsn: Lsn
     texts: dict[str, About]
     more: int = 0
 
@@ -169,23 +158,13 @@ class Findings(dict[str, Found]):
         del self.mended[text]
         return True
 
-    def written(self) -> dict[str, Any]:
-        """What is kept of it in a file."""
-        kept: dict[str, Any] = {}
-        for kind, it in self.items():
-            texts = {text: about.written() for text, about in it.texts.items()}
-            kept[kind] = [lsn_text(it.lsn), texts, it.more]
-        told = {text: lsn_text(lsn) for text, lsn in self.told.items()}
-        return {"found": kept, "mended": self.mended, "told": told}
-
-    def restore(self, said: dict[str, Any]) -> None:
+    def restore(
+        self, found: dict[str, Found], mended: dict[str, list[int]], told: dict[str, int]
+    ) -> None:
         """Takes what a file has kept of it."""
         self.clear()
-        for kind, (lsn, texts, more) in said["found"].items():
-            abouts = {text: about_of(it) for text, it in texts.items()}
-            self[kind] = Found(parse_lsn(lsn), abouts, int(more))
-        self.told = {text: parse_lsn(lsn) for text, lsn in said["told"].items()}
-        self.mended = said["mended"]
+        self.update(found)
+        self.mended, self.told = mended, told
 
 
 def lasts(about: About, catalog: Catalog | None) -> bool:

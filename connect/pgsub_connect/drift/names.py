@@ -1,10 +1,10 @@
 """Which table has each name, and which ones had it before."""
 
 import dataclasses
-from collections.abc import Callable
-from typing import Any
+from collections.abc import Callable, Iterable
+from typing import NamedTuple
 
-from pgsub_feed.texts import lsn_text, parse_lsn
+from pgsub_feed.json_values import Lsn, Oid
 
 from ..server.catalog import Catalog
 
@@ -34,6 +34,16 @@ class Name:
         if self.oid is not None:
             self.before.append(self.oid)
             self.oid = None
+
+
+class NameRow(NamedTuple):
+    """What is kept of one in a file."""
+
+    schema: str
+    table: str
+    oid: Oid | None
+    since: Lsn
+    before: list[Oid]
 
 
 class Names(dict[Key, Name]):
@@ -104,15 +114,14 @@ class Names(dict[Key, Name]):
             self.release(key)
             self[key].before.remove(oid)
 
-    def written(self) -> list[Any]:
-        """What is kept of them in a file."""
-        return [[*key, it.oid, lsn_text(it.since), it.before] for key, it in sorted(self.items())]
+    def rows(self) -> list[NameRow]:
+        return [NameRow(*key, it.oid, it.since, it.before) for key, it in sorted(self.items())]
 
-    def restore(self, said: list[Any]) -> None:
+    def restore(self, rows: Iterable[NameRow]) -> None:
         """Takes what a file has kept of them."""
         self.clear()
-        for schema, table, oid, since, before in said:
-            self[schema, table] = Name(oid, parse_lsn(since), [int(it) for it in before])
+        for it in rows:
+            self[it.schema, it.table] = Name(it.oid, it.since, it.before)
         self.held = {it.oid: key for key, it in self.items() if it.oid is not None}
 
 

@@ -1,25 +1,27 @@
 """What is still to be done: which tables' rows are to come or go, and what isn't on the disk yet."""
 
 import contextlib
+import dataclasses
 from collections.abc import Iterable, Iterator
-from typing import Any
 
+from pgsub_feed.json_values import Lsn, Oid
 from pgsub_feed.relation import Relation
 
-from .catalog_json import Noted
+# A Relation message of a change, and the LSN of its commit.
+Noted = tuple[Relation, Lsn]
 
 
+@dataclasses.dataclass
 class Outstanding:
     """Whose rows are to come or go. `wanted`: those whose rows are to be added, and why one was
     refused, "" where none was; `unwanted`: those that aren't published any more; `partial`: those
     that the initial copy has left for later, of which it has a part at most; `copied`: while rows
     are copied first, those that are stored whole, each with the position from which they are."""
 
-    def __init__(self) -> None:
-        self.wanted: dict[int, str] = {}
-        self.unwanted: set[int] = set()
-        self.partial: set[int] = set()
-        self.copied: dict[int, int] = {}
+    wanted: dict[Oid, str] = dataclasses.field(default_factory=dict)
+    unwanted: set[Oid] = dataclasses.field(default_factory=set)
+    partial: set[Oid] = dataclasses.field(default_factory=set)
+    copied: dict[Oid, int] = dataclasses.field(default_factory=dict)
 
     def want(self, oids: Iterable[int], unwanted: Iterable[int]) -> None:
         """Notes that the rows of tables are to be added, anew where that was refused, and that
@@ -32,21 +34,6 @@ class Outstanding:
         self.wanted.pop(oid, None)
         self.partial.discard(oid)
         return oid in self.unwanted
-
-    def written(self) -> dict[str, Any]:
-        """What is kept of it in a file."""
-        return {
-            "copied": self.copied,
-            "wanted": self.wanted,
-            "unwanted": sorted(self.unwanted),
-            "partial": sorted(self.partial),
-        }
-
-    def restore(self, said: dict[str, Any]) -> None:
-        """Takes what a file has kept of it."""
-        self.wanted = {int(oid): why for oid, why in said["wanted"].items()}
-        self.copied = {int(oid): end for oid, end in said["copied"].items()}
-        self.unwanted, self.partial = set(said["unwanted"]), set(said["partial"])
 
 
 class Unsaved:

@@ -13,10 +13,10 @@ import os
 from collections.abc import Iterable
 
 from pgsub_feed.errors import FileError
+from pgsub_feed.texts import lsn_text
 
 from .baseline import FORMAT, Baseline
-from .catalog_json import json_text, noted_of, noted_written
-from .remembered_lines import DurableFile, check_said, noted_in, read_lines
+from .remembered_lines import KEPT, NOTED, DurableFile, line_of, noted_in, read_lines
 
 
 class Remembered(Baseline):
@@ -101,10 +101,9 @@ class Remembered(Baseline):
         try:
             said, more = read_lines(self.path)
             if said["format"] != FORMAT:
-                text = f"of a later version of this program (format {said['format']})"
+                text = f"of another version of this program (format {said['format']})"
                 raise FileError(f"{self.path}: {text}")
-            check_said(said)
-            self.restore(said)
+            self.restore(KEPT.read(said))
             self.follow(more)
         except FileNotFoundError:
             raise
@@ -121,7 +120,7 @@ class Remembered(Baseline):
         next one, so only the last may be torn."""
         for at, line in enumerate(lines):
             try:
-                noted = [noted_of(it) for it in noted_in(line)]
+                noted = noted_in(line)
             except ValueError:
                 if at + 1 < len(lines):
                     raise
@@ -135,7 +134,7 @@ class Remembered(Baseline):
     def put(self) -> None:
         """Puts what is new on the disk, before this returns: behind what the file has, where that
         is right and doesn't grow too long."""
-        line = json_text([noted_written(*it) for it in self.unsaved.noted])
+        line = line_of(NOTED, self.unsaved.noted)
         if self.unsaved.is_other or not self.file.add(line):
             self.save()
         else:
@@ -146,7 +145,7 @@ class Remembered(Baseline):
         if self.catalog is None and not (self.made or self.feed):
             self.file.remove()
         else:
-            self.file.replace(json_text(self.written()))
+            self.file.replace(line_of(KEPT, self.kept()))
         self.unsaved.clear()
 
     def begin_anew(self) -> None:
@@ -172,6 +171,6 @@ def print_names(store: str) -> None:
         raise FileError(f"there is no store {store}")
     if remembered.catalog is None:
         raise FileError(f"{remembered.path}: there is no such file yet: the next session makes it")
-    fields = "schema", "table", "oid", "since", "before"
-    for it in remembered.names.written():
-        print(json.dumps(dict(zip(fields, it)), ensure_ascii=False))
+    for it in remembered.names.rows():
+        told = {**it._asdict(), "since": lsn_text(it.since)}
+        print(json.dumps(told, ensure_ascii=False))

@@ -2,6 +2,7 @@
 is reached, of the role, and of the slot."""
 
 import dataclasses
+import functools
 from collections.abc import Iterator
 
 from pgsub_feed.texts import counted, literal
@@ -25,16 +26,7 @@ class Result:
     text: str
 
 
-def ok(name: str, text: str) -> Result:
-    return Result(OK, name, text)
-
-
-def warning(name: str, text: str) -> Result:
-    return Result(WARNING, name, text)
-
-
-def error(name: str, text: str) -> Result:
-    return Result(ERROR, name, text)
+ok, warning, error = (functools.partial(Result, level) for level in (OK, WARNING, ERROR))
 
 
 @dataclasses.dataclass
@@ -97,14 +89,17 @@ def judge_wal_level(facts: Facts, purpose: Purpose) -> Judged:
     yield ok("wal_level", level) if level == "logical" else error("wal_level", why)
 
 
+def judge_room(facts: Facts, setting: str, used: int, needed: int) -> Result:
+    """Whether as much of what a setting limits is left as is needed."""
+    most, name = number(facts, setting), setting.removeprefix("max_")
+    free = max(most - used, 0)
+    text = f"{free} of {setting} = {most} free"
+    return error(name, f"{text}, {needed} needed") if free < needed else ok(name, text)
+
+
 def judge_senders(facts: Facts, purpose: Purpose) -> Judged:
-    most = number(facts, "max_wal_senders")
-    free = max(most - facts.senders, 0)
-    text = f"{free} of max_wal_senders = {most} free"
-    if free < 1 and not (facts.slot and facts.slot.is_active):
-        yield error("wal_senders", f"{text}, 1 needed")
-    else:
-        yield ok("wal_senders", text)
+    has_one = facts.slot is not None and facts.slot.is_active
+    yield judge_room(facts, "max_wal_senders", facts.senders, 0 if has_one else 1)
     if facts.replication_error:
         yield error("replication_connection", facts.replication_error)
 
@@ -188,14 +183,8 @@ def judge_reading(facts: Facts, purpose: Purpose) -> Judged:
 
 
 def judge_slots(facts: Facts, purpose: Purpose) -> Judged:
-    most = number(facts, "max_replication_slots")
     needed = 0 if facts.slot else 2 if purpose.copies else 1
-    free = max(most - facts.slots, 0)
-    text = f"{free} of max_replication_slots = {most} free"
-    if free < needed:
-        yield error("replication_slots", f"{text}, {needed} needed")
-    else:
-        yield ok("replication_slots", text)
+    yield judge_room(facts, "max_replication_slots", facts.slots, needed)
 
 
 def judge_slot(facts: Facts, purpose: Purpose) -> Judged:
@@ -218,17 +207,14 @@ def judge_slot(facts: Facts, purpose: Purpose) -> Judged:
         why = f" ({slot.why_invalid})" if slot.why_invalid else ""
         yield error("slot", f"{name} is lost{why}: drop it and copy anew")
     elif not purpose.has_store and purpose.copies:
-        yield error("slot", f"{name} is there already, and no store: {taken_cure(name)}")
+        drop = f"SELECT pg_drop_replication_slot({literal(name)})"
+        cure = f"name another one by --slot; or, if nobody follows it, {drop}"
+        yield error("slot", f"{name} is there already, and no store: {cure}")
     else:
         text = f"{name}{', active' if slot.is_active else ''}"
         yield judge_size(slot.wal_status, slot.safe_wal_size, text)
         if purpose.failover and not slot.is_failover:
             yield warning("failover", f"{name} isn't handed on to standbys")
-
-
-def taken_cure(slot: str) -> str:
-    """What to do where a slot is there for which there is no store."""
-    return f"name another one by --slot; or, if nobody follows it, SELECT pg_drop_replication_slot({literal(slot)})"
 
 
 def judge_size(status: str, safe: int | None, text: str) -> Result:

@@ -5,6 +5,7 @@ import dataclasses
 from collections.abc import Iterable
 from typing import NamedTuple
 
+from pgsub_feed.json_values import Lsn, Oid, unkept
 from pgsub_feed.known_tables import Index
 from pgsub_feed.relation import Column, ColumnType, Shape
 from pgsub_feed.texts import identifier
@@ -17,12 +18,12 @@ class Publication:
     """A publication's options. `whole`: it is for all tables; `since`: which transaction has
     written them, "" where that isn't known."""
 
-    oid: int
+    oid: Oid
     whole: bool
     actions: tuple[str, ...]
     via_root: bool
     generated: bool
-    owner: int = dataclasses.field(default=0, compare=False)
+    owner: Oid = dataclasses.field(default=0, compare=False)
     since: str = dataclasses.field(default="", compare=False)
 
 
@@ -57,24 +58,22 @@ class Table:
     deferrable, or isn't known; `indexes`: all that it has; `leaves`: what some of its partitions are whose changes are in no
     log, where it is to be read."""
 
-    oid: int
+    oid: Oid
     namespace: str
     name: str
     kind: str
     shape: Shape
     parts: dict[str, Part] = dataclasses.field(default_factory=dict)
-    untouched: bool = dataclasses.field(default=False, compare=False)
-    unwritten: bool = dataclasses.field(default=False, compare=False)
-    node: int = 0
+    untouched: bool = unkept(False)
+    unwritten: bool = unkept(False)
+    node: Oid = 0
     altered: str = ""
     logged: bool = True
-    toast: int = 0
+    toast: Oid = 0
     primary: tuple[str, ...] = ()
     indexes: tuple[Index, ...] = ()
-    types: tuple[tuple[Column, ColumnType], ...] | None = dataclasses.field(
-        default=None, compare=False
-    )
-    leaves: Leaves | None = None
+    types: tuple[tuple[Column, ColumnType], ...] | None = unkept(None)
+    leaves: Leaves | None = unkept(None)
 
     @property
     def identity(self) -> str:
@@ -137,15 +136,15 @@ class Partition:
     known; `since`: which transaction has attached it, "" where that isn't known; `logged` and
     `toast` as of a table."""
 
-    oid: int
-    parent: int
+    oid: Oid
+    parent: Oid
     name: str
     leaf: bool
-    made: bool = dataclasses.field(default=False, compare=False)
-    node: int = 0
+    made: bool = unkept(False)
+    node: Oid = 0
     since: str = ""
     logged: bool = True
-    toast: int = 0
+    toast: Oid = 0
 
 
 @dataclasses.dataclass(frozen=True)
@@ -154,22 +153,22 @@ class Catalog:
     is in there; `highest`: the greatest OID of any relation."""
 
     names: tuple[str, ...]
-    lsn: int
-    highest: int
+    lsn: Lsn
+    highest: Oid
     publications: dict[str, Publication]
-    tables: dict[int, Table]
-    partitions: dict[int, Partition]
+    tables: dict[Oid, Table]
+    partitions: dict[Oid, Partition]
     # by the OIDs of types that published columns have in them: `name`, the labels of enumerations,
     # by OID, and what composite types consist of, by `#` and the number of the part; of an array, a
     # domain or a range with such a type in it that type, by `@` and its OID
-    types: dict[int, dict[str, str]]
+    types: dict[Oid, dict[str, str]]
     # the first transaction that may have run when it was read, 0 where that isn't known
     running: int = dataclasses.field(default=0, compare=False)
     # what the rows themselves have told, as the module `drift.doubts` says: tables that have the
     # values that they had, though their columns and their file were altered, and partitions that
     # had no rows when they were attached
-    kept: frozenset[int] = dataclasses.field(default=frozenset(), compare=False)
-    fresh: frozenset[int] = dataclasses.field(default=frozenset(), compare=False)
+    kept: frozenset[int] = unkept(frozenset())
+    fresh: frozenset[int] = unkept(frozenset())
 
 
 def types_having(oids: Iterable[int], types: dict[int, dict[str, str]]) -> set[int]:

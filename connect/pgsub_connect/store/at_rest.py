@@ -17,7 +17,7 @@ from pgsub_feed.errors import FileError, Passing
 from pgsub_feed.files import LOG, copy, own_name, remove_files
 from pgsub_feed.interruption import Check
 from pgsub_feed.ownership import real
-from pgsub_feed.tables.sqlite_files import FULL
+from pgsub_feed.tables.sqlite_files import failed
 
 from .checkpoint import has_name, read_known
 from .checkpoint_lines import COPYING, SLOT
@@ -76,13 +76,6 @@ def unopened(store: str, beside: str, check: Check) -> Iterator[tuple[str, bool]
         except sqlite3.Error as error:
             raise failed(error, store) from None
         yield copied, True
-
-
-def failed(error: sqlite3.Error, told: str) -> FileError | Passing:
-    """What ends it where SQLite can't read or write files, which are told: a disk that is full may
-    have room later."""
-    text = f"{told}: {error}"
-    return Passing(text) if FULL in str(error) else FileError(text)
 
 
 def check_there(store: str) -> None:
@@ -159,14 +152,14 @@ def ask(store: str, check: Check) -> str | None:
     asking = follower_of(store, check)
     if asking is None:
         return None
-    with contextlib.ExitStack() as failed:
-        failed.callback(remove_files, into)
+    with contextlib.ExitStack() as undone:
+        undone.callback(remove_files, into)
         with contextlib.closing(asking):
             log.info(f"{store} is being followed: its follower is asked for a copy")
             asking.say(ask="copy", into=into)
             if not is_copied(asking, into):
                 return None
-        failed.pop_all()
+        undone.pop_all()
     return into
 
 

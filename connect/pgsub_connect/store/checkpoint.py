@@ -89,9 +89,10 @@ class Checkpoint:
         self.file = self.opened()
         try:
             self.lock(check)
-            self.number, self.known, self.counted, at = read_file(self.file, self.path)
+            line = read_file(self.file, self.path)
+            self.number, self.known, self.counted = line.number, line.known, line.counted
             # the place of a line that the disk has; the other one is written
-            self.durable = at
+            self.durable = line.at
             os.fsync(self.file)
         except OSError as error:
             os.close(self.file)
@@ -260,16 +261,16 @@ class Checkpoint:
     def adding(self) -> dict[int, int]:
         """The tables that are being added, each with the LSN at which its rows are stored, 0 where
         that isn't known."""
-        return {int(oid): lsn for oid, lsn in self.known.adding.items()}
+        return dict(self.known.adding)
 
     def write_adding(self, adding: dict[int, int]) -> None:
         """Notes durably which tables are being added. What it says begins to hold after this."""
-        if adding != self.adding():
-            self.write(True, adding={str(oid): lsn for oid, lsn in adding.items()})
+        if adding != self.known.adding:
+            self.write(True, adding=adding)
 
     def has_room_for(self, oid: int) -> bool:
         """Whether one more table can be noted, whatever else the file will say."""
-        most, adding = GREATEST, {**self.known.adding, str(oid): GREATEST}
+        most, adding = GREATEST, {**self.known.adding, oid: GREATEST}
         numbers = dict.fromkeys(("confirmed", "position", "started", "repeats"), most)
         texts = {"found": dict.fromkeys({*self.known.found, *KINDS}, lsn_text(most))}
         numbers |= dict.fromkeys(("timeline", "publications"), (1 << 32) - 1)

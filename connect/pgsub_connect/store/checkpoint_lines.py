@@ -20,11 +20,12 @@ import json
 import os
 import re
 import zlib
-from typing import Any, NamedTuple
+from typing import Annotated, Any
 
-from pgsub_feed import json_texts
 from pgsub_feed.errors import FileError
-from pgsub_feed.json_texts import Unreadable, object_of, parsed, whole_of
+from pgsub_feed.json_texts import Unreadable, lsn_of, parsed, text_of
+from pgsub_feed.json_values import Form, Oid, form_of, unkept
+from pgsub_feed.texts import lsn_text
 
 from ..status.state import Counted
 
@@ -35,6 +36,14 @@ NEW, COPYING, SLOT, COPIED, FOLLOWING = "new", "copying", "slot", "copied", "fol
 PHASES = (NEW, COPYING, SLOT, COPIED, FOLLOWING)
 # those with a copy that the next start goes on with
 INTERRUPTED = (SLOT, COPIED)
+
+
+def lsn_or_none(value: Any) -> str:
+    """The text of an LSN, or none."""
+    return lsn_text(lsn_of(value)) if value else text_of(value)
+
+
+LsnText = Annotated[str, Form(lsn_or_none)]
 
 
 @dataclasses.dataclass
@@ -49,9 +58,9 @@ class Known:
     started: int = 0
     confirmed: int = 0
     position: int = 0
-    found: dict[str, str] = dataclasses.field(default_factory=dict)
-    skipped: str = ""
-    adding: dict[str, int] = dataclasses.field(default_factory=dict)
+    found: dict[str, LsnText] = dataclasses.field(default_factory=dict)
+    skipped: LsnText = ""
+    adding: dict[Oid, int] = dataclasses.field(default_factory=dict)
     encrypted: bool = False
     tables: str = ""
     repeats: int = 0
@@ -62,17 +71,17 @@ class Known:
         self.confirmed, self.position = confirmed, position
 
 
-TEXTS = [it for it in dataclasses.fields(Known) if isinstance(it.default, str)]
-NUMBERS = [it for it in dataclasses.fields(Known) if type(it.default) is int]
-
-
-class Line(NamedTuple):
+@dataclasses.dataclass(frozen=True)
+class Line:
     """A line. `at`: which of the two places has it."""
 
     number: int
     known: Known
     counted: Counted | None
-    at: int
+    at: int = unkept(1)
+
+
+READ = form_of(Line)
 
 
 def line_of(number: int, known: str, counted: Counted | None) -> bytes:
@@ -99,7 +108,7 @@ def read_lines(content: bytes, path: str) -> Line:
         if found:
             return max(found, key=lambda it: it.number)
         if not content.strip(b"\0 \n"):
-            return Line(0, Known(), None, 1)
+            return Line(0, Known(), None)
     except Unreadable:
         pass
     raise FileError(
@@ -115,46 +124,11 @@ def read_line(content: bytes, at: int, path: str) -> Line | None:
         return None
     if version != VERSION:
         raise FileError(f"{path}: of another version of this program ({version}): install that one")
-    said = object_of(parsed(b"{" + found[3]))
-    counted = None if said.get("counted") is None else counted_of(said["counted"])
-    return Line(whole_of(said.get("number")), known_of(said.get("known")), counted, at)
-
-
-def known_of(said: Any) -> Known:
-    """What a line says of the store. What an earlier version didn't know is as in a new one."""
-    fields = object_of(said)
-    check_names(fields, Known)
-    texts = {it.name: json_texts.text_of(fields.get(it.name, it.default)) for it in TEXTS}
-    numbers = {it.name: whole_of(fields.get(it.name, 0)) for it in NUMBERS}
-    said_found, said_adding = (object_of(fields.get(name, {})) for name in ("found", "adding"))
-    found = {kind: json_texts.text_of(lsn) for kind, lsn in said_found.items()}
-    adding = {str(json_texts.oid_of(oid)): whole_of(lsn) for oid, lsn in said_adding.items()}
-    encrypted = json_texts.flag_of(fields.get("encrypted", False))
-    known = Known(found=found, adding=adding, encrypted=encrypted)
-    known = dataclasses.replace(known, **texts, **numbers)
-    if known.phase not in PHASES:
-        raise Unreadable(f"no phase {known.phase}")
-    for lsn in (*known.found.values(), known.skipped or "0/0"):
-        json_texts.lsn_of(lsn)
-    return known
-
-
-def counted_of(said: Any) -> Counted:
-    fields = object_of(said)
-    check_names(fields, Counted)
-    if not {"since", "upto"} <= fields.keys():
-        raise Unreadable("fields are missing")
-    numbers = {name: whole_of(it) for name, it in fields.items() if name != "gap"}
-    if (gap := fields.get("gap")) is not None:
-        gap = tuple(whole_of(it) for it in json_texts.list_of(gap))
-        if len(gap) != 2:
-            raise Unreadable("a gap has two positions")
-    return Counted(**numbers, gap=gap)
-
-
-def check_names(fields: dict[str, Any], kind: type) -> None:
-    if more := fields.keys() - {it.name for it in dataclasses.fields(kind)}:
-        raise Unreadable(f"what is {min(more)}")
+    said = parsed(b"{" + found[3])
+    line: Line = READ.read(said)
+    if line.known.phase not in PHASES or said["known"].keys() != vars(line.known).keys():
+        raise Unreadable("of another program")
+    return dataclasses.replace(line, at=at)
 
 
 def read_file(file: int, path: str) -> Line:

@@ -26,13 +26,13 @@ from pgsub_feed.relation import Relation
 from pgsub_feed.tables.indexes import Indexes, primary_key
 from pgsub_feed.tables.names import OLD, POSITION, TABLES, name_tables, names_of
 from pgsub_feed.tables.schema import RELATIONS, SCHEMA, definition
-from pgsub_feed.tables.sqlite_files import EXPORT as APPLICATION, check_sqlite, is_export
+from pgsub_feed.tables.sqlite_files import EXPORT as APPLICATION, check_sqlite, failed, is_export
 from pgsub_feed.tables.target import Target, key_index, unlike_reason
 from pgsub_feed.tables.values import BOTH, Malformed, Unlike, Value
 from pgsub_feed.texts import counted, identifier, lsn_text
 
 from ..drift.remembered import Remembered
-from .at_rest import at_rest, failed
+from .at_rest import at_rest
 from .file import check_store, choose, opened, read_position, read_relations
 from .placing import check_into
 

@@ -21,7 +21,7 @@ class Skipping:
     """The commit that is to be skipped, if any. `is_pending`: it is still to come."""
 
     def __init__(self, lsn: int, common: Common) -> None:
-        self.lsn, checkpoint = lsn, common.checkpoint
+        self.lsn = lsn
         _, _, self.checkpoint, self.progress, self.remembered = common
         self.is_pending = self.is_told = False
         # the Begin of the commit that is skipped, while it comes; whether any other transaction is

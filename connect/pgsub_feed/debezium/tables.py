@@ -2,7 +2,7 @@
 schemas of these."""
 
 import functools
-from collections.abc import Iterable, Sequence
+from collections.abc import Sequence
 from typing import Any
 
 from .. import log

@@ -182,13 +182,12 @@ def told(place: Place) -> set[int]:
     wrong."""
     remembered = remembered_of(place.store)
     found: set[int] = set()
-    for _, texts, _ in remembered["found"].values():
-        for about in texts.values():
-            found.update(about.get("tables", ()))
-            for it in remembered["tables"]:
-                if about.get("publication") in it["parts"] or about.get("type_oid") in [
-                    column[1] for column in it["columns"]
-                ]:
+    for of_kind in remembered["found"].values():
+        for tables, publication, type_oid, *_ in of_kind["texts"].values():
+            found.update(tables)
+            for it in remembered["catalog"]["tables"].values():
+                types = [column[1] for column in it["shape"]["columns"]]
+                if publication in it["parts"] or type_oid in types:
                     found.add(it["oid"])
     return found
 

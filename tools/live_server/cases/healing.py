@@ -53,13 +53,13 @@ def touch(place: Place) -> None:
 
 
 def is_healed(place: Place) -> bool:
-    return not place.found() and not remembered_of(place.store).get("wanted")
+    return not place.found() and not remembered_of(place.store)["outstanding"]["wanted"]
 
 
 def left(place: Place) -> str:
     """What is found of tables, or still to be done about them."""
     remembered = remembered_of(place.store)
-    return f"{remembered['found']} {remembered.get('wanted')}"
+    return f"{remembered['found']} {remembered['outstanding']['wanted']}"
 
 
 def healed(place: Place, child: Child) -> None:

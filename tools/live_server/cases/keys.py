@@ -131,7 +131,7 @@ def kept(place: Place) -> None:
 def known(place: Place) -> list[str]:
     """The names of the tables that the follower has seen on the server."""
     with open(place.beside(".tables"), encoding="utf-8") as file:
-        return [it["name"] for it in json.loads(file.readline())["tables"]]
+        return [it["name"] for it in json.loads(file.readline())["catalog"]["tables"].values()]
 
 
 def back(place: Place, lsn: str) -> None:

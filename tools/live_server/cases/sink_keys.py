@@ -126,7 +126,8 @@ def hashes(place: Place) -> None:
 
 def is_known(place: Place, table: str, primary: List[str]) -> bool:
     """Whether the follower has seen this primary key."""
-    found = [it["primary"] for it in remembered_of(place.store)["tables"] if it["name"] == table]
+    tables = remembered_of(place.store)["catalog"]["tables"].values()
+    found = [it["primary"] for it in tables if it["name"] == table]
     return found == [primary]
 
 

@@ -1,7 +1,6 @@
 """Options on the server, the slot and the store that follows it, and what they leave out."""
 
 import dataclasses
-import os
 from collections.abc import Iterable, Sequence
 from typing import TypeVar
 
