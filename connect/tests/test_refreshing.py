@@ -276,7 +276,7 @@ class Mended(Case):
         for oid, left, kinds in ((1, [2], []), (2, [], ["publication", "values"])):
             self.assertEqual(remembered.added(oid, remembered.found_of(oid)), kinds)
             self.assertEqual([it.oid for it in compared(remembered, now)], left)
-            remembered.restore(remembered.written())
+            remembered.restore(remembered.kept())
         self.assertEqual((remembered.found, remembered.found.mended), ({}, {}))
 
     def test_what_is_found_again_is_to_be_mended_again(self) -> None:

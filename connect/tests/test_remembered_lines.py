@@ -14,6 +14,7 @@ from unittest import mock
 
 from pgsub_connect.drift import remembered_lines as module
 from pgsub_connect.drift.remembered import Remembered
+from pgsub_connect.drift.remembered_lines import KEPT
 from pgsub_feed.errors import FileError, Passing
 from pgsub_feed.files import replace_file
 from pgsub_feed.relation import Relation
@@ -46,7 +47,7 @@ class Case(unittest.TestCase):
             return file.read().split(b"\n")[:-1]
 
     def state(self, it: Remembered) -> dict[str, object]:
-        written = it.written()
+        written = KEPT.written(it.kept())
         return json.loads(json.dumps(written))  # type: ignore[no-any-return]
 
 

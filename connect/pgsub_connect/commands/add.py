@@ -22,11 +22,10 @@ from pgsub_feed.texts import counted
 from ..copy.source import chosen
 from ..drift.remembered import Remembered
 from ..errors import ServerError
-from ..server.catalog import Table
 from ..server.connection import Connection
 from ..server.publication_setup import names_of
 from ..server.publications import published_tables
-from ..server.session import Subscription, settle
+from ..server.session import settle
 from ..store.at_rest import check_there, follower_of, is_followed
 from ..store.checkpoint import locked, read_known
 from .arguments.server import StoreOptions, settled_store
@@ -63,17 +62,12 @@ def settled(options: Options) -> Options:
 def run(options: Options, check: Check) -> int:
     check_there(options.store)
     slot = read_known(options.store + ".connector").slot or options.slot
-    published = read_published(dataclasses.replace(options.subscription(), slot=slot), check)
+    name = f"{slot} tables"
+    with contextlib.closing(Connection(options.dsn, name=name, check=check)) as connection:
+        settle(connection)
+        published = published_tables(connection, options.publication)
     tables = {it.oid: it.text() for it in chosen(published, list(options.table))}
     return add(options.store, options.mode, tables, check)
-
-
-def read_published(subscription: Subscription, check: Check) -> list[Table]:
-    """The tables that the publications have now."""
-    name = f"{subscription.slot} tables"
-    with contextlib.closing(Connection(subscription.dsn, name=name, check=check)) as connection:
-        settle(connection)
-        return published_tables(connection, subscription.publications)
 
 
 def add(

@@ -141,7 +141,9 @@ def settled(options: Options) -> Options:
 def run(options: Options, check: Check) -> int:
     check_start(options)
     before = own_files(options.store)
-    checkpoint = checkpoint_of(options, check)
+    checkpoint = Checkpoint(options.store, check)
+    # (from here on a session is judged by what it says of the earlier ones)
+    transport.OWN.begin(checkpoint.known.encrypted, options.accept)
     others = options.feed, options.tables, options.record
     with leaving_nothing(checkpoint, before, others):
         return follow_locked(options, checkpoint, check)
@@ -259,25 +261,13 @@ def made(options: Options, checkpoint: Checkpoint) -> Parts:
     begin_watching(options, common, child)
     told = subscription, checkpoint, child, progress, remembered
     copier = Copier(options.copy_settings(), *told, feeding.rows_beside())
-    recording, requests = recording_of(options), RequestSocket(store, mode)
+    recorded = options.record and Recording(options.record, True, options.bytes, mode)
+    recording, requests = Aside(recorded) if recorded else None, RequestSocket(store, mode)
     snapshots = Snapshots(store, requests, options.snapshot, options.snapshot_every, mode)
     settings, report = options.follow_settings(), options.report_settings()
     follower = Follower(settings, common, child, recording, snapshots, feeding)
     threads = Asker(subscription, report.is_asked_for, progress), Reporter(report, progress)
     return Parts(common, feeding, recording, child, requests, snapshots, copier, follower, threads)
-
-
-def checkpoint_of(options: Options, check: Check) -> Checkpoint:
-    """Opens and locks it. From here on a session is judged by what it says of the earlier ones."""
-    checkpoint = Checkpoint(options.store, check)
-    transport.OWN.begin(checkpoint.known.encrypted, options.accept)
-    return checkpoint
-
-
-def recording_of(options: Options) -> Aside | None:
-    if not options.record:
-        return None
-    return Aside(Recording(options.record, True, options.bytes, options.mode))
 
 
 def make_filter(options: Options, checkpoint: Checkpoint) -> Filter:

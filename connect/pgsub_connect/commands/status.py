@@ -112,11 +112,6 @@ def read(path: str) -> dict[str, Any]:
     return status
 
 
-def age_of(status: dict[str, Any], now: float) -> float:
-    """How many seconds ago the main loop was alive."""
-    return max(now - calendar.timegm(time.strptime(status["heartbeat"], "%Y-%m-%dT%H:%M:%SZ")), 0.0)
-
-
 Text = Callable[[dict[str, Any], float, list[Fault]], Iterator[str]]
 
 
@@ -131,7 +126,9 @@ def look(path: str, options: Options, text: Text) -> tuple[int, list[str]]:
     """Looks at one follower: the exit status, and what is told."""
     try:
         status = read(path)
-        age = age_of(status, time.time())
+        # (when the main loop was alive)
+        alive = calendar.timegm(time.strptime(status["heartbeat"], "%Y-%m-%dT%H:%M:%SZ"))
+        age = max(time.time() - alive, 0.0)
         wrong = faults(status, age, options.max_age, options.max_lag)
         if age > UNREPLACED and status["state"] not in ENDED and room_of(path) < NONE:
             cure = "make room there: the follower goes on by itself, and then tells more"

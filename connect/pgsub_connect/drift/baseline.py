@@ -240,7 +240,7 @@ class Baseline:
     def kept(self) -> Kept:
         """What a file is to have of it."""
         begun = FORMAT, self.made, self.feed, self.has_base, self.database, self.catalog
-        found = self.found, self.found.mended, self.found.told
+        found = dict(self.found), self.found.mended, self.found.told
         return Kept(*begun, self.sent, self.names.rows(), *found, self.outstanding, self.left)
 
 

@@ -233,19 +233,6 @@ class Connection:
             return bool(self.raw.ssl_in_use)
         return is_by_gssapi(self.raw) is not False
 
-    def used_password(self) -> bool:
-        return bool(self.raw.used_password)
-
-    def copied_rows(self, command: str) -> Iterator[bytes]:
-        """Yields the lines of a COPY TO STDOUT, as they come."""
-        self.execute(command, COPY_OUT)
-        while (line := self.next_payload()) is not None:
-            if line:
-                yield line
-            else:
-                self.wait()
-        self.last_result()
-
     def copied_blocks(self, command: str, size: int) -> Iterator[list[bytes]]:
         """Yields the lines of a COPY TO STDOUT in blocks of about so many bytes, and the last ones
         in a smaller block."""

@@ -29,20 +29,16 @@ def identities(*paths: str) -> set[Identity]:
     return found
 
 
-def is_of_store(store: str, path: str) -> bool:
-    """Whether a path is one of a store's own files: the connector's are beside the name that it was
-    given, the program's beside what that links to."""
-    names = (name + it for name in (store, os.path.realpath(store)) for it in OF_STORE)
-    return not identities(path).isdisjoint(identities(*names))
-
-
 def check_apart(
     store: str, written: Sequence[tuple[str, str]], read: Sequence[tuple[str, str]]
 ) -> None:
     """Rejects files to write that are a store's own, or that are named for something else too. Each
     is an option with its path."""
+    # (the connector's are beside the name that it was given, the program's beside what that links to)
+    names = (store, os.path.realpath(store)) if store else ()
+    own = identities(*(name + it for name in names for it in OF_STORE))
     for at, (option, path) in enumerate(written):
-        if store and is_of_store(store, path):
+        if not own.isdisjoint(identities(path)):
             raise UsageError(f"{option} {path}: that is a file of the store itself")
         files = identities(*(path + it for it in OF_FILE))
         for other, its in (*written[at + 1 :], *read):
