@@ -108,8 +108,7 @@ class Library:
         self.calls.pgsub_close(handle)
 
     def decode(self, payload: bytes, in_block: bool = False) -> str:
-        """The line of a payload of CopyData, without its line feed. `in_block`: between Stream
-        Start and Stream Stop."""
+        """The line of a CopyData's payload. `in_block`: between Stream Start and Stream Stop."""
         decode = partial(self._decode, payload, len(payload), in_block)
         number, room = with_room(lambda room: int(decode(*room.words())))
         if number:
@@ -196,8 +195,7 @@ class Subscriber:
 
 
 def with_room(call: Callable[[Room], int], size: int = 1 << 12) -> tuple[int, Room]:
-    """Calls with room, and once more where it was too small. Returns the number, and the room with
-    what was written."""
+    """Calls with room, and again where that was too small; the number, and what was written."""
     room = Room(size)
     number = call(room)
     if number == ROOM:

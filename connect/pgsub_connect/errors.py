@@ -77,8 +77,7 @@ class Unconnected(ServerError):
 
 
 class WrongAnswer(ServerError):
-    """The server answered what no PostgreSQL server does, or more than is read: another try ends in
-    the same way."""
+    """The server answered what no PostgreSQL server does, or too much, as it will again."""
 
     def is_lasting(self) -> bool:
         return True

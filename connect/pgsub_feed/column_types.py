@@ -107,8 +107,7 @@ class KnownTypes:
         self.newest.clear()
 
     def exact(self, relation: Relation, lsn: int) -> TableTypes | None:
-        """What was known last at an LSN of a table with just these columns, or first after it; None
-        where nothing is."""
+        """What was known last at an LSN of a table with these columns, or first after it."""
         known = self.newest.get(relation.oid)
         if known and known[0] is relation and known[1] <= lsn:
             return known[2]
@@ -120,8 +119,7 @@ class KnownTypes:
         return found
 
     def nearest(self, relation: Relation, lsn: int) -> TableTypes | None:
-        """The same where it had these columns and more: as where the catalog is newer, or a
-        publication has fewer."""
+        """The same of these columns and more: the catalog may be newer, a publication smaller."""
         columns = known_of(relation)
         return at([it for it in self.entries.get(relation.oid, ()) if it.known >= columns], lsn)
 
@@ -142,8 +140,7 @@ def at(entries: list[Entry], lsn: int) -> TableTypes | None:
 
 
 def reached(commit: Commit) -> int:
-    """The LSN by which the tables of a commit are described; of rows from before the first one it is
-    theirs."""
+    """The LSN by which a commit's tables are described; of first rows, their own."""
     return (commit.lsn or 0) if commit.base is not None else commit.end
 
 

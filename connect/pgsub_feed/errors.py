@@ -1,5 +1,4 @@
-"""Why a program that reads a feed ends, or tries again, and what is wrong with a feed that can't
-be read."""
+"""Why a program that reads a feed ends, or tries again, and what a feed is rejected for."""
 
 
 # Exit statuses.

@@ -138,8 +138,7 @@ class KnownTables:
 
 
 def known_beside(feed: str, store: str = "") -> KnownTables | None:
-    """Those that a store knows, where none is named the one whose feed is in this folder; None
-    where there is none."""
+    """Those of a store, by default of the one whose feed is here; None where there is none."""
     store = store or store_at(os.path.abspath(feed))
     return KnownTables(store, feed) if store else None
 

@@ -136,8 +136,7 @@ STATUS = re.compile(r"(\d(?: to \d)?) (.*)")
 
 
 def paragraph(text: str, width: int) -> str:
-    """A paragraph so wide. One with lines that are indented stays as it is; of exit statuses each
-    gets a line."""
+    """A paragraph so wide, where no line is indented; each exit status gets a line."""
     if any(it.startswith(" ") for it in text.splitlines()):
         return text.strip("\n")
     words, what = text.split(), f"{ENDS}: "

@@ -94,8 +94,7 @@ from ..server.catalog import Table
 from ..store.checkpoint import Checkpoint
 from ..stream.messages import BEGIN, CHANGES, COMMIT, RELATION, START, TRUNCATE, final_lsn
 
-# What CopyData and XLogData add to a message, and what the filter adds where it buffers one, in
-# bytes.
+# What CopyData and XLogData, and the filter that buffers it, add to a message, in bytes.
 AROUND, BUFFERED = 30, 8
 
 

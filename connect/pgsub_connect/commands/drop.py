@@ -1,5 +1,4 @@
-"""`pgsub-connect drop`: takes away a follower that isn't wanted any more: its slot, its
-publications and its files."""
+"""`pgsub-connect drop`: takes away a follower: its slot, its publications and its files."""
 
 from __future__ import annotations
 

@@ -1,5 +1,4 @@
-"""`pgsub-connect follow`: carries the change stream of a slot to `pgsub follow`, and its statuses back.
-"""
+"""`pgsub-connect follow`: carries a slot's changes to `pgsub follow`, and its statuses back."""
 
 from __future__ import annotations
 

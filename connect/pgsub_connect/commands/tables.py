@@ -1,5 +1,4 @@
-"""`pgsub-connect tables`: ordinary tables of SQLite that follow a feed, with the LSN in the same
-transaction."""
+"""`pgsub-connect tables`: tables of SQLite that follow a feed, each commit with its LSN."""
 
 import argparse
 import dataclasses

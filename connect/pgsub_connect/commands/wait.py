@@ -37,8 +37,7 @@ too long, or was interrupted
 """
 # How often file and feed are looked at, in seconds.
 LOOK = 0.02
-# The same of a file that isn't there, and for how many seconds it is while nothing tells that a
-# follower is to make it.
+# The same of a file that isn't there, which a follower is to be known for after so long.
 SLEEP, STARTING = 0.1, 3.0
 
 

@@ -275,8 +275,7 @@ class Copier(Worker):
         log.info(f"copied {counted(self.progress.copy.rows, 'row')}")
 
     def make_lasting(self, temporary: str, point: int) -> None:
-        """Makes the lasting slot. The publications stay from here on, unless it is certain that the
-        slot wasn't made."""
+        """Makes the lasting slot. The publications stay then, unless it certainly wasn't made."""
         self.checkpoint.write(True, phase=SLOT, confirmed=point, position=point)
         try:
             self.slot.make_lasting(temporary)

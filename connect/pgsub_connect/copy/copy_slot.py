@@ -23,8 +23,7 @@ from ..server.waits import Waiting
 from .slots import create_temporary
 from .table_reader import take_snapshot
 
-# How often it is looked whether the slot is lost, and how long it may take to drop one of which no
-# copy comes, in seconds.
+# How often it is looked whether the slot is lost, and how long a drop of it may take, in seconds.
 LOOK, LIMIT = 60.0, 10.0
 # A slot that is idle may end sooner than any pause of the copy, below so many seconds.
 SHORTEST = 10.0
@@ -135,8 +134,7 @@ class CopySlot:
                 )
 
     def drop(self, position: int) -> bool:
-        """Drops the lasting slot, of which no copy comes, by a connection of its own. Returns
-        whether it is gone."""
+        """Drops the lasting slot by a connection of its own. Returns whether it is gone."""
         until, slot = time.monotonic() + LIMIT, self.subscription.slot
         log.info(f"dropping the slot {slot} again, which may take {LIMIT:.0f} seconds")
 
@@ -169,8 +167,7 @@ def is_left_open(error: ServerError) -> bool:
 
 
 def look_for(limit: float | None) -> float:
-    """How often the slot is looked at, which the server ends where nobody uses it for so many
-    seconds."""
+    """How often a slot is looked at that the server ends where nobody uses it for so long."""
     if limit is None:
         return LOOK
     if limit < SHORTEST:

@@ -71,8 +71,7 @@ class Interrupted:
         return missing
 
     def whole(self) -> set[int]:
-        """The tables of which it has stored all rows that it has read. (It has stored them in their
-        order.)"""
+        """The tables of which it has stored, in their order, all rows that it has read."""
         stored = counted_rows(self.files.store, self.slot.check)
         return {oid for oid, rows in self.remembered.copied.items() if stored[oid] == rows}
 
@@ -100,8 +99,7 @@ class Interrupted:
 
 
 def counted_rows(path: str, check: Check) -> collections.Counter[int]:
-    """How many rows of each table, by OID, a store has at rest: nobody has the file open, and its log
-    is empty."""
+    """How many rows of each table, by OID, a store at rest has, whose log is empty."""
     found, held = collections.Counter[int](), hold(path)
     try:
         if not is_store(path):

@@ -25,8 +25,7 @@ def frame(lsn: int, body: bytes) -> bytes:
 
 
 def begin(lsn: int, xid: int | None = None, clock: int = 0) -> bytes:
-    """A Begin; its xid is made of the LSN where none is given. `clock`: when, in microseconds since
-    2000."""
+    """A Begin; its xid is made of the LSN where none is given. `clock`: microseconds since 2000."""
     return struct.pack(">cQqI", b"B", lsn, clock, lsn & 0x7FFFFFFF if xid is None else xid)
 
 

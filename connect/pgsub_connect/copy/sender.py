@@ -58,16 +58,14 @@ class Sender:
                 raise
 
     def bring(self, position: int, point: int) -> None:
-        """Brings a store that a load has left to the slot's consistent point, and ends the
-        filter."""
+        """Brings what a load has left to the slot's consistent point, and ends the filter."""
         lsn = max(position, 1)
         self.filter.push(frame(lsn, begin(lsn)) + frame(lsn, commit(lsn, point)))
         self.wait_for(lambda: self.filter.confirmed() == point)
         self.finish()
 
     def wait_for(self, condition: Callable[[], bool], *reads: int) -> None:
-        """Serves the filter until something holds. `reads`: what tells by something to read that it
-        may."""
+        """Serves the filter until something holds. `reads`: what can be read once it may."""
         while True:
             self.slot.check()
             waits = not condition()

@@ -19,8 +19,7 @@ from ..server.waits import Waiting
 
 
 def create_temporary(replication: Connection, name: str) -> tuple[str, int, str]:
-    """Makes a temporary slot with a name that begins so; its name, its consistent point and its
-    snapshot."""
+    """Makes a temporary slot, named so and more; its name, consistent point and snapshot."""
     temporary = f"{name}_{secrets.token_hex(4)}"
     settle_for_slot(replication)
     command = f"CREATE_REPLICATION_SLOT {identifier(temporary)} TEMPORARY LOGICAL pgoutput EXPORT_SNAPSHOT"
@@ -30,8 +29,7 @@ def create_temporary(replication: Connection, name: str) -> tuple[str, int, str]
 
 
 def set_failover(replication: Connection, slot: str, wanted: bool) -> None:
-    """Makes a slot one that standbys get too. The copy of a slot isn't, whatever the slot was that
-    it was copied from."""
+    """Makes a slot one that standbys get too, as the copy of one never is."""
     if not wanted:
         return
     is_failover = replication.value(
@@ -106,14 +104,12 @@ def create_slot(
 
 
 def has_slot(connection: Connection, subscription: Subscription, failover: bool) -> bool:
-    """Whether the slot is there. Raises where it can't be made, or can't have publications that
-    aren't there."""
+    """Whether the slot is there. Raises where it can't be made, or lacks publications."""
     if slot_position(connection, subscription.slot) is None:
         require(connection, subscription.slot, False, failover)
         return False
     if missing := [it for it in subscription.publications if not has_publication(connection, it)]:
-        # (its log is read with the catalog of its time, so the server would say that the
-        # publication isn't there)
+        # (its log is read by the catalog of its time, which hasn't the publication)
         raise Unfit(
             f"the slot {subscription.slot} is older than the publication {missing[0]}, which isn't there: drop the slot"
         )

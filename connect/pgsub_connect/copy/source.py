@@ -32,8 +32,7 @@ PATIENCE, LOOK = 60.0, 0.1
 
 
 class Source:
-    """The server: its published tables, and a transaction that sees them as they were at the LSN of
-    a slot."""
+    """The server: its published tables, and a transaction that sees them as of a slot's LSN."""
 
     def __init__(
         self,
@@ -47,8 +46,7 @@ class Source:
         self.check, self.purpose = check, purpose
         # how long tables may be locked by others, in seconds
         self.patience = PATIENCE
-        # what is closed at the end, and what is once the snapshot is taken: the slot goes with its
-        # connection
+        # what is closed at the end, and the slot's connection, once the snapshot is taken
         self.closing, self.slot = contextlib.ExitStack(), contextlib.ExitStack()
         try:
             self.replication = self.connect(self.slot, replication=True)

@@ -204,8 +204,7 @@ class Reading:
 
 
 class Readers:
-    """The connections, from `begin` to `close`. `looker`: sees what is there now; `beside`: gets
-    all rows, too."""
+    """The connections. `looker`: sees what is there now; `beside`: gets all rows, too."""
 
     def __init__(
         self, subscription: Subscription, reading: Reading, looker: Connection, beside: RowsBeside
@@ -215,8 +214,7 @@ class Readers:
         self.left = list(reading.tables)
         # the large table that is read now
         self.large: Table | None = None
-        # by the OID of a table: when it was tried last, and since when it is known to be locked by
-        # somebody else
+        # by the OID of a table: when it was tried last, and since when others have it locked
         self.tried: dict[int, float] = {}
         self.locked: dict[int, float] = {}
         self.threads = [
@@ -320,8 +318,7 @@ class Readers:
         return None if is_same else "it was altered or truncated while the slot was made"
 
     def is_same(self, connection: Connection, table: Table) -> bool:
-        """Whether a table that is locked has the files, the name and the columns that it had before
-        the snapshot."""
+        """Whether a locked table has the files, name and columns of before the snapshot."""
         files = stored_in(connection, [table])
         with self.looking:
             named = are_so_named(self.looker, [table])

@@ -62,8 +62,7 @@ class CopiedTables:
         return sorted(self.still_published(tables, now), key=lambda it: -sizes.get(it.oid, 0))
 
     def still_published(self, tables: list[Table], now: list[Table]) -> list[Table]:
-        """The tables without those that left while the slot was made, of which nobody would tell
-        that their rows stay."""
+        """The tables that didn't leave while the slot was made, which nobody would tell of."""
         there = {it.oid for it in now}
         for it in tables:
             if it.oid not in there:
@@ -72,8 +71,7 @@ class CopiedTables:
         return [it for it in tables if it.oid in there]
 
     def name_new(self, tables: list[Table], point: int) -> None:
-        """Notes the names of tables that aren't remembered, so that what is told of them goes once
-        they are added."""
+        """Notes names of tables that aren't remembered: what is told of them goes with the rows."""
         for it in tables:
             self.remembered.name_new(it.namespace, it.name, it.oid, point)
 

@@ -25,8 +25,7 @@ def listed(tables: list[Table]) -> str:
 
 @understood("the files of tables")
 def moved(plain: Connection, tables: list[Table]) -> set[int]:
-    """Those of which a file is another one than in the transaction's snapshot, or that have other
-    partitions."""
+    """Those with another file, or other partitions, than the transaction's snapshot has."""
     if not tables:
         return set()
     oids = listed(tables)

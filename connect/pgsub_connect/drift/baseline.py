@@ -1,5 +1,4 @@
-"""What a server is compared with: what is remembered of the publications that are followed, and what
-was found by it."""
+"""What a server is compared with: what is remembered of its publications, and was found."""
 
 import dataclasses
 
@@ -97,8 +96,7 @@ class Baseline:
         self.begin(dataclasses.replace(catalog, lsn=point), point)
 
     def begin(self, catalog: Catalog, copied: int | None = None) -> None:
-        """Remembers what a server has, and nothing else. `copied`: as of which LSN all rows of it
-        are in the store."""
+        """Remembers what a server has alone. `copied`: as of which LSN the store has all rows."""
         made, feed, has_base = self.made, self.feed, self.has_base
         self.forget()
         self.catalog, self.made, self.feed, self.has_base = catalog, made, feed, has_base

@@ -260,8 +260,7 @@ def sent_differences(old: Table, new: Table, before: Catalog, now: Catalog) -> I
         yield Difference(PUBLICATION, text, about)
 
 
-# By action and row filter, None for all rows: the parts of publications by which these rows of a
-# table are sent.
+# By action and row filter, None for all rows: the parts of publications that send these rows.
 Ways = dict[str, dict[str | None, dict[str, Part]]]
 
 

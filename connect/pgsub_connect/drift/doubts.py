@@ -154,8 +154,7 @@ NAMES = (24, 2202, 2203, 2204, 2205, 2206, 3734, 3769, 4089, 4096, 4191)
 
 
 def warnings(connection: Connection, now: Catalog, made: dict[str, int]) -> Iterator[str]:
-    """All of it. `made`: the publications that were made for this store, whose options are those
-    that were wanted."""
+    """All of it. `made`: the publications that were made for this store, as it wants them."""
     for name, publication in now.publications.items():
         missing = [f"{word}s" for word in ACTIONS if word not in publication.actions]
         if missing and name not in made:

@@ -14,16 +14,14 @@ from pgsub_feed.texts import lsn_text, shortened
 from ..server.catalog import Catalog, types_having
 
 NAMES, PUBLICATION, VALUES = "names", "publication", "values"
-# The server broke a rule of a well-formed one; it sent other commits than before; it wasn't watched
-# all the time.
+# The server broke a rule, sent other commits than before, or wasn't watched all the time.
 RULE, REPEAT, UNWATCHED = "rule", "repeat", "unwatched"
 # How many texts of one kind are kept, but for the first one of each table.
 MOST = 100
 
 
 class About(NamedTuple):
-    """What a text is about: tables, or those of a publication, or those that have a column of a
-    type."""
+    """What a text is about: tables, those of a publication, or those with a column of a type."""
 
     tables: tuple[Oid, ...] = ()
     publication: str = ""
@@ -62,8 +60,7 @@ class Found:
         self.tables = {oid for it in self.texts.values() for oid in it.tables}
 
     def add(self, text: str, about: About) -> None:
-        """Notes a text. Of a table that has one already, another one may not be kept: the log has
-        it."""
+        """Notes a text, or leaves it to the log where its table has many already."""
         if len(self.texts) < MOST or not self.tables.issuperset(about.tables):
             self.texts[text] = about
             self.tables.update(about.tables)
@@ -115,8 +112,7 @@ class Findings(dict[str, Found]):
         return news
 
     def forget_told(self, position: int) -> None:
-        """Forgets which texts a Relation message may give again, once those messages are in the
-        store."""
+        """Forgets what a Relation message may tell again, once the store has those messages."""
         self.told = {text: lsn for text, lsn in self.told.items() if lsn > position}
 
     def accept(self, kinds: list[str]) -> None:
@@ -140,8 +136,7 @@ class Findings(dict[str, Found]):
         return next((it.texts[text] for it in self.values() if text in it.texts), NOTHING)
 
     def of(self, oid: int, catalog: Catalog | None) -> list[str]:
-        """What was found of the rows of a table. That two tables have had one name stays so,
-        whatever rows they have."""
+        """What was found of a table's rows. Names stay shared, whatever rows there are."""
         texts = [text for kind, found in self.items() if kind != NAMES for text in found.texts]
         several = ((it, tables_of_several(self.about(it), catalog)) for it in texts)
         return [it for it, tables in several if oid in (tables or self.about(it).tables)]
@@ -168,8 +163,7 @@ class Findings(dict[str, Found]):
 
 
 def lasts(about: About, catalog: Catalog | None) -> bool:
-    """Whether changes of a kind aren't sent, as a text says: then the rows of its tables are right
-    only for now."""
+    """Whether changes of a kind aren't sent, so that rows are right only for now."""
     if catalog is None or not about.lacks:
         return False
     tables = (catalog.tables[oid] for oid in about.tables if oid in catalog.tables)
@@ -179,8 +173,7 @@ def lasts(about: About, catalog: Catalog | None) -> bool:
 
 
 def tables_of(about: About, catalog: Catalog | None) -> list[int]:
-    """The published tables that a text is about, itself or by their publication or a column's
-    type."""
+    """The published tables that a text is about, also by a publication or a column's type."""
     others = tables_of_several(about, catalog)
     if others is not None:
         return others

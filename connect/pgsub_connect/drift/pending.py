@@ -64,8 +64,7 @@ class Unsaved:
 
     @contextlib.contextmanager
     def noting(self, relation: Relation, lsn: int) -> Iterator[None]:
-        """Around what takes a Relation message into account. (Whatever it changes, it changes again
-        where it is read.)"""
+        """Around what takes a Relation message into account, as whoever reads it does again."""
         is_other = self.is_other
         yield
         self.is_other = is_other

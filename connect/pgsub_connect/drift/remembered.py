@@ -90,8 +90,7 @@ class Remembered(Baseline):
         return gone
 
     def are_right(self, oid: int, texts: Iterable[str]) -> list[str]:
-        """Notes durably that a table's rows are right as to what was found of it. Returns the kinds
-        that go by that."""
+        """Notes durably that a table's rows are right. Returns the kinds that go by that."""
         texts = [it for it in texts if self.found.is_mended(it, oid, self.catalog)]
         gone = self.found.drop(texts)
         self.save()

@@ -54,8 +54,7 @@ class Tries:
 
 
 class Altered:
-    """What is done about them. `most`: of how many bytes a table may be that is copied unasked,
-    None where none is."""
+    """What is done about them. `most`: how many bytes are copied unasked, None where none are."""
 
     def __init__(
         self, most: int | None, store: str, remembered: Remembered, server: ServerState

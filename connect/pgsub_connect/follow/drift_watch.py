@@ -47,8 +47,7 @@ class Watch:
         # when the publications were looked at last
         self.looked = time.monotonic()
         self.is_told = self.is_hindered = False
-        # whether the progress has all that was found, and when it may be told again: that takes
-        # longer, the more there is
+        # whether the progress has all that was found, and when it may be told again, as is seldom
         self.is_shown, self.next_show = True, 0.0
 
     def begin(self) -> None:

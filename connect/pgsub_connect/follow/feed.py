@@ -301,8 +301,7 @@ class Feeding:
             raise Unread(f"{names} follows no more, as told above", ended[0].lasting)
 
     def text_of(self, said: str) -> str:
-        """What to do where the filter has ended with these words; "" where they aren't about a feed
-        that doesn't fit."""
+        """What to do where the filter says that the feed doesn't fit; "" of other words."""
         if not self.folder or said != NOT_A_FEED:
             return ""
         try:

@@ -101,8 +101,7 @@ class Keeper(threading.Thread):
             self.attempt(self.tell_types, reached)
 
     def attempt(self, step: Callable[[Reached], None], reached: Reached) -> None:
-        """Does one of these. What can't be done is told, once for each cause, and is tried again;
-        the others are done."""
+        """Does one of these. What can't be done is told once for each cause, and tried again."""
         try:
             step(reached)
             self.causes.pop(step.__name__, None)

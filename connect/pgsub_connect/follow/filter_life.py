@@ -1,5 +1,4 @@
-"""The filter's life: it is started, serves one session after the other, and ends; what its end
-means."""
+"""The filter's life: it is started, serves session after session, and ends; what that means."""
 
 import contextlib
 import itertools
@@ -22,11 +21,9 @@ from .drift_watch import Watch
 from .feed import Feeding
 from .settings import Ending, StreamForm
 
-# How long the filter is waited for, and how long it is slept, before it is looked whether the end
-# was asked for.
+# How long the filter is waited for, and slept, before it is looked for the end, in seconds.
 STEP, SLEEP = 0.5, 0.2
-# After how many seconds each a store that can't be opened is tried again, the last one again and
-# again.
+# After how many seconds each a store that can't be opened is tried again, the last for ever.
 OPENED_AFTER = (1, 2, 4, 8, 15, 30)
 IN_USE = "the store can't be opened now, as where another program has it open"
 
@@ -99,8 +96,7 @@ class FilterLife:
         raise AssertionError
 
     def note_unusable(self, said: str) -> None:
-        """The file in which commits are noted can't be used: it is made anew, and where that can't
-        be none are noted."""
+        """The file of noted commits can't be used: it is made anew, or else none are noted."""
         log.warning(said)
         if self.watch.checkpoint.known.repeats:
             self.watch.checkpoint.forget_repeats()
@@ -130,8 +126,7 @@ class FilterLife:
             self.note_end(ended)
 
     def tend_misses(self) -> None:
-        """Tells what is new of changes that found no row. Raises where the following is to be
-        strict."""
+        """Tells what is new of changes that found no row, which raises where that is strict."""
         self.misses.tell()
         if self.misses.take_new():
             self.watch.show()
@@ -199,8 +194,7 @@ class FilterLife:
 
 
 def check_end(ended: FilterEnded) -> None:
-    """Looks at how a filter has ended that was to end. Raises where the next one would end in the
-    same way."""
+    """Looks at how a filter ended that was to. Raises where the next one would end so, too."""
     if ended.is_rejection():
         raise ended
     if ended.status not in (0, MISSED):

@@ -183,8 +183,7 @@ class Fitting:
         )
 
     def check_slot(self, position: int, check: Check) -> None:
-        """Checks the slot again once it is ours: what somebody confirmed since it was looked at
-        would be passed over."""
+        """Checks the slot again once it is ours: somebody may have confirmed more meanwhile."""
         dsn, slot = self.subscription.dsn, self.subscription.slot
         with closing(Connection(dsn, name=f"{slot} check", check=check)) as connection:
             settle(connection)

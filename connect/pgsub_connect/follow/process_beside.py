@@ -41,8 +41,7 @@ from .retention import read_lsn
 # The statuses that another try doesn't mend; one that was killed by a signal has none above 0. And
 # that of one that can't be started now.
 LASTING, PASSING = (1, 2, 3, 4, 5, 6), 7
-# After how many seconds it is started again, at first and at most, and how long it has to run until
-# that is forgotten.
+# After how many seconds it is started again, at first and at most, and when that is forgotten.
 FIRST_DELAY, LONGEST_DELAY, FORGET = 1.0, 60.0, 60.0
 # How long it may take to end, in seconds: it ends between two transactions.
 PATIENCE = 60.0

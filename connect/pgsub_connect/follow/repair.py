@@ -207,8 +207,7 @@ class Repairing:
         self.watch.show()
 
     def give_up(self, why: str, lasts: bool, delays: bool = False) -> None:
-        """Lets the stream go. `lasts`: another try would end in the same way; `delays`: commits had
-        to wait for it."""
+        """Lets the stream go. `lasts`: so would another try; `delays`: commits had to wait."""
         log.warning(f"no row is repaired: {why}")
         assert self.hold.into
         self.snapshots.reject(why, lasts, delays)

@@ -22,17 +22,14 @@ from pgsub_feed.json_texts import Unreadable
 
 from ..store.socket_file import LONGEST, PIECE, SUFFIX, Lines, account_of, line_of, listening
 
-# How many connections there may be at once, how many of these of other accounts, and how long a
-# line of theirs may be.
+# How many connections there may be, how many of other accounts, and how long their lines are.
 MOST, OTHERS, SHORT = 64, 32, 1 << 13
 # How many connections are accepted at once, before anything else is done, and after how many
 # seconds it is tried again where the system has no room for another one.
 SEVERAL, AGAIN = 16, 1.0
-# How often what has come is taken before anything else is done: a connection, its line and its end
-# may have come together.
+# How often what has come is taken at once: a connection, its line and its end may come together.
 ROUNDS = 4
-# How many lines may have come that weren't taken up yet, and in how many seconds the first one has
-# to come.
+# How many lines may wait to be taken up, and in how many seconds the first has to come.
 UNTAKEN, SILENT = 4, 10.0
 WAIT, KINDS = "wait", ("copy", "hold", "add", "wait")
 

@@ -13,8 +13,7 @@ from .settings import FollowSettings
 
 # After how many seconds a lost session is begun anew, at first and at most.
 FIRST_DELAY, LONGEST_DELAY = 1.0, 60.0
-# How often the server is asked how far it has read its log, where the copy is to be taken at an
-# LSN, in seconds.
+# How often the server is asked how far it is where a copy at an LSN is waited for, in seconds.
 ASK = 0.3
 
 
@@ -32,8 +31,7 @@ class Schedule:
         self.for_statuses, self.for_commits = (Awake(), Awake()) if is_enough else (None, None)
 
     def begin_session(self, sender_timeout: float | None) -> None:
-        """Statuses are repeated often enough for a server that waits for them so long; None where it
-        waits for ever."""
+        """Statuses are repeated in time for a server that waits so long, None where for ever."""
         longest = self.longest_heartbeat
         self.heartbeat = min(longest, sender_timeout / 3) if sender_timeout else longest
 
@@ -51,15 +49,13 @@ class Schedule:
         return time.monotonic() - self.confirming.last_sent >= self.heartbeat
 
     def awake(self) -> Awake | None:
-        """Waits for what the filter says of a commit, or for the next one, where commits at the
-        server wait for that."""
+        """What waits for the filter, or for the next commit, where commits at the server wait."""
         if not self.confirming.progress.server.is_waited_for:
             return None
         return self.for_statuses if self.confirming.noting.ends else self.for_commits
 
     def longest_wait(self, has_more: bool) -> float:
-        """For how many seconds a session waits at most until something comes. `has_more`: something
-        has come already."""
+        """How many seconds a session waits at most. `has_more`: something has come already."""
         confirming = self.confirming
         wait = 0.0 if has_more else self.heartbeat - (time.monotonic() - confirming.last_sent)
         if confirming.held:

@@ -18,8 +18,7 @@ from ..status.progress import Progress
 SHOWN, UNSHOWN = 2.0, 5.0
 # The first version that says of a slot how long it is safe.
 SAFETY = 130000
-# A slot is close to its end where less than a tenth of what it may keep is left, and isn't any more
-# once a fifth is.
+# A slot is close to its end below a tenth of what it may keep, until a fifth is left again.
 CLOSE, FAR = 10, 5
 
 

@@ -103,8 +103,7 @@ class SessionStart:
         noting, form = self.life.noting, self.form
         standbys = connection.text("SHOW synchronous_standby_names")
         self.progress.server.note_name(connection.parameter("application_name"), standbys)
-        # (on another connection: what a session's process has in its caches, it would decode older
-        # changes by)
+        # (on another connection: a session's process would decode older changes by its caches)
         if not self.life.watch.look_again(self.ending.check_stop, self.confirming.position):
             noting.relation_log.note_look(True)
         form.skipping.begin_session(self.filter.confirmed())

@@ -58,8 +58,7 @@ class StreamForm:
 
     def __init__(self, proto: int, skipping: Skipping) -> None:
         self.proto, self.streams, self.skipping = proto, proto >= 2, skipping
-        # whether whole transactions are asked for because of tables that are added, or rows that
-        # are repaired
+        # whether whole transactions are asked for, to add tables or to repair rows
         self.is_whole = False
 
     def is_streaming(self) -> bool:

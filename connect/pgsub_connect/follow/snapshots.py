@@ -1,5 +1,4 @@
-"""Copies of the store for readers: the store itself is open in the filter alone, as long as that
-runs."""
+"""Copies of the store for readers: a filter that runs has the store itself open alone."""
 
 from __future__ import annotations
 
@@ -24,8 +23,7 @@ from ..stream.gate import too_large_to_copy
 from ..stream.hold import LONGEST, Hold
 from .request_socket import Client, RequestSocket
 
-# How long a copy that is being made is waited for until the follower says that it is at work, in
-# seconds.
+# How long a copy in the making is waited for until a sign of life is given, in seconds.
 STEP = 0.5
 
 
@@ -201,8 +199,7 @@ class Snapshots:
             hold.end()
 
     def go(self, point: int) -> None:
-        """Goes on up to an LSN. It has to be above all that was passed on, where it may not be, or
-        rows are repaired."""
+        """Goes on up to an LSN, which has to be above all that was, or may have been, passed on."""
         reached = self.reached() if self.hold.keeps else self.hold.gate or 0
         if point <= reached:
             places = f"its slot is at {lsn_text(point)}, and the stream at {lsn_text(reached)}"

@@ -26,8 +26,7 @@ from .schedule import Schedule
 # How often it is looked at what the system says of the filter, and after how many seconds the
 # server is asked for the slot's state.
 LOOK, NOTED = 0.2, 0.5
-# For how many seconds nothing may be read where the server is about to end the slot, and its
-# states then.
+# For how many seconds nothing may be read where the slot is about to end, and its states then.
 ENDANGERED = 2.0
 IN_DANGER = ("unreserved", "lost")
 # Where a process has used its processor time, of the fields behind its name in /proc/PID/stat.

@@ -31,8 +31,7 @@ class Session:
 
 
 class Recording:
-    """A file to which sessions are added. What would make it longer than allowed is left out, with
-    all that follows."""
+    """A file to which sessions are added, as long as it doesn't get longer than allowed."""
 
     def __init__(
         self, path: str, append: bool, limit: int, mode: int = 0o600, overwrites: bool = False

@@ -1,5 +1,4 @@
-"""Where a connection goes: the settings of a DSN, its hosts and their addresses, as libpq takes
-them."""
+"""Where a connection goes: the settings of a DSN, its hosts and addresses, as libpq has them."""
 
 import contextlib
 import difflib
@@ -21,8 +20,7 @@ CONNECT_LIMIT = 10.0
 # The first libpq that can be told to connect to a primary alone. One whose transactions are
 # read-only by default is one, too.
 PRIMARY = 140000
-# The limits that a DSN can give for a host: libpq knows none below two seconds, and takes 0 for
-# none at all.
+# The limits that a DSN can give for a host: libpq has none below two seconds, and 0 for none.
 LEAST_LIMIT, MOST_LIMIT = 2.0, 3600.0
 # What a DSN goes before. A lost peer is noticed within about a minute.
 DEFAULTS = {
@@ -76,8 +74,7 @@ def hosts_of(settings: dict[str, str]) -> list[dict[str, str]]:
 
 
 def connect_limit(said: str) -> float:
-    """After how many seconds a host is given up, where a DSN or libpq's environment has this as its
-    `connect_timeout`."""
+    """After how many seconds a host is given up, by a DSN's or libpq's `connect_timeout`."""
     text = said or os.environ.get("PGCONNECT_TIMEOUT", "")
     try:
         number = float(text) if text else CONNECT_LIMIT

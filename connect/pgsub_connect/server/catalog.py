@@ -1,5 +1,4 @@
-"""What a server has of the publications that are followed: their options, tables and partitions, at
-one moment."""
+"""What a server has at one moment of the publications that are followed, and their tables."""
 
 import dataclasses
 from collections.abc import Iterable

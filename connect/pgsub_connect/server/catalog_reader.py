@@ -91,16 +91,14 @@ UNTOUCHED = (
 )
 # Whether nothing has written a relation `c` anew, as TRUNCATE, SET LOGGED and others do.
 UNWRITTEN = "COALESCE(pg_catalog.pg_relation_filenode(c.oid) = c.oid, true)"
-# The transactions that have made or altered the columns of a relation `c`. VACUUM FULL, CLUSTER and
-# TRUNCATE alter none.
+# The transactions that made or altered columns of `c`: not VACUUM FULL, CLUSTER or TRUNCATE.
 ALTERED = (
     "(SELECT pg_catalog.string_agg(DISTINCT b.xmin::pg_catalog.text, ' ') FROM pg_catalog.pg_attribute b"
     " WHERE b.attrelid = c.oid AND b.attnum > 0 AND NOT b.attisdropped)"
 )
 
 
-# Whether changes of a relation `c` are in the log: not of a foreign table, nor of one that is
-# unlogged.
+# Whether changes of a relation `c` are in the log: not of a foreign or unlogged table.
 LOGGED = "c.relpersistence = 'p' AND c.relkind <> 'f'"
 
 

@@ -12,8 +12,7 @@ from .libpq import Row
 UNVALIDATED = 180000
 # By the OID of a table and the number of a column.
 ColumnTypes = dict[tuple[int, int], ColumnType]
-# Of each domain its type that is none, with the modifier: that of the innermost domain alone has
-# one.
+# Of each domain its type that is none, and the modifier, which the innermost one alone has.
 DOMAINS = (
     "WITH RECURSIVE d (oid, base, modifier) AS ("
     " SELECT y.oid, y.typbasetype, y.typtypmod FROM pg_catalog.pg_type y WHERE y.typtype = 'd'"

@@ -1,5 +1,4 @@
-"""Connections to a server by libpq (psycopg.pq): its passwords, TLS, ~/.pgpass, services and
-environment."""
+"""Connections to a server by libpq (psycopg.pq): its passwords, TLS, services and environment."""
 
 import contextlib
 import select
@@ -64,8 +63,7 @@ class Connection:
             self.raw, self.protection = login.connect(settings, check)
         except Unconnected as error:
             raise error if dsn else Unconnected(f"{error}\n{NO_DSN}", error.sqlstate) from None
-        # what the server has said of publications whose changes it leaves out, since the caller
-        # looked last
+        # what the server has said of changes that it leaves out, since the caller looked last
         self.left_out: list[str] = []
         self.notices = Notices(self.left_out)
         self.raw.notice_handler = None if quiet else self.notices.hear
@@ -177,8 +175,7 @@ class Connection:
         return last
 
     def unwanted(self, command: str, result: pq.abc.PGresult | None) -> ServerError:
-        """The error of a command with another result than it may have. Where the server names none,
-        that is its fault."""
+        """The error of a result that wasn't wanted: the server's fault where it names none."""
         if result is None or result.error_message or self.raw.error_message:
             return self.error_of(result)
         kind = pq.ExecStatus(result.status).name
@@ -234,8 +231,7 @@ class Connection:
         return is_by_gssapi(self.raw) is not False
 
     def copied_blocks(self, command: str, size: int) -> Iterator[list[bytes]]:
-        """Yields the lines of a COPY TO STDOUT in blocks of about so many bytes, and the last ones
-        in a smaller block."""
+        """Yields the lines of a COPY TO STDOUT in blocks of about so many bytes."""
         self.execute(command, COPY_OUT)
         lines, left, last = list[bytes](), size, 1
         while last >= 0:
@@ -327,8 +323,7 @@ class Connection:
                 self.flush()
 
     def drain(self, seconds: float) -> None:
-        """Drops what still comes of a stream of CopyData whose end was asked for, for so many
-        seconds at most."""
+        """Drops, for so many seconds, what still comes of CopyData whose end was asked for."""
         until = time.monotonic() + seconds
         with contextlib.suppress(psycopg.OperationalError, ServerError):
             while not self.broken and (left := until - time.monotonic()) > 0:

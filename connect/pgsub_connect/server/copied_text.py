@@ -54,8 +54,7 @@ def encoded(column: list[bytes]) -> tuple[list[bytes], list[bytes]]:
 
 
 def put_cells(text: bytes, width: int, parts: list[bytes]) -> None:
-    """Puts the cells of lines into parts, of which each line has one that is free, and behind it
-    two for each cell."""
+    """Puts lines' cells into parts: of each line one is free, and two follow for each cell."""
     texts, step = text[:-1].replace(b"\n", b"\t").split(b"\t"), 2 * width + 1
     if len(texts) * step != width * len(parts):
         raise WrongAnswer(f"the server copied rows of another width than {width} columns")

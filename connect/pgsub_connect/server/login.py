@@ -1,5 +1,4 @@
-"""Connecting: to the first host and address that can be reached, without blocking, and judged by how
-it is protected."""
+"""Connecting to the first host and address that is there, judged by how it is protected."""
 
 import re
 import time
@@ -87,8 +86,7 @@ def together(errors: list[ServerError]) -> ServerError:
 
 
 def connection_error(raw: pq.abc.PGconn, host: str) -> Unconnected:
-    """The error of a connection that wasn't made. A verbose one has the SQLSTATE, which libpq gives
-    in no other way."""
+    """The error of a failed connection. A verbose one alone has the SQLSTATE."""
     said = said_text(raw.error_message)
     found = CODE.search(said)
     text = CODE.sub(":  ", PLACE_IN_SOURCE.sub("", said)) or f"{host}: can't connect"

@@ -1,5 +1,4 @@
-"""Notices and warnings of a server: they are logged, as far as a minute has room for them, and the
-others counted."""
+"""Notices and warnings of a server: logged while a minute has room, and counted else."""
 
 import time
 
@@ -12,8 +11,7 @@ from pgsub_feed.texts import said_text
 MOST, ROOM, MINUTE = 60, 20_000, 60.0
 # Where the server looks up the publications of a session. (Its texts may be in another language.)
 LOADS_PUBLICATIONS = b"LoadPublications"
-# How many texts wait at most for whoever asks what the server leaves out, and what is said in the
-# place of others.
+# How many texts of what the server leaves out wait at most, and what is said in place of others.
 MOST_LEFT_OUT, OTHERS = 1000, "others too"
 
 

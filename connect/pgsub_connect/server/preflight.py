@@ -81,8 +81,7 @@ class Facts:
     relations: int = 0
     prepared: list[str] = dataclasses.field(default_factory=list)
     replication_error: str = ""
-    # whether a connection for replication was let in, and a role of the server's provider whose
-    # members are
+    # whether one for replication was let in, and a provider's role whose members are
     has_replicated: bool = False
     replicators: str = ""
 
@@ -159,8 +158,7 @@ def publication_there(connection: Connection, name: str) -> PublicationFacts:
 
 
 def mixed_roots(connection: Connection, name: str) -> list[str]:
-    """Partitioned tables that are sent as such, with a partition of another kind of identity: its
-    keys don't fit."""
+    """Partitioned tables, sent as such, with a partition whose identity is of another kind."""
     if connection.version() < 130000:
         return []
     rows = connection.rows(

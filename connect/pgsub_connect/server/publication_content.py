@@ -13,8 +13,7 @@ from .replica_identity import tree_of
 
 
 class Listed(NamedTuple):
-    """A table that a publication lists: its name for readers and for SQL, and the latter with
-    columns and row filter."""
+    """A table that a publication lists: named for readers, for SQL, and with all of its listing."""
 
     text: str
     name: str

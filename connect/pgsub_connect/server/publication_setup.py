@@ -63,8 +63,7 @@ def refusal(text: str) -> ServerError:
     return ServerError(text, REFUSED)
 
 
-# What looks at publications before they are there for others, and may raise; and what notes their
-# OIDs then.
+# What looks at publications that aren't there for others yet, and what notes their OIDs then.
 Look = Callable[[Connection, list[str]], None]
 Note = Callable[[dict[str, int]], None]
 

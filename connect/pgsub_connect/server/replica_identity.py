@@ -7,8 +7,7 @@ from ..errors import ServerError, understood
 from .catalog_reader import EXACT, UNIQUE
 from .connection import Connection
 
-# What the server says of a change without a usable identity: it has none, or the publication leaves
-# out a part of it.
+# What the server says of a change without a usable identity, or of one that isn't all published.
 REJECTED = ("55000", "42P10")
 # What says nothing of a table: a lost connection, a deadlock, no resources, a lock that wasn't to
 # be had, the end of the session.

@@ -194,8 +194,7 @@ def waits_for(standbys: str, name: str) -> bool:
     return not names.isdisjoint({"*", name.lower()})
 
 
-# Where the log ends, how far it is on the disk, and how long its files are. Of a standby: how far
-# it is replayed.
+# Where the log ends, or is replayed to, how far the disk has it, and how long its files are.
 END = (
     "CASE WHEN pg_catalog.pg_is_in_recovery() THEN pg_catalog.pg_last_wal_replay_lsn()"
     " ELSE pg_catalog.pg_current_wal_insert_lsn() END,"

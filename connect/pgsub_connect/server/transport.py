@@ -30,8 +30,7 @@ AUTHORITY, NAME, BINDING = "authority", "name", "channel binding"
 OPEN, VERIFIES = ("disable", "allow", "prefer"), ("verify-ca", "verify-full")
 # The sslmode of a connection of which nobody has said one.
 UNSAID = "?"
-# What libpq says of a server without TLS, and the SQLSTATE that this has here: another try doesn't
-# mend it.
+# What libpq says of a server without TLS, and the SQLSTATE of that here, which lasts.
 LACKS_TLS, REFUSED = "does not support SSL", "28000"
 CURE = (
     "sslmode=verify-full checks the server's name,"
@@ -163,8 +162,7 @@ def tell(protection: Protection) -> None:
 
 
 def defaults_of(service: str) -> dict[str, str]:
-    """What libpq fills in from its environment and from a service, with `?` for an sslmode that
-    nobody has said."""
+    """What libpq fills in from environment and service; `?` for an sslmode nobody has said."""
     service = service or os.environ.get("PGSERVICE", "")
     mode = os.environ.get("PGSSLMODE", "") or UNSAID
     if not service:
@@ -175,8 +173,7 @@ def defaults_of(service: str) -> dict[str, str]:
 
 @functools.cache
 def defaults_by_service(service: str, _: str, mode: str) -> tuple[tuple[str, str], ...]:
-    """The same where a service is named. An sslmode that it doesn't have is then that of the
-    environment."""
+    """The same of a service. An sslmode that it lacks is that of the environment."""
     with environment(PGSERVICE=service, PGSSLMODE=mode):
         return tuple(filled_in().items())
 

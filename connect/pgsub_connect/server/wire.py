@@ -1,5 +1,4 @@
-"""The messages of a session that is copied from and to, as they pass libpq: many, and none of them
-is waited for."""
+"""The many messages of a session that is copied from and to, which nothing waits for."""
 
 import ctypes
 import mmap
@@ -31,8 +30,7 @@ MOVED, PAGE = 1 << 20, mmap.PAGESIZE
 
 
 class Wire(Protocol):
-    """What a session asks of libpq for each of its messages, or each time that some have come.
-    Nothing of it waits."""
+    """What a session asks of libpq for its messages. Nothing of it waits."""
 
     def consume(self) -> bool:
         """Reads what has come on the socket. Returns false where that failed."""

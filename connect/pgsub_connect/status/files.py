@@ -125,8 +125,7 @@ def time_text(at: float | None) -> str | None:
 
 # How often, in seconds, and how often where nobody has asked for any.
 INTERVAL, SELDOM = 1.0, 5.0
-# What the name of a new file has behind it until it is whole, and a store's name in that of its
-# status file.
+# What follows a new file's name until it is whole, and a store's in that of its status file.
 NEW, STATUS = ".pgsub-new", ".status"
 # over how many intervals the rate is taken
 RATE = 5

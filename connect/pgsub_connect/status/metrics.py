@@ -1,5 +1,4 @@
-"""What a follower shows, in the text format that Prometheus reads (the one of its node_exporter's
-textfile collector)."""
+"""What a follower shows, in Prometheus' text format, as of its textfile collector."""
 
 from collections.abc import Iterable, Iterator, Mapping
 from typing import NamedTuple

@@ -106,8 +106,7 @@ class Lag:
         # the greatest end of the server's log that is known
         self.end = 0
         self.skew = 0.0
-        # when the server was asked, and the end that it told then, of those that the copy hasn't
-        # reached
+        # when the server was asked, and the end that it told, of those that aren't reached
         self.asked = collections.deque[tuple[float, int]](maxlen=MOST)
         self.lock = threading.Lock()
         self.answered = 0.0
@@ -121,8 +120,7 @@ class Lag:
         self.last_commit = at
 
     def note_waiting(self, since: float | None) -> None:
-        """Notes the commit time of the first commit that was passed on and isn't confirmed; None
-        where there is none."""
+        """Notes the commit time of the first commit passed on unconfirmed; None of none."""
         self.waits_since = since
 
     def note_answer(self, asked: float, answered: float, clock: float | None, end: int) -> None:

@@ -108,8 +108,7 @@ def locked_checkpoint(store: str) -> int | None:
         return os.open(os.devnull, os.O_RDONLY | os.O_CLOEXEC)
     except OSError as error:
         if error.errno == errno.EACCES and os.stat(path).st_uid != os.geteuid():
-            # (of another account, whose files may be read: the lock of the store's own file is what
-            # is left)
+            # (of another account: the lock of the store's own file is what is left)
             return os.open(os.devnull, os.O_RDONLY | os.O_CLOEXEC)
         raise FileError(f"{path}: {error.strerror}") from None
     try:

@@ -35,8 +35,7 @@ from ..drift.remembered import Remembered
 from .copied_rows import READ, attempted, rows_of
 from .file import choose
 
-# How many bytes of rows wait until they are written, and how many a file has at least, but for the
-# last one.
+# How many bytes of rows wait to be written, and how many each file but the last has at least.
 ROOM, LEAST = 1 << 20, 1 << 26
 NULL, TEXT, BINARY = b"ntb"
 
@@ -153,8 +152,7 @@ class BaseWriter:
 
 @contextlib.contextmanager
 def placed_folder(feed: str, mode: int) -> Iterator[str]:
-    """Gives a new folder for the first rows of a feed, which gets its name at the end. An error
-    leaves nothing of it."""
+    """A new folder for a feed's first rows, named at the end; an error leaves nothing of it."""
     folder = os.path.join(feed, FOLDER)
     new = folder + NEW
     remove_base(feed)

@@ -83,8 +83,7 @@ class Checkpoint:
 
     def __init__(self, store: str, check: Check = never) -> None:
         self.path = store + ".connector"
-        # what stands around the two positions in what is known, as long as nothing else of it
-        # changes
+        # what stands around the two positions in what is known, until something else changes
         self.around: tuple[str, str] | None = None
         self.file = self.opened()
         try:
@@ -253,14 +252,12 @@ class Checkpoint:
         return True
 
     def forget_repeats(self) -> None:
-        """Notes durably that what a filter has noted of commits isn't compared with what comes from
-        now on."""
+        """Notes durably that what comes isn't compared with the commits that were noted."""
         if self.known.repeats:
             self.write(True, repeats=0)
 
     def adding(self) -> dict[int, int]:
-        """The tables that are being added, each with the LSN at which its rows are stored, 0 where
-        that isn't known."""
+        """The tables that are added, each with the LSN at which its rows are stored, or 0."""
         return dict(self.known.adding)
 
     def write_adding(self, adding: dict[int, int]) -> None:

@@ -49,8 +49,7 @@ Held = tuple[int, bytes, int]
 
 
 class Export:
-    """Fills a new file, in one transaction and constant memory: nothing was there that would be
-    kept for going back."""
+    """Fills a new file, in one transaction and constant memory; nothing is kept to go back."""
 
     def __init__(
         self,
@@ -235,8 +234,7 @@ def export_store(settings: ExportSettings, check: Check) -> None:
 
 
 def export(path: str, new: str, settings: ExportSettings, check: Check) -> tuple[int, int, int]:
-    """Exports a file at rest into a new one. What is remembered of the publications lies beside the
-    store."""
+    """Exports a file at rest into a new one; what is remembered lies beside the store."""
     remembered = Remembered(settings.store)
     indexes = Indexes(KnownTables(settings.store)) if settings.has_indexes else None
     try:

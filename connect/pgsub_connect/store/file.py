@@ -1,5 +1,4 @@
-"""What a store's file holds: position, definitions and rows. docs/ARCHITECTURE.md describes the
-file."""
+"""What a store's file holds, as docs/ARCHITECTURE.md says: position, definitions and rows."""
 
 import contextlib
 import dataclasses

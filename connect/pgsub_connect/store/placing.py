@@ -1,5 +1,4 @@
-"""Files that appear as a whole: each is written beside its place, and renamed once the disk has it.
-"""
+"""Files that appear as a whole: written beside their place, and renamed once synced."""
 
 import contextlib
 import os

@@ -132,8 +132,7 @@ class Lines:
         return [object_of(parsed(it, self.longest)) for it in lines]
 
 
-# How long it is waited at most until it is looked whether the end was asked for, in seconds. (A
-# signal ends that at once.)
+# How long it is waited until it is looked for the end, in seconds, which a signal cuts short.
 STEP = 1.0
 
 

@@ -12,8 +12,7 @@ import time
 from collections.abc import Sequence
 from pathlib import Path
 
-# For how many seconds it is waited awake, and how many times at most it sleeps at once before that
-# is tried again.
+# For how many seconds it is waited awake, and how often at most it sleeps before another try.
 MOMENT, RARELY = 0.0005, 1023
 # How many processors it takes: the filter needs one beside it.
 NEEDED = 2.0

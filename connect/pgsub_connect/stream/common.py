@@ -1,5 +1,4 @@
-"""What all parts of a follower have, handed over as one, with the findings that are taken as they
-are."""
+"""What all parts of a follower have, handed over as one, and the findings taken as they are."""
 
 from collections.abc import Iterable
 from typing import NamedTuple

@@ -1,5 +1,4 @@
-"""The filter `pgsub follow` as a child: frames go to its standard input, statuses come from its
-standard output."""
+"""The filter `pgsub follow` as a child: frames go to its input, statuses come from its output."""
 
 import contextlib
 import errno
@@ -23,8 +22,7 @@ from .filter_said import FilterSaid
 from .messages import COPY_DONE, HEADERS, STATUS, STATUS_HEAD, flushed, without_received
 from .room import room_text
 
-# For how long one that opens its store is waited for, until it is looked whether the end was asked
-# for, in seconds.
+# How long an opening store is waited for until it is looked for the end, in seconds.
 LOOK = 0.5
 # What has it read tables before its first session, and what has it watch its server.
 LOAD, WATCH = "--load", "--watch"
@@ -211,8 +209,7 @@ class Filter:
             self.status = without_received(self.status)
 
     def room(self) -> int:
-        """How many bytes may be pushed before others are to be written; a last frame may be
-        longer."""
+        """How many bytes may be pushed before others are to be written, but for a last frame."""
         return ROOM - self.input.waiting
 
     def has_room(self) -> bool:

@@ -7,8 +7,7 @@ from pgsub_feed import errors
 from pgsub_feed.errors import Failure
 from pgsub_feed.texts import parse_lsn
 
-# The statuses with which a filter ends by itself, but for those of its words (2) and of a file that
-# is no store (3).
+# With what a filter ends by itself, but for its words (2) and a file that is no store (3).
 REJECTED, SPOOL_FULL, FRAME_TOO_LARGE, UNOPENED, REFUSED, MEMORY, BROKEN = 1, 10, 11, 12, 13, 14, 15
 PASSING = (UNOPENED, REFUSED, MEMORY, BROKEN)
 # What is told of one that couldn't open its store.
@@ -40,8 +39,7 @@ class FilterEnded(Failure):
         self.status, self.said = status, said
 
     def is_rejection(self) -> bool:
-        """Whether the same would come of another try. A disk that is full, or too little memory,
-        may pass."""
+        """Whether the same would come of another try; a full disk or memory may pass."""
         return self.status > 0 and self.status not in (*PASSING, MISSED)
 
     def exit_status(self) -> int:
@@ -80,8 +78,7 @@ class FilterEnded(Failure):
 
 
 class Missing(NamedTuple):
-    """The changes of a filter that found no row: how many, and of the first one its commit's end
-    and its table's OID."""
+    """Changes that found no row: how many, and of the first its commit's end and table."""
 
     total: int = 0
     first: int = 0
@@ -89,7 +86,6 @@ class Missing(NamedTuple):
 
 
 def missing_of(line: str) -> Missing | None:
-    """What a line on standard error says of changes that found no row, None where it is another
-    one."""
+    """What a line says of changes that found no row, None where it is another one."""
     found = MISSING.fullmatch(line)
     return Missing(int(found[1]), parse_lsn(found[3]), int(found[2])) if found else None

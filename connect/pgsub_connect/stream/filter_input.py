@@ -62,8 +62,7 @@ class FilterInput:
                 self.written = 0
 
     def written_of(self, piece: bytes | memoryview) -> int:
-        """Writes as much as the pipe takes. Of one that has ended, its end tells why nothing is
-        written."""
+        """Writes as much as the pipe takes. (The end of one that has ended says why not.)"""
         try:
             done = os.write(self.number, piece)
             self.taken += done

@@ -12,8 +12,7 @@ from .watch_lines import Told, counted_in, tells_nothing, told_of
 
 
 class FilterSaid:
-    """Notes how many changes found no row and what is told of the server, passes on the rest, and
-    keeps the last line."""
+    """Notes what is told of missed rows and the server, passes on the rest, keeps the last line."""
 
     def __init__(self, file: IO[bytes] | None = None) -> None:
         self.speaks, self.number = file is not None, file.fileno() if file else -1

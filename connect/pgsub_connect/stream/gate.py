@@ -40,8 +40,7 @@ from ..server.session import Subscription
 from ..status.progress import Progress
 from .hold import Hold
 
-# How often it is looked whether the slot still waits, and again where the server couldn't be asked,
-# in seconds.
+# How often it is looked whether the slot still waits, also after an error, in seconds.
 LOOK, AGAIN = 0.01, 0.5
 # For how many seconds commits may wait since the stream is held.
 MOST = 1.5

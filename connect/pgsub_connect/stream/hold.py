@@ -62,8 +62,7 @@ KEEPALIVE = b"k"
 
 
 class Hold:
-    """Whether payloads are held, and which of them come before the LSN at which the copy is
-    taken."""
+    """Whether payloads are held, and which come before the LSN of the copy."""
 
     def __init__(self) -> None:
         self.is_held = False
@@ -76,12 +75,10 @@ class Hold:
         # told; and whether they were passed on
         self.keeps = self.is_copied = self.is_sent = False
         self.tables: list[int] | None = None
-        # where commits wait for the follower: the process that makes the slot, and what may pass
-        # until that is made
+        # where commits wait: the process that makes the slot, and what may pass until it is made
         self.maker = 0
         self.gate: int | None = None
-        # whether all commits up to the point, or to the gate, have come in this session, and what
-        # came behind them
+        # whether all commits up to the point, or the gate, have come, and what came behind
         self.is_there = self.is_at_gate = False
         self.kept: list[bytes] = []
 
@@ -146,8 +143,7 @@ class Hold:
         return self.point is not None and not self.is_there
 
     def passing(self, payloads: list[bytes], is_inside: bool) -> list[bytes]:
-        """Those that are to be passed on; the rest is kept. `is_inside`: they begin between a Begin
-        and its Commit."""
+        """Those to pass on; the rest is kept. `is_inside`: they begin between Begin and Commit."""
         limit = self.limit()
         if limit is None:
             return payloads
@@ -172,8 +168,7 @@ class Hold:
 
 
 def count_below(payloads: Sequence[bytes], point: int, is_inside: bool) -> int:
-    """How many payloads come before the first one that tells that all commits with an end up to
-    this LSN have come."""
+    """How many payloads come before the one that tells that all up to this LSN have come."""
     for index, payload in enumerate(payloads):
         letter = payload[25] if len(payload) > 25 else 0
         if letter == BEGIN:

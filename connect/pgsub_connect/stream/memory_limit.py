@@ -23,8 +23,7 @@ class BufferLimits:
 
 
 def memory() -> int | None:
-    """The memory that this process may have, in bytes: that of the machine, or less where its
-    control groups say so."""
+    """How many bytes of memory this process may have, by the machine and its control groups."""
     found = []
     with contextlib.suppress(ValueError, OSError):
         found.append(os.sysconf("SC_PAGE_SIZE") * os.sysconf("SC_PHYS_PAGES"))

@@ -64,8 +64,7 @@ def relation_of(body: bytes) -> Relation | None:
         return None
 
 
-# A status: CopyData, 34 bytes of payload that begin with `r`, and written, flushed, applied, clock
-# and ask in them.
+# A status: CopyData of 34 bytes, `r`, then written, flushed, applied, clock and ask.
 STATUS = 39
 STATUS_HEAD = b"d\x00\x00\x00\x26r"
 COPY_DONE = b"c\x00\x00\x00\x04"

@@ -43,8 +43,7 @@ def texts_of(known: Counted, remembered: Remembered) -> list[str]:
 
 
 class Misses:
-    """Counts them. `count`: how many there were in this run; `is_new`: there were some since the
-    caller looked last."""
+    """Counts them. `count`: those of this run; `is_new`: some since the caller looked last."""
 
     def __init__(self, common: Common) -> None:
         _, self.tolerance, self.checkpoint, self.progress, self.remembered = common

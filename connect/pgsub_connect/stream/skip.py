@@ -24,8 +24,7 @@ class Skipping:
         self.lsn = lsn
         _, _, self.checkpoint, self.progress, self.remembered = common
         self.is_pending = self.is_told = False
-        # the Begin of the commit that is skipped, while it comes; whether any other transaction is
-        # under way
+        # the Begin of the commit that is skipped, while it comes; whether another one is under way
         self.begun, self.is_inside = b"", False
         self.counts: dict[bytes, int] = {}
         self.progress.findings.note_skipped(self.checkpoint.known.skipped)

@@ -45,8 +45,7 @@ class Confirming:
         self.position = 0
         # where statuses go; None where no session is open
         self.connection: Connection | None = None
-        # the last status that was passed on, and one that moves a position by a keepalive alone and
-        # waits for its time
+        # the status passed on last, and one of a keepalive alone, which waits for its time
         self.told = b""
         self.held: bytes | None = None
         # when one was sent last, and when one that confirms more than those before
@@ -69,8 +68,7 @@ class Confirming:
         self.connection = self.held = None
 
     def stored(self) -> Reached:
-        """What the store has, for another thread. (Each of the two is at most what it has, whenever
-        it is looked at.)"""
+        """What the store has at least, for another thread."""
         # (a look that a commit makes due is noted before that commit is confirmed)
         confirmed = max(self.checkpoint.known.confirmed, self.filter.confirmed())
         relations = self.noting.relation_log

@@ -42,8 +42,7 @@ class RelationLog:
         self.remembered = remembered
         self.wants_look = self.has_looked = self.has_others = False
         self.strangers: set[int] = set()
-        # the last Relation message of each table that was compared with what is remembered, as it
-        # came
+        # the last Relation message, as it came, of each table that was compared
         self.compared: dict[int, bytes] = {}
         # those of tables that no commit has changed yet
         self.described: dict[int, list[bytes]] = {}

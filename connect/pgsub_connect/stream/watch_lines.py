@@ -58,8 +58,7 @@ def told_of(line: str) -> Told | None:
 
 
 def told_of_repeats(said: str) -> Told | None:
-    """What a line on standard error says of commits that came again, None where it counts them, or
-    none can be noted."""
+    """What a line says of commits that came again, None where it counts or can't note them."""
     if NOTED.fullmatch(said) or COUNTED.fullmatch(said) or UNUSABLE.fullmatch(said):
         return None
     if CONTRADICTED.fullmatch(said):

@@ -74,8 +74,7 @@ class Plan:
     def __init__(self, table: Table, chunks: int) -> None:
         self.table, self.chunks, self.width = table, chunks, len(table.columns)
         is_keyed = table.identity in ("d", "i")
-        # (a column list may leave out a part of the key: then several rows may have what is left of
-        # it)
+        # (a column list may leave out a part of the key: then several rows may have the rest)
         self.key = [at for at, column in enumerate(table.columns) if column.key and is_keyed]
 
     def key_text(self, fields: FieldTexts, text: bytes) -> bytes:

@@ -25,8 +25,7 @@ from ..server.publications import estimated_rows
 from ..store.file import check_store, opened, read_position, read_relations
 from .digests import Plan, Queries, Summing, Sums, chunks_for, fields_of
 
-# How many bytes of rows are read at a time, and after how many rows it is looked whether the end
-# was asked for.
+# How many bytes of rows are read at a time, and after how many it is looked for the end.
 BLOCK, ROWS = 1 << 17, 1000
 # A query names no more chunks than these: of more of them it reads all rows.
 NAMED = 1 << 10

@@ -198,8 +198,7 @@ def check_sizes(subscription: Subscription, source: Source, tables: list[Table])
 
 
 def meet(request: Request, source: Source, seconds: float) -> int:
-    """Has the server seen, and the copy taken, at one LSN, which is returned. The stream is held
-    until that is known."""
+    """Has server and copy meet at one LSN, and returns it. The stream is held until then."""
     request.hold(source.maker(), source.standbys())
     point, snapshot = source.make_slot(seconds)
     request.tell(point)

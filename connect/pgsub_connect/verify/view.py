@@ -44,8 +44,7 @@ def check_tables(path: str) -> None:
 
 
 class View:
-    """A file's tables at its LSN, `at`, in a transaction that lasts until `close`. With a trail, at
-    the trail's point."""
+    """A file's tables at its LSN, `at`, until `close`; with a trail, at the trail's point."""
 
     def __init__(self, path: str, check: Check) -> None:
         self.path, self.check = path, check

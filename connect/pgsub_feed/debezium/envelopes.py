@@ -238,8 +238,7 @@ class Envelopes:
             self.topics[table.topic] = table.relation.oid
 
     def primary(self, relation: Relation, types: TableTypes | None) -> tuple[str, ...]:
-        """The columns of a primary key that isn't the replica identity, by the store, or else by the
-        feed."""
+        """The columns of a primary key beside the replica identity, by the store, or the feed."""
         if relation.shape.identity not in OTHER:
             return ()
         if self.known is None:

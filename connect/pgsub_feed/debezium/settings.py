@@ -1,5 +1,4 @@
-"""How changes become messages: properties of Debezium's connector by their names, with its values
-and defaults."""
+"""How changes become messages: properties of Debezium's connector, as it names them."""
 
 import dataclasses
 import re

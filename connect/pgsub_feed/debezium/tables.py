@@ -1,5 +1,4 @@
-"""A table as messages have it: its topic, its key, its rows, where a change comes from, and the
-schemas of these."""
+"""A table as messages have it: its topic, key, rows and source, and their schemas."""
 
 import functools
 from collections.abc import Sequence

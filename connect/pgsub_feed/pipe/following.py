@@ -40,8 +40,7 @@ SCHEME = "ssh://"
 # asks for a password, and sees that the other host is gone.
 INSTEAD = "PGSUB_SSH"
 SSH = "ssh -T -o BatchMode=yes -o ServerAliveInterval=15"
-# After how many seconds another try is made, at first and at most, and how long the process may take
-# to end.
+# After how many seconds another try is made, at first and at most, and a process is killed.
 FIRST_DELAY, LONGEST_DELAY, GRACE = 0.2, 60.0, 2.0
 Read = TypeVar("Read")
 
@@ -117,8 +116,7 @@ class Remote(Generic[Read]):
         self.words = Address.of(url).words(follows, reader)
         self.decoder = Decoder()
         self.head: Head | None = None
-        # whether the feed was reached once, since when something is wrong there, and for how long
-        # another try waits
+        # whether the feed was reached, since when something is wrong, and when another try is due
         self.was_there = self.is_cut = False
         self.wrong: float | None = None
         self.delay = FIRST_DELAY

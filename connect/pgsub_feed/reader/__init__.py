@@ -1,2 +1,1 @@
-"""The folder of a feed: its segments, their lines, the commits in them, and where each reader is.
-"""
+"""The folder of a feed: its segments, lines and commits, and where each reader is."""

@@ -130,8 +130,7 @@ class BaseFile:
         self.file.seek(HEAD_SIZE)
 
     def spans(self, known: dict[bytes, Relation]) -> list[tuple[Relation, Span]]:
-        """Where the rows of each definition are. `known`: the relations of lines, which come again
-        and again."""
+        """Where each definition's rows are. `known`: the relations of lines that come again."""
         found, told, offset = list[tuple[Relation, Span]](), list[tuple[int, bytes]](), HEAD_SIZE
         self.file.seek(offset)
         for line in self.file:

@@ -15,8 +15,7 @@ class Unsent:
 
 
 UNSENT = Unsent()
-# The xid of a commit that the follower has made of an added or repaired table's rows:
-# FrozenTransactionId.
+# The xid of the follower's own commits, of added or repaired rows: FrozenTransactionId.
 XID = 2
 # A text, a binary value, or null.
 Cell = str | bytes | None
@@ -72,8 +71,7 @@ class Commit(NamedTuple):
 
 @dataclasses.dataclass(frozen=True)
 class Cursor:
-    """Where a reader is: the segment, by its base, the offset in it, and the end of the commit
-    before."""
+    """Where a reader is: the segment's base, the offset, and the end of the commit before."""
 
     segment: int
     offset: int
@@ -98,8 +96,7 @@ class Change(NamedTuple):
 
 
 class Missed(NamedTuple):
-    """An update or a delete that found no row: `sent` is u or d, `kind` is K, O or "" where no old
-    tuple was sent."""
+    """An update or delete without a row: `sent` is u or d, `kind` K, O or "" of no old tuple."""
 
     relation: Relation
     n: int

@@ -1,5 +1,4 @@
-"""Follows a feed: puts commit after commit into what keeps them, up to the end that was asked for.
-"""
+"""Follows a feed: puts commit after commit into what keeps them, up to an end."""
 
 import time
 from collections.abc import Callable, Iterable
@@ -22,8 +21,7 @@ Read = Callable[[], Iterable[Part]]
 
 
 class Keeper(Protocol):
-    """Keeps commits. `at` is the LSN up to which all are there: those after it that were taken
-    aren't, until `settle`."""
+    """Keeps commits. `at`: all up to there are kept; later ones are, once `settle` is called."""
 
     @property
     def at(self) -> int:
@@ -98,8 +96,7 @@ class Following:
         return self.is_confirmed and not was_confirmed
 
     def check_reached(self, above: Commit | None) -> None:
-        """Rejects an end below the LSN at which to end, where the feed may still get commits up to
-        it."""
+        """Rejects an end below the LSN to end at, up to which the feed may still get commits."""
         until, at = self.reading.until, self.keeper.at
         if until is None or above or at >= until or self.is_confirmed:
             return

@@ -16,8 +16,7 @@ from .segments import Reader
 SHORT, LONG = 0.005, 0.02
 # For how long a follower that tells what comes is waited for, at first and at most, in seconds.
 LEAST, MOST = 1.0, 8.0
-# For how long what can't be read, or doesn't go on, may be what the filter is about to cut off, in
-# seconds.
+# For how many seconds what can't be read may be what the filter is about to cut off.
 PATIENCE = 3.0
 
 

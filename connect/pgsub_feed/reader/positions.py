@@ -16,8 +16,7 @@ OFTEN = 1.0
 
 
 def make_folder(path: str, mode: int) -> None:
-    """Makes a folder, which whoever may read a file of this mode may look into, unless it is
-    there."""
+    """Makes a folder that whoever may read a file of this mode may look into."""
     try:
         os.mkdir(path, 0o700)
     except FileExistsError:

@@ -1,5 +1,4 @@
-"""What somebody who follows a feed is to take, and what it begins with; and the tables that
-`--table` names."""
+"""What who follows a feed takes and begins with, and the tables that `--table` names."""
 
 import dataclasses
 from collections.abc import Collection, Iterable
@@ -45,8 +44,7 @@ class Reading:
 
 
 class Chosen:
-    """Tells which relations are chosen: all where none is named. `unseen`: the names of none so
-    far."""
+    """Which relations are chosen, all where none is named. `unseen`: names of none so far."""
 
     def __init__(self, names: Iterable[str]) -> None:
         self.names = set(names)

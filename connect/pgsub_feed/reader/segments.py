@@ -259,8 +259,7 @@ class Reader:
         return segment
 
     def go_on(self, segment: Segment, closing: Closing | None) -> bool:
-        """Opens the segment that begins where this one ends. Returns false where it isn't there
-        yet."""
+        """Opens the segment behind this one. Returns false where it isn't there yet."""
         if closing and closing.last != self.last:
             text = f"the segment says that it ends at {lsn_text(closing.last)}, and its last commit at {lsn_text(self.last)}"
             raise Damaged(ORDER, segment.path, self.offset, text)

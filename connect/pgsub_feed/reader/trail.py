@@ -38,8 +38,7 @@ class Trail:
         if not below:
             raise Unfit(f"{folder}: the feed doesn't have the commits after {lsn_text(at)}")
         self.reader = Reader(folder, below[-1])
-        # where the last commit ends that doesn't end above the point, and where the next one
-        # begins, once that is known
+        # where the last commit up to the point ends, and the next one begins, once that is known
         self.last = below[-1]
         self.first: Cursor | None = None
 

@@ -60,8 +60,7 @@ def read_about(told: dict[str, Any]) -> dict[str, Any]:
 
 @dataclasses.dataclass(frozen=True)
 class Wanted:
-    """What a sink keeps: of the feed with this head the tables that were chosen, by their names;
-    all where none is."""
+    """What a sink keeps: of the feed with this head the named tables, all where none is."""
 
     head: Head
     chosen: tuple[str, ...]
@@ -107,8 +106,7 @@ class Engine(Keeper, Protocol):
         return False
 
     def check_disk(self) -> None:
-        """Rejects settings under which it is never known what the engine's disk has. (Most don't
-        tell when they sync.)"""
+        """Rejects settings under which an engine never tells what its disk has, as most do."""
         return
 
     def close(self) -> None:

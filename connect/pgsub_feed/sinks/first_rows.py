@@ -1,5 +1,4 @@
-"""The rows with which a sink begins: those of an export whose values are texts, those beside the
-feed, or none."""
+"""The rows with which a sink begins: an export's texts, those beside the feed, or none."""
 
 import contextlib
 import dataclasses

@@ -128,8 +128,7 @@ def noted_of(reading: Reading, engine: Engine) -> Noted | None:
         return None
     noted = Noted(reading.feed, reading.name, None, reading.mode)
     if not os.path.exists(noted.path):
-        # (so that nothing goes before that is known to be on a disk, not even of what is written
-        # already)
+        # (so that nothing goes before it is known to be on a disk, though it is written)
         first = [base for base, _ in segments(reading.feed)[:1]]
         noted.note(min([engine.at, *first]), is_last=True)
     return noted

@@ -1,5 +1,4 @@
-"""What JetStream is asked: a stream, its messages, and that it takes one in the place where it
-belongs."""
+"""What JetStream is asked: a stream, its messages, and to take one in its place."""
 
 import base64
 import collections
@@ -18,8 +17,7 @@ from .nats_wire import Message, Wire, header_bytes, read_headers
 
 # How long to wait for what it says, in seconds.
 LONGEST = 30.0
-# How many messages, and bytes of them, may be published until it has said that it has the first of
-# them.
+# How many messages, and bytes, may be published until it has said that it has the first.
 MOST, ROOM = 4000, 8 << 20
 NO_STREAM, NO_MESSAGE, WRONG_SEQUENCE, OTHER_TOO_LARGE = 10059, 10037, 10071, 10054
 NO_JETSTREAM = (10039, 10076)

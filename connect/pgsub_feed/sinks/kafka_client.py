@@ -215,8 +215,7 @@ class Cluster:
             maker.create_topics([wanted], request_timeout=CONNECT / 2)[topic].result()
 
     def last(self, topic: str) -> bytes | None:
-        """What the last message of a topic's first partition says; b"" of one that is gone, None
-        where there was none."""
+        """The last message of a topic's first partition; b"" of one that is gone, else None."""
         if topic not in self.topics:
             return None
         more = {"group.id": "pgsub", "enable.auto.commit": False, "log_level": 2}

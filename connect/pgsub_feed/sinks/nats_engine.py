@@ -79,8 +79,7 @@ class Nats(Engine):
             last if read.n is None else self.stream.message(last_by_subj=f"{self.name}.{COMMIT}")
         )
         if commit is None and read.n == -1:
-            # (the rows of a base, of which a part was published; they go once there is something to
-            # begin with)
+            # (a base that was published in part; it goes once there is something to begin with)
             self.has_left = True
             return False
         rows = self.go_on(commit, read.lsn, read.n)

@@ -1,5 +1,4 @@
-"""What Redis has on its disk, which it writes on its own: by a log of commands, or by whole copies.
-"""
+"""What Redis has on its disk, which it writes by itself: a log of commands, or copies."""
 
 import time
 from collections.abc import Iterable
@@ -10,8 +9,7 @@ from ..errors import EngineError
 from .engine import Trail
 from .redis_calls import Calls, Said, understood
 
-# How much later than it says a log is written, and how much may be wrong with its times, in
-# seconds.
+# How much later than it says a log is written, and how wrong its times may be, in seconds.
 LATE, WRONG = 3.0, 2.0
 # How often it is asked, in seconds.
 OFTEN = 1.0

@@ -125,8 +125,7 @@ class Redis(Engine):
     ) -> None:
         self.calls, self.form, self.check, self.writer = calls, form, check, writer
         self.known = known
-        # the LSN that all is at as a text, None before there is one; and where the last commit ends
-        # that was taken
+        # the LSN that all is at as a text, None before there is one; the end of the last commit
         self.lsn: bytes | None = None
         self.end = 0
         self.looked = time.monotonic()
@@ -141,8 +140,7 @@ class Redis(Engine):
         self.check_alone()
         lsn, about = self.two(("MGET", LSN, FEED))
         if lsn is None:
-            # (another one may begin just now, and goes on as long as there is nothing to begin with
-            # here)
+            # (another one may begin just now, and goes on as long as there is nothing here)
             return False
         # (before this one takes over, since another one that is fine would end)
         self.check_about(about)
@@ -212,8 +210,7 @@ class Redis(Engine):
         return first, second
 
     def transact(self, commands: Sequence[Command], after: bytes | None) -> None:
-        """Runs commands in one MULTI, which leave the LSN at what is said, as long as this is the
-        sink that writes."""
+        """Runs commands and moves the LSN in one MULTI, as long as this sink is the writer."""
         for _ in range(TRIES):
             if watched := self.form.watched():
                 asked(self.calls, [("WATCH", *watched)])

@@ -36,8 +36,7 @@ class Applier:
         self.bytes = self.each = 0
         # those of them whose name another one has
         self.older = set[int]()
-        # of the commit: where it ends, and whether it repairs rows, but for tables that it
-        # truncates
+        # of the commit: its end, and whether it repairs rows, but for tables that it truncates
         self.at = 0
         self.is_repair, self.truncated = False, set[int]()
         # of a repair: whether a table had no row before it

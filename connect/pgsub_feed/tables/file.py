@@ -78,8 +78,7 @@ class Rows:
         self.at = self.position()
         self.kept: dict[int, Kept] = {}
         self.left_out: set[int] = set()
-        # those that have a name of the publisher's, by that as SQLite compares it, and by the
-        # publisher's
+        # those with a name of the publisher's, by that as SQLite compares it, and as it is
         self.names: dict[str, Kept] = {}
         self.holders: dict[tuple[str, str], Kept] = {}
         self.asides.load()

@@ -9,11 +9,9 @@ import struct
 from decimal import Decimal
 from fractions import Fraction
 
-# Below these numbers no bound has as few digits as a number (its digits are those of an odd number
-# times a power of five).
+# Below these numbers no bound has as few digits as a number: they are odd ones times 5 ** n.
 WHOLE, SHORT_WHOLE = float(1 << 52), float(1 << 22)
-# Of each of both types: the bits of a significand, the exponent of the least number, and how many
-# digits tell any number.
+# Of both types: the bits of a significand, the least exponent, and how many digits tell all.
 DOUBLE, SINGLE = (53, -1074, 17), (24, -149, 9)
 
 

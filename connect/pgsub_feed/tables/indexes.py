@@ -40,8 +40,7 @@ class Keys:
         self.unsure: dict[int, tuple[str, ...] | None] = {}
 
     def of(self, relation: Relation) -> tuple[str, ...] | None:
-        """The columns of a table's primary key, where its replica identity is another; None where
-        that isn't known."""
+        """A table's primary key beside another replica identity; None where it isn't known."""
         self.unsure.pop(relation.oid, None)
         if relation.shape.identity not in OTHER:
             return ()

@@ -26,8 +26,7 @@ first_of, rest_of = itemgetter(0), itemgetter(slice(1, None))
 
 
 def row_reader(columns: Sequence[Sequence[Kind]]) -> Callable[[bytes], list[Value]]:
-    """What reads a row into values, of each of its columns one for each of those that it
-    becomes."""
+    """What reads a row into values: of each column, one for each that it becomes."""
     count = len(columns).to_bytes(2, "big")
 
     def read_row(body: bytes) -> list[Value]:

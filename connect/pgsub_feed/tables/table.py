@@ -1,5 +1,4 @@
-"""One table of a file of tables: what a row's cells are there, and the statements that change it.
-"""
+"""One table of a file: what a row's cells are there, and the statements that change it."""
 
 import contextlib
 import itertools
@@ -173,8 +172,7 @@ class Kept(Valued):
     def changed(
         self, before: Sequence[Sequence[Cell]], after: Sequence[Sequence[Cell]]
     ) -> list[tuple[bool, list[Value]]]:
-        """Of each row whether its key stays, and the values of the new row, then those that find
-        the old one."""
+        """Of each row: whether its key stays, and the new values, then those that find the old."""
         new, key = self.each(self.values(after)), self.key
         if not self.target.is_keyed:
             pairs = zip(new, self.searched(before), strict=True)

@@ -24,8 +24,7 @@ def with_columns(relation: Relation) -> Relation:
     return dataclasses.replace(relation, shape=Shape(relation.shape.identity, (NONE,)))
 
 
-# How many columns a table of SQLite has at most, and how many values a statement inserts at most,
-# where a row hasn't more.
+# How many columns a table of SQLite has, and how many values a statement, but for one row.
 MOST_COLUMNS, MOST_VALUES = 2000, 1000
 
 

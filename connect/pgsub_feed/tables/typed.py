@@ -10,12 +10,10 @@ from .values import GREATEST, LEAST, Kind, Read, Value, read_bool, read_float, r
 
 # A text, or null.
 Text = str | None
-# What reads the texts of a column. A ValueError says that one isn't as most are, or is none of the
-# type.
+# Reads the texts of a column. A ValueError says that one isn't as most are, or is none.
 ReadTexts = Callable[[Sequence[str]], list[Value]]
 
-# The bytes that numbers consist of, with a comma between each two, and what isn't in any, though
-# Python reads it.
+# The bytes of numbers with commas between them, and what Python reads and they haven't.
 INTEGER, NUMBER = b"0123456789-,", b"0123456789-,.e+"
 NO_NUMBERS = ",.", "-.", ".,", ".e", ",+"
 BOOLS = {"t": 1, "f": 0}

@@ -1,5 +1,4 @@
-"""A user's own SQL for a file of tables: indexes and views, made again after a table was made or
-altered."""
+"""A user's own SQL for indexes and views, run again where a table was made or altered."""
 
 import sqlite3
 from collections.abc import Iterator

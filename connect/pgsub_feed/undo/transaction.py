@@ -110,8 +110,7 @@ def plain(it: Column) -> tuple[str, int, int]:
     return it.name, it.type_oid, it.modifier
 
 
-# On these it depends how a value is printed and a constant is read; and rows that a policy hides
-# are an error.
+# These say how a value is printed and a constant read, and make hidden rows an error.
 SETTLED = {**PRINTING, "xmloption": "content", "array_nulls": "on", "row_security": "off"}
 # Types whose values are looked up in an index by `=`: bool, bytea, "char", name, int8, int2, int4,
 # text, oid, float4, float8, macaddr, inet, bpchar, varchar, date, time, timestamp, timestamptz,

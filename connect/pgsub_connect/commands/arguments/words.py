@@ -1,5 +1,4 @@
-"""What several groups of options share: what reads one word, what is rejected of words and files,
-and exit statuses."""
+"""What groups of options share: what reads a word, what is rejected, and exit statuses."""
 
 import argparse
 import dataclasses
