@@ -124,8 +124,7 @@ class Library:
         return room.text().split("\n")[:-1], Fault(number, text.text()) if number else None
 
     def show(self, sessions: Iterable[bytes], version: int = 2) -> Iterator[str]:
-        """The lines of a recording's sessions, with `--` between two of them. Raises the first
-        fault after what comes before it."""
+        """The lines of a recording's sessions, with `--` between, up to the first fault."""
         for at, session in enumerate(sessions):
             if at:
                 yield "--"

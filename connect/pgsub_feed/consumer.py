@@ -91,8 +91,7 @@ def read_here(
 
 
 class Build:
-    """Makes commits of parts. Of rows from before each table is truncated first, since those of an
-    earlier run may be there."""
+    """Makes commits of parts. First rows begin with TRUNCATEs of an earlier run's."""
 
     def __init__(self, tables: Iterable[str], types: KnownTypes) -> None:
         self.names, self.types = tuple(tables), types

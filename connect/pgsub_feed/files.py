@@ -11,8 +11,7 @@ from .interruption import Check, never
 from .ownership import real, succeed
 
 LOG = "-wal"
-# A file, and what SQLite may have beside it. Whoever opens another file in its place would take
-# that for its own: a journal takes it back.
+# A file, and what SQLite may have beside it, as a journal, which would change another one there.
 OF_FILE = ("", LOG, "-shm", "-journal")
 CHUNK = 1 << 22
 # What a file that is to replace another one has behind its name.
@@ -148,8 +147,7 @@ def placed(into: str, mode: int, check: Check = never) -> Iterator[str]:
 
 
 def replace_file(path: str, content: bytes, mode: int = 0o600) -> int:
-    """Replaces a file durably: whoever reads it finds the old or the new one as a whole. Returns
-    the number of its inode."""
+    """Replaces a file durably, for readers as a whole. Returns the number of its inode."""
     new = path + NEW
     try:
         with contextlib.suppress(FileNotFoundError):

@@ -18,8 +18,7 @@ from typing import Any
 
 from .errors import Stopped
 
-# What is called again and again while something is waited for or written: it raises Stopped, or
-# another error, where that is to end.
+# What is called again and again during a wait, and raises Stopped, or an error, to end it.
 Check = Callable[[], None]
 # After how many seconds a call is ended once more, where Python has passed over the first try: it
 # does that with what is raised while an object is removed.

@@ -53,8 +53,7 @@ def escaped(text: str) -> str:
 
 
 def line(level: str, text: str) -> None:
-    """Writes a line. Each line of a longer text gets its own head, so that nothing can look as if
-    this program had said it."""
+    """Writes a line. A longer text's lines have heads, so that none looks like this program's."""
     now = time.strftime("%Y-%m-%dT%H:%M:%SZ", time.gmtime())
     first, *more = text.split("\n")
     head = f"{now} {PROGRAM}: {coloured(level, level)}:"

@@ -40,8 +40,7 @@ from .requests import Publications, Requests, Stream, TooLarge
 from .turn import SLOT, RowsSender, Turn
 
 IDLE, HELD, MAKING, GOING, SENT = "idle", "held", "making", "going", "sent"
-# After how many seconds a table is tried again, at first and at most; and after how many attempts
-# that end in the same way it is refused.
+# After how many seconds a table is tried again, first and at most, and refused after how often.
 FIRST_DELAY, LONGEST_DELAY, ATTEMPTS = 1.0, 60.0, 5
 
 

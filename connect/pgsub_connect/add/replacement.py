@@ -155,8 +155,7 @@ class Leaving:
         return self.is_inside and any(self.lsn < it <= end for it in self.points.values())
 
     def has_described_otherwise(self, message: bytes) -> bool:
-        """Whether a Relation message of this one's table was passed on in this session, and the
-        last of them is another one."""
+        """Whether another Relation message of this table was passed on last in this session."""
         return self.described.get(message[1:5], message) != message
 
     def truncation(self, payload: bytes) -> bytes:
@@ -223,8 +222,7 @@ class LeftOut:
         self.is_whole = False
 
     def points(self) -> dict[int, int]:
-        """The tables whose changes are left out: those that are added next, and of the initial
-        copy's all that are still to come."""
+        """The tables whose changes are left out: those added next, and the initial copy's."""
         return {**dict.fromkeys(sorted(self.remembered.partial), 0), **self.checkpoint.adding()}
 
     def fill(self) -> None:
@@ -243,16 +241,14 @@ class LeftOut:
         return next((oid for oid in self.leaving.points if not self.remembered.wanted.get(oid)), 0)
 
     def wants_session(self) -> bool:
-        """Whether a session is to begin in place of the one that runs: changes are left out from
-        its start, of whole transactions."""
+        """Whether another session is to begin, of whole transactions, without other tables."""
         if self.remembered.wanted and not self.next_oid():
             self.fill()
         points = self.points()
         return not self.leaving.points.keys() >= points.keys() or self.is_whole and not points
 
     def begin_session(self, streams: bool) -> bool:
-        """Returns whether a session has to be one of whole transactions. The snapshot of any table
-        that isn't there is gone."""
+        """Whether a session is of whole transactions. Snapshots of other tables are gone."""
         self.checkpoint.write_adding(dict.fromkeys(self.checkpoint.adding(), 0))
         self.fill()
         self.leaving.begin_session()

@@ -1,5 +1,4 @@
-"""What is asked of a follower: which tables to add, and of which ones the rows are to go; and
-which tables can't be added."""
+"""What a follower is asked for: tables to add, or whose rows are to go; and why not."""
 
 import contextlib
 from typing import Any, Protocol
@@ -23,8 +22,7 @@ class Stream(Protocol):
         """Keeps the server content during another wait. Raises where the end was asked for."""
 
     def attend(self) -> None:
-        """Keeps server and filter content in a session while something else is waited for. Raises
-        where the end was asked for."""
+        """Keeps server and filter content during another wait. Raises once the end is asked for."""
 
     def push(self, frames: bytes) -> None:
         """Gives the filter frames, and waits until it has room."""
@@ -91,8 +89,7 @@ class Requests:
         return "; ".join(errors) or None
 
     def rejections(self, adds: list[int], removes: list[int]) -> list[str]:
-        """Why tables can't be added, or their rows removed. Where the server can't be asked just
-        now, that shows later."""
+        """Why tables can't be added or rows removed, as far as the server can be asked now."""
         try:
             with contextlib.closing(self.open(self.stream.serve_server)) as source:
                 errors = [text for oid in adds if (text := self.rejection(source, oid))]

@@ -1,5 +1,4 @@
-"""The table whose turn it is to be added: its definition, its rows at the LSN of a slot, and what
-passes these on within the stream."""
+"""The table that is added next: its definition, its rows at a slot's LSN, and their sender."""
 
 import time
 from collections.abc import Callable, Iterable

@@ -35,8 +35,7 @@ ABOUT = "copy tables anew beside what is followed: new ones, or any whose rows a
 ENDS = ADDED
 
 DONE, REFUSED = 0, 1
-# How long a follower may take until it has answered a request, in seconds: it may be about to
-# connect, or to open its store.
+# How long a follower, which may be opening its store, may take until it answers, in seconds.
 PATIENCE = 120.0
 # How often it is looked whether tables are there, in seconds.
 WAIT = 0.3

@@ -44,8 +44,7 @@ it isn't the server or slot that the store follows, or nobody is there to ask; 6
 follower that runs
 """
 
-# Beside which names processes make files for themselves: copies that a follower is asked for, and
-# exports with which a sink begins.
+# Beside which names processes make files: copies asked of a follower, exports for a sink.
 ASKED = (".export", ".base")
 # How long a slot that was just left by its connection is waited for.
 PATIENCE = 5.0
@@ -196,8 +195,7 @@ class Dropper:
         return [(name, made.get(name) == oid) for name, oid in oids.items() if oid]
 
     def drop_publications(self, connection: Connection) -> None:
-        """Asks for each publication. Those that it isn't known to have made are dropped by a word
-        on the terminal alone."""
+        """Asks for each publication, and for those of others on the terminal alone."""
         others = other_slots(connection, self.slot)
         more = f"; other slots may use it: {', '.join(others)}" if others else ""
         for name, is_ours in self.candidates(connection):

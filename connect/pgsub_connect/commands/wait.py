@@ -57,8 +57,7 @@ class Options:
 
 
 class Awaited:
-    """All that was committed up to an LSN. A feed says that it has all of it, and then where the
-    last commit of it ends."""
+    """All that was committed up to an LSN: what a feed has all of, and its last commit's end."""
 
     def __init__(self, path: str, feed: str | None, lsn: int) -> None:
         self.path, self.feed, self.lsn = path, feed, lsn

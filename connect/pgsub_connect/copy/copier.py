@@ -104,8 +104,7 @@ class Copier(Worker):
         self.meter = Meter("copying")
 
     def run(self) -> None:
-        """Copies until it is done, anew where the server or the filter is lost. Where no copy comes
-        of it, what was made goes."""
+        """Copies until it is done, anew where server or filter are lost. Else all that goes."""
         self.files.take(self.checkpoint.known.phase)
         tries = Tries()
         try:
@@ -325,8 +324,7 @@ class Copier(Worker):
                 self.noted = time.monotonic()
 
     def end_copy(self, point: int) -> None:
-        """Brings the store to the slot's consistent point, from where all tables follow; the others
-        are noted before, to be added."""
+        """Brings the store to the slot's point, once the tables are noted that come later."""
         self.end_tables(point)
         if self.beside.is_ready(self.slot.check):
             self.sender.end(point)

@@ -84,8 +84,7 @@ class CopySlot:
                 connection.consume()
 
     def make_temporary(self) -> tuple[str, int, str]:
-        """Makes the temporary slot; its name, its consistent point and its snapshot. The server
-        waits for running transactions."""
+        """Makes the temporary slot, as soon as transactions end; its name, point and snapshot."""
         assert self.replication is not None
         dsn, slot = self.subscription.dsn, self.subscription.slot
         with self.replication.checked_by(Waiting(dsn, slot, self.check_stop).check):
@@ -117,8 +116,7 @@ class CopySlot:
         self.looked, self.look_each = time.monotonic(), look_for(idle_limit(replication))
 
     def look(self) -> None:
-        """Looks now and then whether the lasting slot is lost: then nothing can follow on the copy,
-        however long it goes on."""
+        """Looks now and then whether the lasting slot is lost, so that nothing can follow."""
         replication, slot, now = self.replication, self.subscription.slot, time.monotonic()
         if self.looked is None or not replication or now - self.looked < self.look_each:
             return
@@ -126,8 +124,7 @@ class CopySlot:
         if is_lost(replication, slot):
             raise ServerError(LOST.format(slot), REFUSED)
         if replication.version() >= IDLE:
-            # (what it is already: the server takes the slot for that, and so for one that is used.
-            # Where it can't, that shows later)
+            # (what it is already: the server takes the slot for one in use, or that shows later)
             with contextlib.suppress(ServerError):
                 replication.run(
                     f"ALTER_REPLICATION_SLOT {identifier(slot)} (FAILOVER false)", limit=QUICK

@@ -49,8 +49,7 @@ class CopyFiles:
                     os.unlink(path)
 
     def keep(self) -> None:
-        """Gives the files the mode that was asked for, whatever the filter made them with, and has
-        the disk keep their names."""
+        """Gives the files their mode, and has the disk keep their names."""
         with told_of(self.store):
             for it in (self.store, self.store + LOG):
                 with contextlib.suppress(FileNotFoundError):

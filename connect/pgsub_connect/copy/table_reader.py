@@ -300,8 +300,7 @@ class Readers:
             self.items.put(part)
 
     def lock_table(self, connection: Connection, table: Table) -> str | None:
-        """Locks a table. Returns why it is left out, "" where it is locked by somebody else, None
-        where it is as it was."""
+        """Locks a table as it was; why it is left out, "" where others have it locked, or None."""
         try:
             lock_tables(connection, [table])
             is_same = self.is_same(connection, table)
@@ -339,8 +338,7 @@ def parts_of(connection: Connection, table: Table, most: int, beside: RowsBeside
 
 
 def take_snapshot(plain: Connection, snapshot: str) -> None:
-    """Lets the transaction see what the slot's snapshot has. That is gone with the connection of
-    the slot, which may pass."""
+    """Lets the transaction see what the slot's snapshot has, which goes with the slot."""
     try:
         plain.run(f"SET TRANSACTION SNAPSHOT {literal(snapshot)}")
     except ServerError as error:

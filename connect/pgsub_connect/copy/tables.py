@@ -22,8 +22,7 @@ DROPPED = "was dropped, or left the publication,"
 
 
 class CopiedTables:
-    """`later`: the tables that are to be added by themselves, and why; `sizes`: how large tables are
-    at the server, by OID."""
+    """`later`: why tables are to be added by themselves; `sizes`: those at the server, by OID."""
 
     def __init__(self, subscription: Subscription, remembered: Remembered) -> None:
         self.subscription, self.remembered = subscription, remembered
@@ -85,8 +84,7 @@ class CopiedTables:
         self.name_new(missing, point)
 
     def forget_gone(self, plain: Connection) -> list[int]:
-        """Forgets tables that were left for later and aren't published any more: nothing of them
-        was stored. Returns their OIDs."""
+        """Forgets tables left for later that aren't published any more, and returns their OIDs."""
         there = {it.oid for it in self.published(plain)} if self.later else set()
         gone = [it for it in self.later if it not in there]
         for oid in gone:

@@ -11,8 +11,7 @@ LONGEST_DELAY = 60.0
 NO_MEMORY = "53200"
 # what may be in the way only for now: a table that was altered or dropped while it was to be read
 CHANGED = "the published tables changed while the slot was made"
-# The most attempts that the same cause ends: of tables that were changed, of what else may pass by
-# itself, and of all others.
+# The most attempts that one cause ends: changed tables, what else may pass, and all others.
 MOST_CHANGED, MOST_PASSING, MOST = 20, 10, 5
 # connections, deadlocks, too many connections, a slot in use, a server that is stopped
 PASSING = ("08", "40", "53300", "55006", "57P")

@@ -67,8 +67,7 @@ class Baseline:
         )
 
     def is_unpublished(self, oid: int, lsn: int) -> bool:
-        """Whether a table wasn't published under its own name at the last look, which was before a
-        commit with this LSN."""
+        """Whether a table wasn't published under its name at the last look before a commit."""
         catalog = self.catalog
         return catalog is not None and lsn > catalog.lsn and oid not in catalog.tables
 
@@ -113,8 +112,7 @@ class Baseline:
             self.touch()
 
     def look(self, now: Catalog) -> list[str]:
-        """Compares what a server has with what is remembered, and remembers it. Returns what makes
-        nothing wrong, but is new."""
+        """Compares what a server has, and remembers it; what is new and makes nothing wrong."""
         before = self.catalog
         assert before is not None
         harmless = []
@@ -158,8 +156,7 @@ class Baseline:
     def take(self, relation: Relation, lsn: int, catalog: Catalog) -> None:
         oid, sent, is_later = relation.oid, self.sent.get(relation.oid), lsn > catalog.lsn
         table = catalog.tables.get(oid) if is_later else None
-        # What led to what was there at the last look is told by that. Before, each message is one
-        # step after the other.
+        # Before the last look, which tells what led to it, each message is a step after the other.
         before = table.shape if table else sent.shape if sent else None
         text = relation.text()
         told = list(shape_differences(oid, text, before, relation.shape)) if before else []
@@ -214,8 +211,7 @@ class Baseline:
         self.unsaved.change()
 
     def replaced(self, relation: Relation, lsn: int) -> None:
-        """Notes that a table's rows are those of a commit with this LSN: a Relation message up to
-        there tells nothing new."""
+        """Notes that a table's rows are of a commit: no Relation message before it is news."""
         self.sent[relation.oid] = Sent(lsn, relation.shape)
         self.unsaved.change()
 

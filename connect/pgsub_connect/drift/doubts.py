@@ -113,8 +113,7 @@ def has_its_values(connection: Connection, oid: int, since: str, until: float) -
 
 
 def has_older(connection: Connection, oid: int, since: str, until: float) -> bool:
-    """Whether it is certain that a row of a table is older than an earlier reading. (Ages are of
-    one moment within a query alone.)"""
+    """Whether a row of a table is surely older than a reading. (Ages are of one query's moment.)"""
     age = f"pg_catalog.age({literal(since)}::pg_catalog.xid)"
     condition = f"pg_catalog.age(r.xmin) < 0 OR pg_catalog.age(r.xmin) > {age}"
     return since != "" and has(connection, oid, condition, until) is True

@@ -67,8 +67,7 @@ class Names(dict[Key, Name]):
             name.release()
 
     def release_all(self, now: Catalog) -> None:
-        """Takes names from tables that have another one now, so that it doesn't matter in which
-        order they are looked at."""
+        """Takes names from tables that have others now, so that no order of looks matters."""
         for oid, key in list(self.held.items()):
             table = now.tables.get(oid)
             if table and (table.namespace, table.name) != key:
@@ -99,8 +98,7 @@ class Names(dict[Key, Name]):
         return names_text(key, name.oid, oid)
 
     def forget(self, oid: int) -> None:
-        """Forgets those of a table that isn't published and has no rows in the store: whatever has
-        one later is alone under it."""
+        """Forgets those of a table that is gone with its rows: a later one is alone under them."""
         self.held.pop(oid, None)
         for key, name in list(self.items()):
             if oid in (name.oid, *name.before):

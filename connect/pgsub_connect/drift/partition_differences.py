@@ -118,8 +118,7 @@ def written_partitions(before: Catalog, now: Catalog) -> dict[int, int]:
 
 
 def root_of(oid: int, catalog: Catalog) -> int:
-    """The topmost published table that has a partition's rows, 0 where there is none, or where it
-    is one with partitions itself."""
+    """The topmost published table above a partition; 0 of none, and of one with partitions."""
     partition = catalog.partitions.get(oid)
     if partition is None or not partition.leaf:
         return 0

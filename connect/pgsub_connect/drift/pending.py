@@ -24,8 +24,7 @@ class Outstanding:
     copied: dict[Oid, int] = dataclasses.field(default_factory=dict)
 
     def want(self, oids: Iterable[int], unwanted: Iterable[int]) -> None:
-        """Notes that the rows of tables are to be added, anew where that was refused, and that
-        those of others are to go."""
+        """Notes that rows of tables are to be added, anew if refused, and those of others to go."""
         self.unwanted.update(unwanted)
         self.wanted |= {oid: "" for oid in (*oids, *self.unwanted)}
 

@@ -37,8 +37,7 @@ class Remembered(Baseline):
             self.save()
 
     def keep_made(self, made: dict[str, int]) -> None:
-        """Notes publications before they are there for others, and durably: so a later run knows
-        what one that was killed has left."""
+        """Notes publications durably before others see them, for the run after a killed one."""
         self.note_made(made)
         self.save()
 
@@ -49,14 +48,12 @@ class Remembered(Baseline):
             self.save()
 
     def want(self, oids: Iterable[int], unwanted: Iterable[int] = ()) -> None:
-        """Notes durably that the rows of tables are to be added, anew where that was refused, and
-        that those of others are to go."""
+        """Notes durably whose rows are to be added, anew if refused, and whose are to go."""
         self.outstanding.want(oids, unwanted)
         self.save()
 
     def want_later(self, oids: Iterable[int]) -> None:
-        """Notes durably that the initial copy leaves tables for later: no change of them is
-        followed until their rows are added."""
+        """Notes durably which tables the initial copy leaves to be added with all changes."""
         self.outstanding.partial.update(oids)
         self.want(self.outstanding.partial)
 
@@ -76,8 +73,7 @@ class Remembered(Baseline):
         self.save()
 
     def added(self, oid: int, texts: Iterable[str] = ()) -> list[str]:
-        """Notes durably that a table was added, or isn't to be any more: what was found of it goes.
-        Returns the kinds that go by that."""
+        """Notes durably that a table was added, or won't be; the kinds that go by that."""
         was_unwanted = self.outstanding.added(oid)
         gone = self.are_right(oid, texts)
         if was_unwanted:
@@ -115,8 +111,7 @@ class Remembered(Baseline):
             ) from None
 
     def follow(self, lines: list[bytes]) -> None:
-        """Takes what Relation messages said since the first line. Each line was synced before the
-        next one, so only the last may be torn."""
+        """Takes what messages said since the first line. Only the last line may be torn."""
         for at, line in enumerate(lines):
             try:
                 noted = noted_in(line)
@@ -131,8 +126,7 @@ class Remembered(Baseline):
         self.unsaved.clear()
 
     def put(self) -> None:
-        """Puts what is new on the disk, before this returns: behind what the file has, where that
-        is right and doesn't grow too long."""
+        """Puts what is new on the disk: behind the rest, where that is right and not too long."""
         line = line_of(NOTED, self.unsaved.noted)
         if self.unsaved.is_other or not self.file.add(line):
             self.save()

@@ -43,8 +43,7 @@ LEAST = 1 << 16
 
 
 class DurableFile:
-    """One of them. `first`: the length of its first line, 0 where it is to be replaced; `file`:
-    which one it is, with its length."""
+    """One of them. `first`: its first line's length, 0 to replace it; `file`: inode and length."""
 
     def __init__(self, path: str, mode: int) -> None:
         self.path, self.mode = path, mode
@@ -52,8 +51,7 @@ class DurableFile:
         self.file = (0, 0)
 
     def add(self, line: bytes) -> bool:
-        """Adds a line, where the file is right and doesn't grow too long. The disk has it before
-        this returns whether it was added."""
+        """Adds a line durably; whether it did, as to a file that is right and not too long."""
         (inode, length), first = self.file, self.first
         if not first or length + len(line) - first > max(first, LEAST):
             return False
@@ -97,16 +95,14 @@ def append(path: str, content: bytes, inode: int, length: int) -> bool:
 
 
 def read_lines(path: str) -> tuple[dict[str, Any], list[bytes]]:
-    """What the file with this name says, and the lines that were added to it. (What is after the
-    last newline was never synced.)"""
+    """What a file says, and the lines added to it; not what was never synced at the end."""
     first, *more = read_plain(path, LARGEST).split(b"\n")
     return object_of(parsed(first, LARGEST)), more[:-1]
 
 
 @dataclasses.dataclass(frozen=True)
 class Sent:
-    """The last Relation message of an OID: its commit's LSN, and what it said; None where only the
-    copy's rows are known."""
+    """An OID's last Relation message, and its commit's LSN; None where only rows are known."""
 
     lsn: Lsn
     shape: Shape | None

@@ -61,8 +61,7 @@ class Altered:
     ) -> None:
         self.most, self.store = most, store
         self.remembered, self.server, self.tries = remembered, server, Tries()
-        # the texts of tables that stay as they are, what was told of these, and when the first of
-        # the others may be copied anew
+        # texts of tables that stay, what was told of them, and when the next may be copied anew
         self.lasting: set[str] = set()
         self.told: set[tuple[int, frozenset[str]]] = set()
         self.due = float("inf")
@@ -82,8 +81,7 @@ class Altered:
         return is_looked_at and text in self.remembered.found[kind].texts.keys() - self.lasting
 
     def look(self, connection: Connection) -> list[str]:
-        """Has tables copied anew, by what is known just after a look at the server. Returns the
-        kinds of which nothing stays found."""
+        """Has tables copied anew just after a look; the kinds of which nothing stays found."""
         self.lasting, self.due = set(), float("inf")
         if self.most is None:
             return []

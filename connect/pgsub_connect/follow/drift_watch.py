@@ -1,5 +1,4 @@
-"""Watches for what may make the copy wrong without a word: keeps what was found until somebody
-accepts it, and tells it."""
+"""Watches for what makes the copy wrong without a word, and keeps it until it is accepted."""
 
 import time
 from collections.abc import Iterable, Sequence
@@ -26,8 +25,7 @@ from .altered import Altered
 # looked at again, and that is tried again where it failed; and after how many they are looked at
 # where no message says that anything has changed.
 LATER, LOOK, AGAIN, AT_LEAST = 60.0, 1.0, 10.0, 600.0
-# At most a part in so many of the time is spent to tell the progress what was found, where that
-# takes more than so many seconds.
+# At most a part in so many of the time tells what was found, where it takes so many seconds.
 PART, LITTLE = 20, 0.005
 # For how many milliseconds a look waits for a lock. From 16 on the server opens each table for it.
 PATIENCE = 500

@@ -99,8 +99,7 @@ class Feeding:
         self.keeper: Keeper | None = None
         self.beside: Beside | None = None
         self.sinks: list[Sink] = []
-        # what tables and sinks are to have before the follower ends by itself, and from when on it is
-        # told that this is waited for
+        # what tables and sinks are to have before the end, and from when on that is told
         self.wanted: int | None = None
         self.tells_from = 0.0
         # the end of the last commit of which the tables were told
@@ -143,8 +142,7 @@ class Feeding:
         return self.checkpoint.known.phase in INTERRUPTED and self.folder == self.remembered.feed
 
     def check_new(self) -> None:
-        """Rejects what an older copy has left: the feed of a new store has nothing of an older
-        one's, nor have its readers and tables."""
+        """Rejects what an older copy has left, as its feed, which a new store has nothing of."""
         if self.folder:
             remove_begun(self.folder)
             if not self.goes_on() and not has_segments(self.folder):
@@ -280,8 +278,7 @@ class Feeding:
         return [*([self.beside] if self.beside else []), *self.sinks]
 
     def is_read(self, position: int) -> bool:
-        """Whether tables and sinks have what the store had when this was asked first. One that is to
-        end by itself waits for that."""
+        """Whether tables and sinks have what the store had first, which an end waits for."""
         if self.wanted is None:
             self.wanted, self.tells_from = position, time.monotonic() + UNTOLD
         wanted = self.wanted

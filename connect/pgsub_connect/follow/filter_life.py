@@ -151,8 +151,7 @@ class FilterLife:
             check_end(ended)
 
     def leave(self) -> None:
-        """Ends the filter in its own time where something else ends the run: what a killed one has
-        stored may not be counted."""
+        """Ends the filter in its own time: a killed one may not count what it stored."""
         with contextlib.suppress(FileError, FilterEnded, FilterFault, Passing):
             self.finish()
 
@@ -178,8 +177,7 @@ class FilterLife:
         self.progress.note_restart(str(ended))
 
     def tell_rejected(self, ended: FilterEnded) -> None:
-        """Tells which commit the filter has rejected: the first one above its store's position. All
-        up to there is counted."""
+        """Tells which commit, the first above its store's position, the filter has rejected."""
         if not ended.is_of_stream():
             return
         with contextlib.suppress(FilterEnded, Stopped):

@@ -31,8 +31,7 @@ from ..store.copied_rows import DONE, rows_frame
 from .process_beside import START, TablesSettings, environment
 
 CODE = f"{START}from pgsub_connect.store.%s import run; run()"
-# How much may wait for the process, in bytes, and how long it may take once it has all rows and the
-# follower ends, in seconds.
+# How many bytes may wait for the process, and how many seconds it has at the follower's end.
 ROOM, PATIENCE = 1 << 20, 20.0
 # How often it is looked whether to end, in seconds.
 STEP = 0.1

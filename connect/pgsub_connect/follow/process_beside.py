@@ -38,8 +38,7 @@ from ..status.progress import Progress
 from ..stream.filter import KEPT
 from .retention import read_lsn
 
-# The statuses that another try doesn't mend; one that was killed by a signal has none above 0. And
-# that of one that can't be started now.
+# The statuses that another try doesn't mend, and that of one that can't be started now.
 LASTING, PASSING = (1, 2, 3, 4, 5, 6), 7
 # After how many seconds it is started again, at first and at most, and when that is forgotten.
 FIRST_DELAY, LONGEST_DELAY, FORGET = 1.0, 60.0, 60.0

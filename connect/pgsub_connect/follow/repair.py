@@ -102,8 +102,7 @@ class Repairing:
         self.snapshots, self.hold, self.stream = snapshots, snapshots.hold, stream
         self.checkpoint, self.progress = watch.checkpoint, watch.progress
         self.remembered, self.noting = watch.remembered, confirming.noting
-        # whether the session asks for whole transactions because of this, and whether it ends since
-        # a repair is stored
+        # whether this asks for whole transactions, and whether it ends the session, once stored
         self.is_whole = self.ends_session = False
         # whether the progress was told that the stream is held for a repair
         self.is_shown = False
@@ -136,8 +135,7 @@ class Repairing:
         return self.hold.is_sent and point is not None and self.confirming.position >= point
 
     def look(self) -> None:
-        """Looks at the publications before the copy is taken: what was found up to here is of rows
-        that are compared then."""
+        """Looks at the publications before the copy: what was found is of rows in it."""
         self.texts = set()
         if self.watch.look_again(self.stream.attend, self.confirming.position):
             self.texts = {text for found in self.remembered.found.values() for text in found.texts}

@@ -98,8 +98,7 @@ class Requests:
         self.hold.end_session()
 
     def step(self) -> bool:
-        """Goes on with tables that are added, and rows that are repaired. Returns whether another
-        session is to begin for them."""
+        """Goes on with additions and repairs; whether another session is to begin for them."""
         # (behind a repair nothing is passed on in this session)
         self.repairing.step()
         if self.repairing.wants_session() or not self.hold.keeps and self.adder.wants_session():

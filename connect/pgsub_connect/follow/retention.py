@@ -27,8 +27,7 @@ from pgsub_feed.texts import parse_lsn
 
 @dataclasses.dataclass(frozen=True)
 class Limits:
-    """How many bytes a feed may have, and how old a segment that nobody needs may get, in seconds
-    since it was written last."""
+    """How many bytes a feed may have, and how old a segment may get that nobody needs."""
 
     most_bytes: int | None = None
     oldest: float | None = None
@@ -54,8 +53,7 @@ class Retired:
 
 
 def read_readers(folder: str) -> dict[str, int]:
-    """The LSN of each reader, by name. What else may be there is passed over: folders, and what an
-    NFS leaves of a file in use."""
+    """The LSN of each reader's file, by name; not of folders and what NFS leaves."""
     path, found = os.path.join(folder, READERS), dict[str, int]()
     with contextlib.suppress(FileNotFoundError), os.scandir(path) as there:
         for it in there:

@@ -1,5 +1,4 @@
-"""What is due at which time: how long a session waits for what comes, when it repeats a status,
-and when the next one begins."""
+"""What is due when: how long a session waits, when a status is repeated, a session begins."""
 
 import time
 
@@ -65,8 +64,7 @@ class Schedule:
         return max(0.0, min(wait, STEP))
 
     def keep_alive(self, silent: float) -> None:
-        """Repeats the last status at each heartbeat. A server that has been silent is asked for an
-        answer, and given up."""
+        """Repeats the last status at each heartbeat; a silent server is asked, and given up."""
         limit = self.silence
         if silent > limit:
             raise self.silent_error()

@@ -29,8 +29,7 @@ class SlotWarning:
         self.slot, self.state = slot, ""
 
     def note(self, status: str, safe: int | None, most: int) -> None:
-        """`safe`: how many bytes of log may come before it is lost; `most`: how many it may keep,
-        not above 0 where all."""
+        """`safe`: how many bytes of log may come, `most`: at most, not above 0 where all."""
         state = status if status in ("unreserved", "lost") else self.closeness(safe, most)
         if state != self.state:
             self.state = state

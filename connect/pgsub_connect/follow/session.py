@@ -1,5 +1,4 @@
-"""One session after the other: passes on what comes, and the filter's statuses, from its start to
-its end on either side."""
+"""One session after the other: passes on what comes, and the filter's statuses."""
 
 import time
 
@@ -88,8 +87,7 @@ class Session:
         self.silent = 0.0 if is_heard else self.silent + time.monotonic() - listens
         if statuses or self.confirming.held:
             self.confirming.forward(statuses)
-        # (what was read already of an encrypted connection doesn't wake select, nor what is read
-        # where a flush would block)
+        # (what TLS has read doesn't wake select, nor what is read where a flush would block)
         is_ready = socket in readable or socket in writable or not (readable or writable)
         if room and not more and (is_ready or connection.is_wrapped()):
             connection.consume()
@@ -97,8 +95,7 @@ class Session:
         return self.take_payloads(connection) if room and more else more
 
     def take_payloads(self, connection: Connection) -> bool | None:
-        """Passes on what has come. Returns false where there is no more yet, true where there may
-        be, None after the end."""
+        """Passes on what has come; whether there may be more now, None after the end."""
         hold, more = self.hold, True if self.hold.kept else None
         payloads = hold.take_kept()
         if more is None:
@@ -160,8 +157,7 @@ class Session:
         return True
 
     def renew(self, connection: Connection) -> None:
-        """Ends a session so that another one begins, with whole transactions where rows come from
-        here, or again without."""
+        """Ends a session so that another begins, of whole transactions or again without."""
         log.info("a session begins anew, because of rows that are added or repaired")
         self.delay.renew()
         connection.end_copy()

@@ -13,8 +13,7 @@ from .fitness import Fitting
 from .requests import Requests
 from .settings import FollowSettings
 
-# What a standby says that can't be followed: it has no such feature, or the slot is one that it
-# only keeps for its promotion.
+# What a standby that can't be followed says: it lacks the feature, or only keeps the slot.
 NOT_AT_STANDBYS = ("0A", "55000")
 
 
@@ -81,8 +80,7 @@ class SessionStart:
         )
 
     def fit(self, connection: Connection, server: Server) -> int:
-        """Checks that store, server and slot fit together, and notes whose changes the store has.
-        Returns from where the slot sends."""
+        """Checks that store, server and slot fit together; from where the slot sends."""
         fitting, position = self.fitting, self.confirming.position
         confirmed = self.filter.confirmed()
         fitting.check_server(server, confirmed, position)
@@ -98,8 +96,7 @@ class SessionStart:
         return slot_at
 
     def prepare(self, connection: Connection) -> None:
-        """Has what takes part in a session begin it, which tells what it asks for, and reads the
-        settings that it depends on."""
+        """Has each part begin the session, which tells what to ask for, and reads settings."""
         noting, form = self.life.noting, self.form
         standbys = connection.text("SHOW synchronous_standby_names")
         self.progress.server.note_name(connection.parameter("application_name"), standbys)

@@ -1,5 +1,4 @@
-"""What a follower is told of how it follows, whether it is to end, and in which form the server is
-asked for the stream."""
+"""How a follower follows, whether it is to end, and the stream's form that it asks for."""
 
 import dataclasses
 from collections.abc import Sequence

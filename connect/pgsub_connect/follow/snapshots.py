@@ -45,8 +45,7 @@ class Snapshots:
         self.asked = False
         self.next = time.monotonic()
         self.last: int | None = None
-        # who has asked for the copy that is made next or now, or has the stream held; and the file
-        # of a copy that may be made at any time
+        # who has asked for a copy, or has the stream held; the file of a copy at any time
         self.client: Client | None = None
         self.wanted: str | None = None
         # what makes one file of what was copied, and why that failed
@@ -54,12 +53,10 @@ class Snapshots:
         self.hold = Hold()
         # takes the tables of a request to add some, and returns why it doesn't
         self.adds: Callable[[dict[str, Any]], str | None] = lambda asked: "no table can be added"
-        # of the follower: whether large transactions come while they run, and an LSN that nothing
-        # that was passed on is above
+        # of the follower: whether large transactions are streamed, and an LSN above all passed on
         self.is_streaming: Callable[[], bool] = lambda: False
         self.reached: Callable[[], int] = lambda: 0
-        # whether commits at the server wait for the follower, whose synchronous_standby_names are
-        # these now, where they are told
+        # whether commits wait for it, by these synchronous_standby_names where they are told
         self.delays_commits: Callable[[str], bool] = lambda standbys: False
         # whether a request waits for a session of whole transactions
         self.wants_whole = False
@@ -81,8 +78,7 @@ class Snapshots:
         self.requests.wake()
 
     def is_due(self, position: int) -> bool:
-        """Whether to copy a store that is at this position: where it was asked for, or it is time
-        and the last copy is older."""
+        """Whether to copy a store at this position: asked for, or due and newer than the last."""
         self.requests.tend()
         if self.hold.is_held and not self.hold.is_for_copy():
             # (a table is being added: copies wait)

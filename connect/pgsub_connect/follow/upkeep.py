@@ -23,8 +23,7 @@ from ..stream.filter import Filter
 from .filter_life import STEP, FilterLife
 from .schedule import Schedule
 
-# How often it is looked at what the system says of the filter, and after how many seconds the
-# server is asked for the slot's state.
+# How often the system is asked of the filter, and when the server of the slot, in seconds.
 LOOK, NOTED = 0.2, 0.5
 # For how many seconds nothing may be read where the slot is about to end, and its states then.
 ENDANGERED = 2.0
@@ -123,8 +122,7 @@ class Upkeep:
         self.subscription = life.watch.subscription
 
     def serve_server(self) -> None:
-        """Keeps the server content while another connection is waited for, or a copy is made.
-        Raises where the end was asked for."""
+        """Keeps the server content during another wait. Raises where the end was asked for."""
         self.ending.check_stop()
         is_open = self.confirming.connection and self.filter.is_running()
         if is_open and self.schedule.is_status_due():

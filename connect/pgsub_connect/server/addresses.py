@@ -17,8 +17,7 @@ from ..errors import ServerError, Unconnected
 
 # After how many seconds a host is given up, at most.
 CONNECT_LIMIT = 10.0
-# The first libpq that can be told to connect to a primary alone. One whose transactions are
-# read-only by default is one, too.
+# The first libpq that can be told to connect to a primary, or what writes by default, alone.
 PRIMARY = 140000
 # The limits that a DSN can give for a host: libpq has none below two seconds, and 0 for none.
 LEAST_LIMIT, MOST_LIMIT = 2.0, 3600.0

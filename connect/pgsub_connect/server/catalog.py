@@ -101,8 +101,7 @@ class Table:
         return f"{identifier(self.namespace)}.{identifier(self.name)}"
 
     def query(self) -> str:
-        """The COPY of its published rows; a partitioned table is read with its partitions, any
-        other without its children."""
+        """The COPY of its published rows; with partitions, and without other children."""
         names = ", ".join(identifier(column.name) for column in self.columns)
         return f"COPY (SELECT {names} {self.source()}) TO STDOUT"
 
@@ -119,8 +118,7 @@ class Table:
         return f"FROM {only}{self.sql_name()}{where}"
 
     def logged_rows(self, leaves: list[str]) -> str:
-        """The rows of some leaves, each read by itself: by way of the root the foreign ones would
-        be read all the same."""
+        """The rows of some leaves, each by itself: the root would read the foreign ones, too."""
         names = ", ".join(identifier(column.name) for column in self.columns)
         where = f" WHERE {self.row_filter}" if self.row_filter else ""
         return " UNION ALL ".join(

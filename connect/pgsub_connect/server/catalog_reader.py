@@ -14,8 +14,7 @@ from .column_types import read_column_types
 from .connection import QUICK, Connection
 from .libpq import Row
 
-# From which version on pg_get_publication_tables says exactly which columns are sent, and from
-# which it knows lists and filters.
+# From which versions on the server tells exactly what columns are sent, and has lists and filters.
 EXACT, FINE = 180000, 150000
 # Whether an index of a table finds one row, so that it can be a replica identity.
 UNIQUE = "i.indisunique AND i.indisvalid AND i.indimmediate AND i.indpred IS NULL"
@@ -121,8 +120,7 @@ def read_tables(connection: Connection, names: list[str]) -> dict[int, Table]:
 
 
 def read_parts(connection: Connection, names: list[str], limit: float = INFINITE) -> list[Table]:
-    """The tables of each publication, with their part of that one, by OID. Row filters and column
-    lists came with PostgreSQL 15."""
+    """The tables of each publication, by OID. Row filters and column lists are of 15 and later."""
     fine = connection.version() >= FINE
     row_filter = "pg_catalog.pg_get_expr(g.qual, g.relid)" if fine else "NULL"
     listed = "pg_catalog.array_to_string(r.prattrs::pg_catalog.int2[], ',')" if fine else "NULL"
@@ -316,8 +314,7 @@ def read_members(connection: Connection, names: list[str]) -> Members:
 def note_since(
     tables: dict[int, Table], members: Members, partitions: dict[int, Partition]
 ) -> None:
-    """Notes of each table by what publications have it: itself, or what it is a partition of, with
-    who attached it there."""
+    """Notes what each table's publications have: itself, or what it was attached to, by whom."""
     for oid, table in tables.items():
         for name, part in table.parts.items():
             table.parts[name] = part._replace(

@@ -87,8 +87,7 @@ class Connection:
         return said_text(self.raw.error_message)
 
     def wait(self, until: float = float("inf")) -> None:
-        """Waits until something has come, and reads it. A signal is heard meanwhile, and the limit
-        holds, whatever comes."""
+        """Waits until something has come, and reads it, within the limit whatever comes."""
         has_come = False
         while not has_come:
             try:
@@ -107,8 +106,7 @@ class Connection:
                 return
 
     def look(self, until: float) -> None:
-        """Looks whether the end was asked for, and for the limit, where nothing is waited for since
-        it has come already."""
+        """Looks for the end and the limit where nothing is waited for, since it has come."""
         self.check()
         if time.monotonic() > until:
             self.cancel()
@@ -142,8 +140,7 @@ class Connection:
     def execute(
         self, command: str, wanted: tuple[pq.ExecStatus, ...], limit: float = float("inf")
     ) -> Rows:
-        """Runs a command and returns its rows, or begins its copy. `limit`: after how many seconds
-        the connection is given up."""
+        """Runs a command: its rows, or its copy. `limit`: when the connection is given up."""
         found, last = Rows(), None
         try:
             last = self.answer(command, time.monotonic() + limit, found)
@@ -224,8 +221,7 @@ class Connection:
         return self.raw.backend_pid
 
     def is_wrapped(self) -> bool:
-        """Whether bytes of the server may have been read without having come yet: where they are
-        encrypted, by TLS or GSSAPI."""
+        """Whether TLS or GSSAPI may have read bytes of the server that haven't come yet."""
         if self.raw.ssl_in_use or self.raw.host.startswith((b"/", b"@")):
             return bool(self.raw.ssl_in_use)
         return is_by_gssapi(self.raw) is not False
@@ -306,8 +302,7 @@ class Connection:
         self.note_left(self.wire.flush())
 
     def note_left(self, left: int) -> None:
-        """Notes what libpq says of sending: whether something waits, or that it failed. What ended
-        the stream before says why."""
+        """Notes whether something waits to be sent, or what has ended the stream."""
         if left < 0:
             self.broken = self.broken or ServerError(self.error())
             raise self.broken

@@ -31,8 +31,7 @@ CELL_HEADS = CellHeads()
 
 
 def unescaped(text: bytes) -> bytes:
-    """The value of a text that isn't null. An escaped backslash splits it into pieces in which each
-    other escape stands alone."""
+    """The value of a text, in whose pieces between escaped backslashes escapes stand alone."""
     pieces = text.split(b"\\\\")
     for index, piece in enumerate(pieces):
         if b"\\" in piece:

@@ -33,8 +33,7 @@ def connect(settings: dict[str, str], check: Check) -> tuple[pq.abc.PGconn, tran
 def connect_to_host(
     settings: dict[str, str], limit: float, check: Check
 ) -> tuple[pq.abc.PGconn, transport.Protection]:
-    """Connects to the first address of a host that can be reached. What another try doesn't mend is
-    the host's own answer."""
+    """Connects to a host's first address that answers. What lasts is the host's own answer."""
     errors = []
     for resolved in addresses_of(settings, check):
         try:

@@ -47,8 +47,7 @@ OWN = Budget()
 
 
 class Notices:
-    """Those of a connection. `left_out`: what pgoutput says of publications that aren't there at
-    this place in the log."""
+    """A connection's. `left_out`: what pgoutput says of publications that aren't there yet."""
 
     def __init__(self, left_out: list[str]) -> None:
         self.left_out = left_out

@@ -106,8 +106,7 @@ class Maker:
             connection.set_check(Waiting(self.dsn, self.name, self.check, locks).check)
             self.path = connection.value("SELECT pg_catalog.current_setting('search_path')") or ""
             self.is_standby = connection.value("SELECT pg_catalog.pg_is_in_recovery()") == "t"
-            # (whatever default_transaction_read_only says. The follower may be the standby for
-            # which a commit would wait)
+            # (whatever default_transaction_read_only says; a commit might wait for the follower)
             connection.run(
                 f"BEGIN{'' if self.is_standby else ' READ WRITE'}; SET LOCAL synchronous_commit = local;"
                 " SET LOCAL search_path = ''; SET LOCAL statement_timeout = 0; SET LOCAL lock_timeout = 0"

@@ -9,8 +9,7 @@ from .connection import Connection
 
 # What the server says of a change without a usable identity, or of one that isn't all published.
 REJECTED = ("55000", "42P10")
-# What says nothing of a table: a lost connection, a deadlock, no resources, a lock that wasn't to
-# be had, the end of the session.
+# What says nothing of a table: a lost connection, a deadlock, a lock, no resources.
 IN_THE_WAY = ("08", "40", "53", "55P03", "57")
 
 

@@ -63,8 +63,7 @@ def read_slot(connection: Connection, name: str) -> Slot | None:
 
 # The first versions that say why a slot is lost, and that end one which is idle.
 REASONS, IDLE = 170000, 180000
-# The class of errors of values, as of one that can't be converted to UTF-8, and how often one comes
-# at an LSN until it is taken for lasting.
+# The class of errors of values, and how often one comes at an LSN until it is lasting.
 DATA, MOST = "22", 5
 # The code of an error that another try doesn't mend.
 REFUSED = "22023"

@@ -23,8 +23,7 @@ from ..errors import ServerError, Unconnected
 
 # What a connection goes by.
 SOCKET, PLAIN, TLS, GSSAPI = "socket", "plain", "tls", "gssapi"
-# What a server has proved: that an authority has certified it, that it has the name that was asked
-# for, that it knows the password.
+# What a server has proved: an authority has certified it, its name, that it knows the password.
 AUTHORITY, NAME, BINDING = "authority", "name", "channel binding"
 # The sslmodes that may end in plain text, and those that look at the certificate.
 OPEN, VERIFIES = ("disable", "allow", "prefer"), ("verify-ca", "verify-full")
@@ -94,8 +93,7 @@ class Trust:
         self.was_encrypted = was_encrypted and "plaintext" not in accept
 
     def guarded(self, settings: dict[str, str]) -> dict[str, str]:
-        """The settings of a connection with the sslmode that it has to have. Raises where they ask
-        for plain text after TLS."""
+        """The settings with the sslmode that they need. Raises where TLS was in use, and isn't."""
         meant = defaults_of(settings.get("service", ""))
         meant |= {name: it for name, it in settings.items() if it}
         if is_socket(meant):

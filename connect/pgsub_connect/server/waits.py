@@ -77,8 +77,7 @@ def lock_text(what: str, pid: int) -> Callable[[Connection], str]:
 
 
 class Waiting:
-    """Is asked each half second while something is waited for. `text` says what that is, "" where
-    nothing is to be said."""
+    """Is asked while something is waited for, of which `text` says what, "" for nothing."""
 
     def __init__(
         self, dsn: str, slot: str, check_stop: Check, text: Callable[[Connection], str] = slot_text

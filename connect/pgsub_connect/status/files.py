@@ -232,8 +232,7 @@ class Replaced:
 
 
 def replace(path: str, text: str, mode: int) -> None:
-    """Puts a file with this text and mode in the place of one that is there. Who reads it finds one
-    of both as a whole."""
+    """Replaces a file by one with this text and mode: who reads it finds one of both whole."""
     new = path + NEW
     with contextlib.suppress(FileNotFoundError):
         os.unlink(new)

@@ -1,5 +1,4 @@
-"""How a follower is by its status file, as people read it: what isn't well, what mends it, and a
-screen that is drawn again."""
+"""How a follower is by its status file: what isn't well, what mends it, and a screen."""
 
 import sys
 from collections.abc import Callable, Iterable, Iterator, Mapping

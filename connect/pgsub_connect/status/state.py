@@ -145,8 +145,7 @@ class Lag:
         return max(end - self.confirmed, 0) if end else None
 
     def seconds(self, now: float) -> float | None:
-        """At most how old the oldest commit is that the copy lacks; 0 where it has all; None where
-        nothing is known of it."""
+        """How old the oldest commit may be that the copy lacks; 0 for none, None if unknown."""
         self.forget_reached()
         waits_since, last_commit = self.waits_since, self.last_commit
         if waits_since is not None:

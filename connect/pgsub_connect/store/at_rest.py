@@ -26,8 +26,7 @@ from .socket_file import SUFFIX, Asking
 
 # Where SQLite, and so the program, locks a file: the bytes of its readers.
 SHARED_FIRST, SHARED_SIZE = 0x40000002, 510
-# How long a follower may take until it begins to copy, and until it has its socket, in seconds;
-# and how often that is looked for.
+# How long a follower may take to begin a copy, to have its socket, and until another look.
 PATIENCE, STARTING = 300.0, 10.0
 LOOK = 0.1
 # The greatest position of a store whose load hasn't ended: each LSN of a server is above it.
@@ -90,8 +89,7 @@ def check_there(store: str) -> None:
 
 
 def has_log(store: str) -> bool:
-    """Whether a killed program has left rows that aren't in the file yet. (The log is beside the
-    file, whatever links to that.)"""
+    """Whether a killed program's log has rows: it is beside the file, whatever links to it."""
     try:
         return os.stat(real(store) + LOG).st_size > 0
     except FileNotFoundError:

@@ -58,8 +58,7 @@ MODE = 0o600
 PATIENCE = 60
 # How long a path may be, as JSON, beside which all findings have room.
 LONGEST_PATH = 1024
-# What stands before the two positions in what is known, and between them. (In a text of it each of
-# its quotes has a backslash.)
+# What is before and between the two positions. (In a text each quote has a backslash.)
 BEFORE, BETWEEN = '"confirmed":', ',"position":'
 # The kind of what is found by changes that found no row.
 MISSING = "missing"
@@ -126,8 +125,7 @@ class Checkpoint:
             time.sleep(0.2)
 
     def has_locked(self) -> bool:
-        """Locks the file. One that was removed since it was opened, as by `drop`, is no use:
-        another one is opened in its place."""
+        """Locks the file, or another one where `drop`, say, has removed the one that is open."""
         try:
             fcntl.flock(self.file, fcntl.LOCK_EX | fcntl.LOCK_NB)
         except BlockingIOError:

@@ -12,8 +12,7 @@ from .repeats_file import SUFFIX as REPEATS
 from .snapshot import NEW
 from .socket_file import SUFFIX
 
-# What follows a store's name in those of all its own files, the checkpoint last: as long as it is
-# there, a start tells what is missing.
+# What follows a store's name in those of its files, the checkpoint last, by which a start tells.
 OF_STORE = (NEW, *OF_FILE[1:], "", SUFFIX, REPEATS, ".tables.new", ".tables", ".connector")
 Identity = str | tuple[int, int]
 
@@ -31,8 +30,7 @@ def identities(*paths: str) -> set[Identity]:
 def check_apart(
     store: str, written: Sequence[tuple[str, str]], read: Sequence[tuple[str, str]]
 ) -> None:
-    """Rejects files to write that are a store's own, or that are named for something else too. Each
-    is an option with its path."""
+    """Rejects files to write, by their options, that are a store's own or named twice."""
     # (the connector's are beside the name that it was given, the program's beside what that links to)
     names = (store, os.path.realpath(store)) if store else ()
     own = identities(*(name + it for name in names for it in OF_STORE))
@@ -59,8 +57,7 @@ def check_meant(store: str) -> None:
 def check_into(
     store: str, into: str, is_earlier: Callable[[str], bool], what: str, option: str = "--into"
 ) -> None:
-    """Rejects a file to write that is there and isn't an earlier one, or is one of the store's
-    files. An option names it."""
+    """Rejects, by its option, a file to write that isn't an earlier one, or is the store's."""
     check_apart(store, [(option, into)], [])
     folder = os.path.dirname(real(into))
     if not os.path.isdir(folder):

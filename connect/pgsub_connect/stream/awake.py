@@ -24,8 +24,7 @@ Served = tuple[list[int], list[int], list[bytes]]
 
 
 def processors() -> float:
-    """How many processors this process may use at once: those that it may run on, as far as its
-    control groups leave them to it."""
+    """How many processors this process may use at once, by its control groups."""
     least = float(len(os.sched_getaffinity(0)))
     with contextlib.suppress(OSError):
         group = GROUPS / GROUP.read_text(encoding="utf-8").rpartition("0::")[2].strip().lstrip("/")

@@ -113,8 +113,7 @@ class Filter:
         version.check_program(self.words[0])
         words = self.watching(LOAD in more)
         try:
-            # (a session of its own: an interrupt at the terminal is for the connector, which ends
-            # the filter in its own time)
+            # (a session of its own: an interrupt at the terminal is for the connector)
             self.child = subprocess.Popen(
                 [*words, "--proto", str(self.proto), *more],
                 stdin=subprocess.PIPE,
@@ -189,8 +188,7 @@ class Filter:
         self.input.push(piece)
 
     def push_payloads(self, payloads: list[bytes]) -> None:
-        """Gives the filter CopyData with these payloads. A long one isn't copied together with
-        others: it may be the last only."""
+        """Gives the filter CopyData with these payloads, of which the last alone may be long."""
         if not payloads:
             return
         parts = [b""] * (2 * len(payloads))

@@ -44,8 +44,7 @@ from .hold import Hold
 LOOK, AGAIN = 0.01, 0.5
 # For how many seconds commits may wait since the stream is held.
 MOST = 1.5
-# So many bytes of a table's files, or of a store's where its file system can't share them, are read
-# or copied well within that time.
+# So many bytes of a table's or a store's files are read or copied within that time.
 TABLE, COPIED = 4 << 20, 256 << 20
 # A call of Linux that makes a file another one's copy without copying any of it.
 CLONE = 0x40049409
@@ -63,8 +62,7 @@ def waits_query(pid: int) -> str:
 
 
 class Gating:
-    """Moves up to where the stream goes on, and lets it go where commits would wait for too long.
-    `let_go` is told why."""
+    """Moves up to where the stream goes on. `let_go` is told why commits wait too long."""
 
     def __init__(
         self,

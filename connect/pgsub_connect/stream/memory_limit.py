@@ -79,8 +79,7 @@ class Kills:
         self.xid = 0
 
     def note(self, ended: FilterEnded, xid: int, size: int) -> None:
-        """Notes the end of a filter and the largest transaction at that time. Raises where a second
-        one was killed in it."""
+        """Notes a filter's end in its largest transaction. Raises at the second one in that."""
         if ended.status >= 0 or size < SMALL:
             return
         if xid != self.xid:

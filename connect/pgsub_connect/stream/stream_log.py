@@ -168,8 +168,7 @@ class Noting:
             self.asked = None
 
     def note_all(self, payloads: Sequence[bytes]) -> None:
-        """Notes payloads that were passed on, in one loop: a call for each would cost more than all
-        that is done for it."""
+        """Notes payloads that were passed on, in one loop, since a call for each costs more."""
         counts, end, total = self.counts, self.end, self.total
         for payload in payloads:
             total += len(payload)
@@ -217,8 +216,7 @@ class Noting:
             self.note_block(letter, payload)
 
     def note_relation(self, payload: bytes) -> None:
-        """Keeps a Relation message until its commit. One that came before in the same words costs
-        no more than that it came."""
+        """Keeps a Relation message until its commit, as one object where it was there before."""
         body = payload[self.end - 4 :]
         maker = payload[26:30] if self.current else b""
         self.relations.add(maker, self.relation_log.last_of(body))
@@ -300,8 +298,7 @@ class Noting:
         return max((end for end in self.ends if end <= confirmed), default=position)
 
     def rejected_text(self, position: int) -> str:
-        """What is said of the first commit above a store's position, which its filter has rejected;
-        "" where there is none."""
+        """What is said of the first commit above a position, which a filter rejected, or ""."""
         for end, (message, counts, about, _) in zip(self.ends, self.passed):
             if end > position:
                 lsn, most = lsn_text(final_lsn(message)), "at most " if about else ""

@@ -26,8 +26,7 @@ NAMED = 5
 
 
 class Described:
-    """The Relation messages of a transaction that is under way, in order: each with who sent it,
-    b"" outside of blocks."""
+    """A transaction's Relation messages, each with its subxid, b"" outside of blocks."""
 
     __slots__ = ("bodies", "makers", "oids", "listed")
 

@@ -65,8 +65,7 @@ def changes_of(plan: Plan, theirs: Group, ours: Group) -> Iterator[bytes]:
 
 
 class Changes:
-    """A file of changes, each one behind its length: one table after the other, and each one behind
-    its Relation message."""
+    """A file of changes, each behind its length, and table by table behind its Relation."""
 
     def __init__(self, path: str, store: str) -> None:
         number = os.open(path, os.O_WRONLY | os.O_CREAT | os.O_EXCL | os.O_CLOEXEC, 0o600)

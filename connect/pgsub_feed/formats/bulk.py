@@ -89,8 +89,7 @@ class Bulk(Objects):
         self.truncated, self.store, self.check = truncated, store, check
         self.command = command
         self.told = set[str]()
-        # by OID the names of the columns by which documents were named, and the tables that are
-        # left out since these aren't the key any more
+        # by OID: the columns that name documents, and the tables left out since that is no key now
         self.keys = dict[int, list[str]]()
         self.given_up = set[int]()
         # by OID a relation of the commit, and the key that it has there
@@ -148,8 +147,7 @@ class Bulk(Objects):
         return self.found[oid][1]
 
     def primary(self, commit: Commit, relation: Relation) -> tuple[tuple[str, ...], str]:
-        """The columns of the primary key of a table whose replica identity is another, and what is
-        told where there are none."""
+        """A table's primary key beside another replica identity, and what is told of none."""
         if relation.shape.identity not in OTHER:
             return (), ""
         if self.store is None:

@@ -7,8 +7,7 @@ from collections.abc import Iterator
 
 from ..interruption import Check
 
-# How much is read or written at once, in bytes, how long a line may be, and how often it is looked
-# meanwhile whether to end, in seconds.
+# How many bytes are read or written at once, and a line has, and how often it may end.
 CHUNK, LONGEST, STEP = 1 << 16, 1 << 20, 0.1
 
 

@@ -28,8 +28,7 @@ def make_folder(path: str, mode: int) -> None:
 
 
 class Noted:
-    """The LSN of a reader whose rows are in a file of SQLite's with a log beside it, or in none,
-    and on a disk already."""
+    """A reader's LSN, of rows in a file of SQLite's with a log, or on a disk already."""
 
     def __init__(self, feed: str, name: str, rows: str | None, mode: int) -> None:
         self.folder, self.rows, self.mode = os.path.join(feed, READERS), rows, mode

@@ -20,8 +20,7 @@ class Store(Protocol):
         """Whether its follower runs just now."""
 
     def export(self, into: str, form: str, chosen: Collection[str], check: Check) -> None:
-        """Makes an export of it: of these tables, all where none is named. `form`: how numerics are
-        kept, or each value."""
+        """Exports these tables of it, all where none is named. `form`: how numerics are kept."""
 
 
 @dataclasses.dataclass(frozen=True)

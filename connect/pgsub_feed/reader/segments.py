@@ -82,8 +82,7 @@ class Segment:
             ) from None
 
     def check(self, commit: Commit, offset: int) -> list[bytes]:
-        """Rejects a commit whose bytes at an offset aren't those that were written. Returns them,
-        unless there are many."""
+        """Rejects a commit whose bytes aren't as written. Returns them, unless there are many."""
         at = offset - COMMIT_SIZE
         pieces = summed(
             commit,
@@ -265,8 +264,7 @@ class Reader:
             raise Damaged(ORDER, segment.path, self.offset, text)
         if self.last != segment.base and (name := self.named(self.last)):
             return self.open(self.last, name) is not None
-        # (a segment is looked for by its name as long as others may be begun: there may be many,
-        # and this is asked again and again)
+        # (it is looked for by its name: there may be many, and this is asked again and again)
         there = self.listing.segments() if closing else []
         if there and there[-1][0] > self.last and not self.named(self.last):
             base = min(it for it, _ in there if it > self.last)
@@ -288,8 +286,7 @@ class Reader:
         )
 
     def look_after(self, segment: Segment) -> None:
-        """Lets go of a segment that was replaced, is gone, or was cut before where the reader is:
-        it may end there now."""
+        """Lets go of a segment that was replaced, removed, or cut before where the reader is."""
         if not segment.is_there() or segment.size() < self.offset:
             self.close()
 

@@ -16,8 +16,7 @@ from .segments import Reader
 
 
 class Image(NamedTuple):
-    """A row that was there before a change (`sign` 1), or is there since (-1): what is to be added,
-    so that it is taken back."""
+    """A row before a change (`sign` 1) or since (-1): what takes it back where it is added."""
 
     relation: Relation
     cells: Cells
@@ -29,8 +28,7 @@ class Gone(Passing):
 
 
 class Trail:
-    """Reads a feed from an LSN on, which all that is looked for is above, to another one, the
-    point, and from there on."""
+    """Reads a feed from an LSN that all is above to another one, the point, and on."""
 
     def __init__(self, folder: str, at: int) -> None:
         self.folder = folder

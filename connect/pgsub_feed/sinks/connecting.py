@@ -1,5 +1,4 @@
-"""Where a sink writes, and a connection to a server there, for whose parts nothing is waited
-longer than a moment at once."""
+"""Where a sink writes, and a connection that never waits for longer than a moment."""
 
 import argparse
 import errno

@@ -35,8 +35,7 @@ Message = TypeVar("Message")
 def whole(
     commit: Commit, messages: Callable[[], Iterable[Message]], check: Check, most: int = sys.maxsize
 ) -> Iterator[Message]:
-    """The messages of a commit, the first of them once all could be made: at once where it has at
-    most so many changes."""
+    """A commit's messages, the first once all could be made, where they aren't too many."""
     if commit.bytes <= ROOM and commit.changes <= most:
         yield from list(messages())
         return

@@ -82,8 +82,7 @@ class Exported(Base):
         return [with_key(it, primary) if primary else it for it, primary in self.told()]
 
     def told(self) -> list[tuple[Relation, tuple[str, ...]]]:
-        """The tables as messages told them, with the columns of their primary keys where their
-        replica identity is another."""
+        """The tables as messages told them, with primary keys beside other replica identities."""
         found = []
         for name, text in self.db.execute(
             f"SELECT name, definition FROM {RELATIONS} ORDER BY oid"

@@ -27,8 +27,7 @@ WAITS = f"it is waited for, and tried again at least every {LONGEST_DELAY:.0f} s
 
 
 class Outages:
-    """How long an engine is waited for, and what is told meanwhile: a line once it is away, and
-    one once it is there again."""
+    """How long an engine is waited for; a line tells that it is away, and is there again."""
 
     def __init__(self) -> None:
         self.delay = 0.0

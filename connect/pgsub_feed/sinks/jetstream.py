@@ -38,8 +38,7 @@ class Stored:
 
 @dataclasses.dataclass(frozen=True)
 class Info:
-    """What is told of a stream: how many messages it has, the sequences of the first and the last
-    one, and its subjects."""
+    """A stream: how many messages, the first sequence and the last, and its subjects."""
 
     messages: int
     first: int

@@ -22,8 +22,7 @@ CONNECT, LONGEST = 10.0, 30.0
 KILOBYTES, MOST = 65536, 100000
 # What a message needs beside its key, its value and its headers.
 AROUND, LARGEST = 200, "message.max.bytes"
-# What the sink itself decides, and no file: all messages of one producer are there in order up to
-# some message, or this ends.
+# What the sink decides, and no file: a producer's messages are in order, or this ends.
 OWN: dict[str, Any] = {
     "enable.idempotence": True,
     "acks": "all",
@@ -60,8 +59,7 @@ TOO_LARGE = ("MSG_SIZE_TOO_LARGE", "INVALID_MSG_SIZE", "RECORD_LIST_TOO_LARGE")
 
 
 def parts_of(url: str) -> tuple[str, dict[str, str]]:
-    """The servers of a URL as `kafka://one:9092,other?name=value`, and its words. (Python's own
-    rejects lists of addresses.)"""
+    """The servers and words of `kafka://one:9092,other?name=value`, with several addresses."""
     place, _, query = url.removeprefix("kafka://").partition("?")
     hosts = place.removesuffix("/").split(",")
     if not all(hosts) or "/" in place.removesuffix("/"):

@@ -205,8 +205,7 @@ def connect(
     check: Check,
     alone: Alone,
 ) -> Kafka:
-    """The engine of a URL as `kafka://host?config=FILE&schemas=true&NAME=VALUE`, which may say what
-    the other words do."""
+    """The engine of `kafka://host?config=FILE&schemas=true&NAME=VALUE`, and other words."""
     servers, parts = parts_of(url)
     path, told = parts.pop("config", config), parts.pop("schemas", "false") == "true" or schemas
     settings = read_settings([*words, *(f"{name}={it}" for name, it in parts.items())], told)

@@ -48,8 +48,7 @@ class Nats(Engine):
     def __init__(self, stream: JetStream, check: Check) -> None:
         self.stream, self.name, self.check = stream, stream.stream, check
         self.end, self.looked = 0, time.monotonic()
-        # of the commit of which a part is published already: where it ends, and the number of the
-        # last change, with what is said of that
+        # of the commit that is published in part: its end, the last change, and what it says
         self.part: tuple[int, int] | None = None
         self.part_said = b""
         # whether there is a part of a base
@@ -145,8 +144,7 @@ class Nats(Engine):
         self.part, self.end = None, commit.end
 
     def messages(self, commit: Commit, read: Read) -> Iterator[Said]:
-        """The messages of a commit that aren't there yet. Nothing is published of one that has a
-        change which is too large."""
+        """A commit's messages that aren't there yet, none where one of them is too large."""
         after = self.part[1] if self.part else -1
         is_known = after < 0
         for part in read():

@@ -37,8 +37,7 @@ class Said(NamedTuple):
 
 
 class Read(NamedTuple):
-    """What the id of a message says: its LSN, and which change it is of; None of the last one, and
-    -1 of a row of a base."""
+    """What a message's id says: its LSN and change; None of the last one, -1 of a base."""
 
     lsn: int
     n: int | None

@@ -19,8 +19,7 @@ from ..texts import shortened
 from .connecting import GRACE, is_loopback
 
 Command = Sequence[Union[bytes, str, int]]
-# The errors that may pass: it loads its files or runs a script, its memory or its disk is full, or
-# another one is the primary by now.
+# Errors that may pass: it loads, runs a script, is full, or another one is the primary.
 PASSES = (
     "LOADING",
     "BUSY",

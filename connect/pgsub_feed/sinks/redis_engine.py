@@ -45,8 +45,7 @@ OFTEN = 5.0
 
 
 class Form(Holder):
-    """How rows and changes are written. What it was given waits until it is written by `commands`,
-    or forgotten by `clear`."""
+    """How rows and changes are written: they wait for `commands`, or `clear` forgets them."""
 
     name: str
     is_keyed_only: bool

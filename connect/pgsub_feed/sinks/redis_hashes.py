@@ -175,8 +175,7 @@ class Hashes(Form):
             yield from unlinks(list(self.rows(name)))
 
     def carry(self, old: Kept, new: Kept) -> None:
-        """Gives rows another name, another key, or the fields of another shape. (A new column is
-        null, and so no field.)"""
+        """Gives rows another name, key or shape, in which a new column is null, so no field."""
         dropped = tuple(set(old.columns) - set(new.columns))
         is_same_key = old.keys == new.keys
         if old.name == new.name and is_same_key and not dropped:

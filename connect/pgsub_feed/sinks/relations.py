@@ -159,8 +159,7 @@ class Relations:
         return new
 
     def take_up(self, it: Change | Missed, lsn: int) -> Kept | None:
-        """A table that was left out and wouldn't be any more, once a TRUNCATE leaves no row of it
-        that would be missing."""
+        """A table that was left out, and needn't be once a TRUNCATE has left no row of it."""
         relation = it.relation
         if relation.oid in self.late:
             if isinstance(it, Change) and it.op == "t":

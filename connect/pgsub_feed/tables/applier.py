@@ -53,8 +53,7 @@ class Applier:
         self.is_free = self.joins and not has_triggers(self.db)
 
     def apply(self, commit: Commit, parts: Iterable[Part]) -> None:
-        """Makes the changes of a commit, all of them, or has them wait: whoever calls has begun a
-        transaction, and ends it."""
+        """Makes a commit's changes within the caller's transaction, or has them wait."""
         is_repair = commit.xid == XID
         if is_repair or not self.is_free:
             # (what waits is made as the commits that it is of, before anything is noted of this one)

@@ -69,8 +69,7 @@ class Fields:
         ]
 
     def of_row(self, row: Sequence[Value]) -> list[Field]:
-        """Those of a row of SQLite. What isn't UTF-8 there stays as it is, and is equal to nothing
-        that a server prints."""
+        """Those of a row of SQLite. What isn't UTF-8 there is equal to nothing of a server's."""
         # (a table without columns has one here)
         pairs = zip(self.columns, row, strict=True) if self.columns else ()
         return [

@@ -103,8 +103,7 @@ def extend(db: sqlite3.Connection, old: Kept, new: Kept) -> bool:
 
 
 def is_alike(old: Valued, new: Valued, columns: Iterable[int]) -> bool:
-    """Whether these columns of the new shape have the types in SQLite that theirs of the old one
-    have, if there are such."""
+    """Whether columns of the new shape have the types in SQLite of those of the old."""
     places = sources(old, new)
     return all(
         (was := places[at]) is None or old.target.types(was) == new.target.types(at)

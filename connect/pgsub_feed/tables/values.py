@@ -174,8 +174,7 @@ class Unlike(Exception):
 
 
 def read_columns(body: bytes) -> tuple[Column, ...]:
-    """The columns of a definition: an Int16 count, and of each a flag, its name with a zero byte,
-    and two Int32 for the type."""
+    """The columns of a definition: a count, and of each flag, name, zero byte, and type."""
     at, columns = 2, []
     for _ in range(int.from_bytes(body[:2], "big")):
         end = body.find(b"\0", at + 1)

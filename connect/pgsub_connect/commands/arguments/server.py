@@ -113,8 +113,7 @@ def warn_of_password(options: ServerOptions, dsn: str, readable: str) -> None:
 def followed_again(
     publications: Sequence[str], keyless: str, remembered: Sequence[str]
 ) -> list[str]:
-    """The publications that are named, and behind each the one that was made for Inserts alone,
-    where the store follows it."""
+    """The named publications, each with that of its Inserts alone which the store follows."""
     names = list(publications)
     if keyless == "inserts":
         pairs = ((it, inserts_of(it)) for it in publications)
