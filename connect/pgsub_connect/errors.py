@@ -36,10 +36,7 @@ class Unread(Failure):
 
     def __init__(self, text: str, status: int) -> None:
         super().__init__(text)
-        self.status = status
-
-    def exit_status(self) -> int:
-        return self.status
+        self.STATUS = status
 
 
 # The classes and codes of errors that another try doesn't mend: the feature, the login, the

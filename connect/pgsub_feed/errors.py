@@ -1,5 +1,7 @@
 """Why a program that reads a feed ends, or tries again, and what a feed is rejected for."""
 
+import contextlib
+from collections.abc import Iterator
 
 # Exit statuses.
 REJECTED, USAGE, FILE, SERVER, UNFIT, BUG, PASSING = 1, 2, 3, 4, 5, 6, 7
@@ -31,6 +33,15 @@ class FileError(Failure):
     """A file can't be used."""
 
     STATUS = FILE
+
+
+@contextlib.contextmanager
+def told_of(path: str) -> Iterator[None]:
+    """Tells of which file an error of the system is."""
+    try:
+        yield
+    except OSError as error:
+        raise FileError(f"{path}: {error.strerror}") from None
 
 
 class NoFeed(FileError):

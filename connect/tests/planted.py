@@ -339,8 +339,8 @@ BUGS = (
     Bug(
         "what isn't of use is kept",
         "pgsub_connect/store/repeats_file.py",
-        "        if self.since():\n            return\n",
-        "        if self.path:\n            return\n",
+        "        if not self.since():\n",
+        "        if not self.path:\n",
         ("test_repeats",),
     ),
     Bug(

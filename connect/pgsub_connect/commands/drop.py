@@ -14,7 +14,7 @@ from collections.abc import Callable, Iterable
 from typing import Any
 
 from pgsub_feed import log
-from pgsub_feed.errors import FileError, Passing, Unfit
+from pgsub_feed.errors import Passing, Unfit, told_of
 from pgsub_feed.files import OF_FILE, meant, own_files, remove
 from pgsub_feed.interruption import Check, never
 from pgsub_feed.json_texts import Unreadable, object_of, whole_of
@@ -213,10 +213,8 @@ class Dropper:
         if not files or not self.ask(f"remove {', '.join(files)}?"):
             return
         for path in files:
-            try:
+            with told_of(path):
                 remove_feed(path) if os.path.isdir(path) else remove(path)
-            except OSError as error:
-                raise FileError(f"{path}: {error.strerror}") from None
         gone = [it for it in files if not os.path.lexists(it)]
         log.info(f"removed {', '.join(gone)}")
         if read := [it for it in read if it not in gone]:

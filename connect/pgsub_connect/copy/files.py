@@ -2,9 +2,8 @@
 
 import contextlib
 import os
-from collections.abc import Iterator
 
-from pgsub_feed.errors import FileError, Unfit
+from pgsub_feed.errors import Unfit, told_of
 from pgsub_feed.files import LOG, meant, sync_folder
 from pgsub_feed.ownership import set_mode
 from pgsub_feed.texts import lsn_text
@@ -55,12 +54,3 @@ class CopyFiles:
                 with contextlib.suppress(FileNotFoundError):
                     set_mode(it, self.mode)
             sync_folder(self.store)
-
-
-@contextlib.contextmanager
-def told_of(path: str) -> Iterator[None]:
-    """Tells of which file an error is."""
-    try:
-        yield
-    except OSError as error:
-        raise FileError(f"{path}: {error.strerror}") from None

@@ -27,7 +27,7 @@ import dataclasses
 import os
 from typing import Any
 
-from pgsub_feed.errors import FileError, Passing
+from pgsub_feed.errors import Passing, told_of
 from pgsub_feed.files import remove, replace_file
 from pgsub_feed.json_texts import LARGEST, compact, object_of, parsed, read_plain
 from pgsub_feed.json_values import Form, Lsn, Oid, form_of
@@ -72,10 +72,8 @@ class DurableFile:
 
     def remove(self) -> None:
         self.first = 0
-        try:
+        with told_of(self.path):
             remove(self.path)
-        except OSError as error:
-            raise FileError(f"{self.path}: {error.strerror}") from None
 
 
 def append(path: str, content: bytes, inode: int, length: int) -> bool:

@@ -25,7 +25,7 @@ import time
 from collections.abc import Callable
 
 from pgsub_feed import log
-from pgsub_feed.errors import Damaged, FileError, Unfit
+from pgsub_feed.errors import Damaged, FileError, Unfit, told_of
 from pgsub_feed.interruption import Check, never, rest
 from pgsub_feed.reader.base import remove_begun
 from pgsub_feed.reader.folder import read_confirmed, segments
@@ -160,10 +160,8 @@ class Feeding:
             )
 
     def make_folder(self) -> None:
-        try:
+        with told_of(f"--feed {self.settings.folder}"):
             make_folder(self.folder, self.settings.mode)
-        except OSError as error:
-            raise FileError(f"--feed {self.settings.folder}: {error.strerror}") from None
 
     def note_begun(self) -> None:
         """Notes durably which feed, first rows and tables the store is to have: so the next start of

@@ -7,14 +7,10 @@ from pgsub_feed.version import VERSION
 
 from ..server.slot import Slot
 from .progress import STATES, Progress
-from .state import Counted, StreamCounters
+from .state import KINDS, Counted, StreamCounters
 
 GAUGE, COUNTER = "gauge", "counter"
-# The kinds of findings, and what the server says of a slot's log.
-KINDS = (
-    *("history", "slot", "names", "publication", "values", "rule", "repeat", "unwatched"),
-    "missing",
-)
+# What the server says of a slot's log.
 WAL_STATUSES = ("reserved", "extended", "unreserved", "lost")
 
 Value = int | float | None

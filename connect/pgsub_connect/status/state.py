@@ -157,6 +157,13 @@ class Lag:
         return max(now - max(known), 0.0) if known else None
 
 
+# The kinds of what may be found; the last, by changes that found no row.
+KINDS = (
+    *("history", "slot", "names", "publication", "values", "rule", "repeat", "unwatched"),
+    "missing",
+)
+
+
 @dataclasses.dataclass(frozen=True)
 class Counted:
     """What is known of changes that found no row."""

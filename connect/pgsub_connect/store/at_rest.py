@@ -13,7 +13,7 @@ import time
 from collections.abc import Iterator
 
 from pgsub_feed import log
-from pgsub_feed.errors import FileError, Passing
+from pgsub_feed.errors import FileError, Passing, told_of
 from pgsub_feed.files import LOG, copy, own_name, remove_files
 from pgsub_feed.interruption import Check
 from pgsub_feed.ownership import real
@@ -127,10 +127,8 @@ def hold(store: str) -> int:
 
     The lock is one of the open file: SQLite in this process may open and close the same file.
     """
-    try:
+    with told_of(store):
         file = os.open(store, os.O_RDONLY | os.O_CLOEXEC)
-    except OSError as error:
-        raise FileError(f"{store}: {error.strerror}") from None
     lock = struct.pack("hhqqi4x", fcntl.F_RDLCK, os.SEEK_SET, SHARED_FIRST, SHARED_SIZE, 0)
     try:
         fcntl.fcntl(file, fcntl.F_OFD_SETLK, lock)

@@ -46,12 +46,12 @@ from collections.abc import Iterator
 from typing import Any
 
 from pgsub_feed import log
-from pgsub_feed.errors import FileError, Passing, Unfit
+from pgsub_feed.errors import FileError, Passing, Unfit, told_of
 from pgsub_feed.interruption import Check, never
 from pgsub_feed.json_texts import GREATEST, Unreadable, open_plain
 from pgsub_feed.texts import lsn_text
 
-from ..status.state import Counted as Counted
+from ..status.state import KINDS as FOUND, Counted as Counted
 from .checkpoint_lines import NEW, SIZE, TEXT, Known, line_of, padded, read_file
 
 MODE = 0o600
@@ -60,21 +60,8 @@ PATIENCE = 60
 LONGEST_PATH = 1024
 # What is before and between the two positions. (In a text each quote has a backslash.)
 BEFORE, BETWEEN = '"confirmed":', ',"position":'
-# The kind of what is found by changes that found no row.
-MISSING = "missing"
-# All kinds of what may be found.
-KINDS = (
-    "slot",
-    "gap",
-    "history",
-    "names",
-    "publication",
-    "values",
-    "rule",
-    "repeat",
-    "unwatched",
-    MISSING,
-)
+# All kinds of what may be found, and that of changes that found no row.
+KINDS, MISSING = (*FOUND, "gap"), FOUND[-1]
 
 
 class Checkpoint:
@@ -86,29 +73,24 @@ class Checkpoint:
         self.around: tuple[str, str] | None = None
         self.file = self.opened()
         try:
-            self.lock(check)
-            line = read_file(self.file, self.path)
+            with told_of(self.path):
+                self.lock(check)
+                line = read_file(self.file, self.path)
+                os.fsync(self.file)
             self.number, self.known, self.counted = line.number, line.known, line.counted
             # the place of a line that the disk has; the other one is written
             self.durable = line.at
-            os.fsync(self.file)
-        except OSError as error:
-            os.close(self.file)
-            raise FileError(f"{self.path}: {error.strerror}") from None
         except BaseException:
             os.close(self.file)
             raise
 
     def opened(self) -> int:
-        try:
+        with told_of(self.path):
             file = os.open(self.path, os.O_RDWR | os.O_CREAT | os.O_CLOEXEC, MODE)
             if stat.S_IMODE(os.fstat(file).st_mode) & ~MODE:
-                # (of an earlier version of this program)
                 with contextlib.suppress(PermissionError):
                     os.fchmod(file, MODE)
             return file
-        except OSError as error:
-            raise FileError(f"{self.path}: {error.strerror}") from None
 
     def lock(self, check: Check) -> None:
         until = time.monotonic() + PATIENCE

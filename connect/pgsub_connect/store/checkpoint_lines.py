@@ -22,7 +22,7 @@ import re
 import zlib
 from typing import Annotated, Any
 
-from pgsub_feed.errors import FileError
+from pgsub_feed.errors import FileError, told_of
 from pgsub_feed.json_texts import Unreadable, lsn_of, parsed, text_of
 from pgsub_feed.json_values import Form, Oid, form_of, unkept
 from pgsub_feed.texts import lsn_text
@@ -133,7 +133,5 @@ def read_line(content: bytes, at: int, path: str) -> Line | None:
 
 def read_file(file: int, path: str) -> Line:
     """The line that counts of an open file."""
-    try:
+    with told_of(path):
         return read_lines(os.pread(file, 2 * SIZE, 0), path)
-    except OSError as error:
-        raise FileError(f"{path}: {error.strerror}") from None

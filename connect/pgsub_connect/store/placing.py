@@ -4,7 +4,7 @@ import contextlib
 import os
 from collections.abc import Callable, Sequence
 
-from pgsub_feed.errors import FileError, UsageError
+from pgsub_feed.errors import FileError, UsageError, told_of
 from pgsub_feed.files import OF_FILE, meant
 from pgsub_feed.ownership import real
 
@@ -64,10 +64,8 @@ def check_into(
         raise FileError(f"{option} {into}: there is no folder {folder}")
     if not os.path.lexists(meant(into)):
         return
-    try:
+    with told_of(into):
         is_good = os.path.isfile(into) and is_earlier(into)
-    except OSError as error:
-        raise FileError(f"{into}: {error.strerror}") from None
     if not is_good:
         raise FileError(
             f"{option} {into} is there and isn't {what}: remove it, or name another file"

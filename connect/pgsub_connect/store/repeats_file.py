@@ -12,7 +12,7 @@ import os
 import zlib
 from collections.abc import Callable, Iterable
 
-from pgsub_feed.errors import FileError
+from pgsub_feed.errors import told_of
 from pgsub_feed.files import remove
 
 from .checkpoint import Checkpoint
@@ -44,9 +44,6 @@ class RepeatsFile:
 
     def prepare(self) -> None:
         """Removes what isn't of use, before a filter begins."""
-        if self.since():
-            return
-        try:
-            remove(self.path)
-        except OSError as error:
-            raise FileError(f"{self.path}: {error.strerror}") from None
+        if not self.since():
+            with told_of(self.path):
+                remove(self.path)

@@ -79,10 +79,8 @@ class Link:
 
     def __init__(self, words: list[str], check: Check) -> None:
         pipe = subprocess.PIPE
-        try:
+        with errors.told_of(words[0]):
             self.child = subprocess.Popen(words, bufsize=0, stdin=pipe, stdout=pipe)
-        except OSError as error:
-            raise errors.FileError(f"{words[0]}: {error.strerror}") from None
         assert self.child.stdin and self.child.stdout
         self.pipes = Pipes(self.child.stdout.fileno(), self.child.stdin.fileno(), check)
 

@@ -23,15 +23,10 @@ from .server import has_begun
 from .words import within
 
 # What each of these options needs.
+OF_FEED = "segment_bytes", "segment_seconds", "max_bytes", "max_age", "base"
 NEEDS = {
-    "init": "tables",
-    "digests": "tables",
-    "indexes": "tables",
-    "feed_segment_bytes": "feed",
-    "feed_segment_seconds": "feed",
-    "feed_max_bytes": "feed",
-    "feed_max_age": "feed",
-    "feed_base": "feed",
+    **dict.fromkeys(("init", "digests", "indexes"), "tables"),
+    **dict.fromkeys((f"feed_{it}" for it in OF_FEED), "feed"),
 }
 
 

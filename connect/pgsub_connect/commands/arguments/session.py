@@ -12,6 +12,7 @@ from typing import Any, TypeVar
 from pgsub_feed.options import add_fields, lsn, option, size
 
 from ...record.recording import LONGEST
+from ...store.checkpoint import KINDS
 from ...stream.memory_limit import LONGEST_FRAME, MOST_PAGES, BufferLimits, default_buffered
 from .server import PLAINTEXT
 from .words import any_seconds, lsn_or_now, seconds, within
@@ -69,20 +70,7 @@ def settled_sizes(options: Settled) -> Settled:
     return dataclasses.replace(options, pgsub=options.pgsub or program(), **sizes)
 
 
-ACCEPTED = (
-    "history",
-    "slot",
-    "names",
-    "publication",
-    "values",
-    "missing",
-    "rule",
-    "repeat",
-    "unwatched",
-    "gap",
-    "all",
-    PLAINTEXT,
-)
+ACCEPTED = (*KINDS, "all", PLAINTEXT)
 
 
 # How far a server is watched.
