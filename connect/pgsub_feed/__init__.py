@@ -17,29 +17,9 @@ if TYPE_CHECKING:
     from .relation import BaseType, Column, ColumnType, Relation, TableTypes
     from .texts import lsn_text, parse_lsn
 
-__all__ = [
-    "BaseType",
-    "Change",
-    "Column",
-    "ColumnType",
-    "Commit",
-    "Damaged",
-    "Delete",
-    "FileError",
-    "Insert",
-    "Missed",
-    "Passing",
-    "Relation",
-    "Row",
-    "TableTypes",
-    "Truncate",
-    "Unfit",
-    "Update",
-    "lsn_text",
-    "parse_lsn",
-    "python_value",
-    "read",
-]
+__all__ = ["BaseType", "Change", "Column", "ColumnType", "Commit", "Damaged", "Delete", "FileError"]
+__all__ += ["Insert", "Missed", "Passing", "Relation", "Row", "TableTypes", "Truncate", "Unfit"]
+__all__ += ["Update", "lsn_text", "parse_lsn", "python_value", "read"]
 # Where each is; it is imported once it is asked for, so that a short command begins at once.
 HOMES = {
     "consumer": ("read",),

@@ -14,15 +14,8 @@ from .interruption import Check, interrupt
 
 # What may be otherwise at a later start.
 PASSING_ERRORS = (
-    errno.ENOSPC,
-    errno.EDQUOT,
-    errno.ENOMEM,
-    errno.EAGAIN,
-    errno.EMFILE,
-    errno.ENFILE,
-    errno.ESTALE,
-    errno.ETIMEDOUT,
-    errno.EHOSTDOWN,
+    *(errno.ENOSPC, errno.EDQUOT, errno.ENOMEM, errno.EAGAIN, errno.EMFILE, errno.ENFILE),
+    *(errno.ESTALE, errno.ETIMEDOUT, errno.EHOSTDOWN),
 )
 
 # How many objects more are there until Python looks for cycles of garbage, and how often it looks

@@ -97,21 +97,10 @@ DENIED = "42501"
 # begins.)
 REQUIRED = ("version", "wal_level", "replication_slots", "standby", "encoding")
 JUDGES: tuple[Callable[[Facts, server.Purpose], server.Judged], ...] = (
-    server.judge_version,
-    server.judge_wal_level,
-    server.judge_slots,
-    server.judge_senders,
-    server.judge_role,
-    judge_publications,
-    judge_identities,
-    server.judge_reading,
-    server.judge_slot,
-    server.judge_keeping,
-    server.judge_sender_timeout,
-    server.judge_connection,
-    server.judge_standby,
-    server.judge_prepared,
-    judge_locks,
+    *(server.judge_version, server.judge_wal_level, server.judge_slots, server.judge_senders),
+    *(server.judge_role, judge_publications, judge_identities, server.judge_reading),
+    *(server.judge_slot, server.judge_keeping, server.judge_sender_timeout),
+    *(server.judge_connection, server.judge_standby, server.judge_prepared, judge_locks),
     server.judge_encoding,
 )
 

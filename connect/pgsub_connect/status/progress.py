@@ -51,23 +51,12 @@ class ServerState:
             self.was_promoted = True
 
 
-# What a follower may be at.
+# What a follower may be at, and of that what it is at where it is about to end.
+ENDING = "stopping", "stopped", "failed"
 STATES = (
-    "starting",
-    "copying",
-    "opening the store",
-    "connecting",
-    "following",
-    "copying the store",
-    "adding a table",
-    "repairing rows",
-    "waiting to connect again",
-    "stopping",
-    "stopped",
-    "failed",
+    *("starting", "copying", "opening the store", "connecting", "following", "copying the store"),
+    *("adding a table", "repairing rows", "waiting to connect again", *ENDING),
 )
-# Those in which it is about to end.
-ENDING = STATES[-3:]
 # For how many seconds a loss of the filter is counted, and how many of them.
 LATELY, MOST = 600.0, 1000
 

@@ -37,10 +37,8 @@ def read_bool(text: str) -> bool:
 def read_float(text: str) -> float | str:
     """A number of floating point. NaN and infinities are texts, as Connect writes them."""
     number = float(text)
-    return number if math.isfinite(number) else str_of(number)
-
-
-def str_of(number: float) -> str:
+    if math.isfinite(number):
+        return number
     return "NaN" if math.isnan(number) else "Infinity" if number > 0 else "-Infinity"
 
 

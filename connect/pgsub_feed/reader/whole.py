@@ -11,7 +11,7 @@ from ..json_texts import compact
 from ..tables.schema import table_line
 from ..texts import lsn_text
 from .base import FirstRows, Section, base_of_feed
-from .commits import Cell, Commit, Part, TableLine
+from .commits import Commit, Part, TableLine
 from .folder import segments
 from .lines import as_change
 from .segments import Reader, read_source
@@ -53,7 +53,8 @@ class Sections:
         assert self.section
         yield table_line(self.section.relation)
         for row in self.section.rows:
-            yield compact([cell_json(it) for it in row]).encode()
+            cells = [{"hex": it.hex()} if isinstance(it, bytes) else it for it in row]
+            yield compact(cells).encode()
 
 
 def parts_of(section: Section, before: int, op: str = BASE) -> Iterator[Part]:
@@ -62,10 +63,6 @@ def parts_of(section: Section, before: int, op: str = BASE) -> Iterator[Part]:
     yield TableLine(relation)
     for n, cells in enumerate(section.rows, before):
         yield as_change((op, relation, n, None, cells))
-
-
-def cell_json(cell: Cell) -> object:
-    return {"hex": cell.hex()} if isinstance(cell, bytes) else cell
 
 
 class Whole(Reader):

@@ -37,13 +37,8 @@ END = b"\r\n"
 MESSAGES = (b"MSG", b"HMSG")
 # What a server says where another try ends in the same way.
 LASTING = (
-    "authorization",
-    "authentication",
-    "permissions",
-    "maximum payload",
-    "parser",
-    "unknown protocol",
-    "invalid",
+    *("authorization", "authentication", "permissions", "maximum payload", "parser"),
+    *("unknown protocol", "invalid"),
 )
 
 

@@ -21,16 +21,8 @@ from .connecting import GRACE, is_loopback
 Command = Sequence[Union[bytes, str, int]]
 # Errors that may pass: it loads, runs a script, is full, or another one is the primary.
 PASSES = (
-    "LOADING",
-    "BUSY",
-    "OOM",
-    "MISCONF",
-    "READONLY",
-    "MASTERDOWN",
-    "CLUSTERDOWN",
-    "TRYAGAIN",
-    "NOREPLICAS",
-    "NOGOODSLAVE",
+    *("LOADING", "BUSY", "OOM", "MISCONF", "READONLY", "MASTERDOWN", "CLUSTERDOWN", "TRYAGAIN"),
+    *("NOREPLICAS", "NOGOODSLAVE"),
 )
 # What TLS says where the host rejects the certificate of a sink, or wants one.
 OF_CERTIFICATE = ("CERTIFICATE", "UNKNOWN_CA")
@@ -48,13 +40,10 @@ class Said(Exception):
     def __init__(self, text: str) -> None:
         super().__init__(shortened(text))
 
-    def is_passing(self) -> bool:
-        return str(self).startswith(PASSES)
-
 
 def raised(said: Said, where: str) -> Exception:
     """What an error is for the sink."""
-    return (Passing if said.is_passing() else EngineError)(f"{where}: {said}")
+    return (Passing if str(said).startswith(PASSES) else EngineError)(f"{where}: {said}")
 
 
 @contextlib.contextmanager

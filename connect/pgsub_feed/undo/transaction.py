@@ -116,37 +116,10 @@ SETTLED = {**PRINTING, "xmloption": "content", "array_nulls": "on", "row_securit
 # text, oid, float4, float8, macaddr, inet, bpchar, varchar, date, time, timestamp, timestamptz,
 # interval, timetz, bit, varbit, numeric, uuid, pg_lsn, jsonb. The operator of another type may be
 # in any schema, or be that of a type which reads the constant in another way.
-COMPARED = frozenset(
-    (
-        16,
-        17,
-        18,
-        19,
-        20,
-        21,
-        23,
-        25,
-        26,
-        700,
-        701,
-        829,
-        869,
-        1042,
-        1043,
-        1082,
-        1083,
-        1114,
-        1184,
-        1186,
-        1266,
-        1560,
-        1562,
-        1700,
-        2950,
-        3220,
-        3802,
-    )
-)
+COMPARED = {
+    *(16, 17, 18, 19, 20, 21, 23, 25, 26, 700, 701, 829, 869, 1042, 1043, 1082, 1083, 1114, 1184),
+    *(1186, 1266, 1560, 1562, 1700, 2950, 3220, 3802),
+}
 # What an editor or a terminal may make another character of.
 CONTROLS = {it: f"\\x{it:02x}" for it in (*range(1, 32), 127)}
 CONTROLS |= {it: f"\\u{it:04x}" for it in range(0x80, 0xA0)}
@@ -164,14 +137,8 @@ CREATE TEMPORARY TABLE pgsub_settings ON COMMIT DROP AS
 SETTLE = f"DO $pgsub$ BEGIN {restore_sql.TO_OURS} END $pgsub$;\n"
 END = f"DO $pgsub$ BEGIN {restore_sql.TO_THEIRS} END $pgsub$;\nCOMMIT;\n"
 STEPS = (
-    restore_sql.CHECK,
-    restore_sql.DESCRIBE,
-    restore_sql.READ,
-    restore_sql.FIND,
-    restore_sql.REPLACE,
-    restore_sql.REFERENCES,
-    restore_sql.CHANGE,
-    restore_sql.LOOK,
+    *(restore_sql.CHECK, restore_sql.DESCRIBE, restore_sql.READ, restore_sql.FIND),
+    *(restore_sql.REPLACE, restore_sql.REFERENCES, restore_sql.CHANGE, restore_sql.LOOK),
 )
 
 
