@@ -51,9 +51,8 @@ READ: dict[int, Callable[[str], object]] = {
 
 
 def python_value(column: Column, cell: Cell, base: BaseType | None = None) -> object:
-    """A value as bool, int, float, Decimal, bytes, date, time, datetime or UUID. What Python's type
-    can't hold, as the date `infinity`, stays as it is, as do values of any other type. `base`: what
-    a domain is of."""
+    """A value as bool, int, float, Decimal, bytes, date, time, datetime or UUID. What Python can't
+    hold, as the date `infinity`, stays, as does any other type. `base`: what a domain is of."""
     if cell is None:
         return None
     oid = base.oid if base else column.type_oid

@@ -116,9 +116,8 @@ def remove_files(path: str) -> None:
 
 @contextlib.contextmanager
 def placed(into: str, mode: int, check: Check = never) -> Iterator[str]:
-    """Gives the name of a new empty file, which gets the name `into` and the mode at the end, once
-    the disk has it and unless `check` raises. A link stays, and leads to it. An error leaves
-    nothing of it."""
+    """Gives the name of a new empty file, which gets its mode and the name `into`, where a link
+    leads, once the disk has it and unless `check` raises. An error leaves nothing of it."""
     into = meant(into)
     new = own_name(into)
     try:

@@ -102,8 +102,7 @@ class KnownTables:
 
     def wait(self, oid: int, lsn: int, check: Check) -> None:
         """Waits until a table is known, as long as the server wasn't looked at after this LSN: its
-        follower does so once the stream has a new table. (Where none runs nothing is known soon.)
-        """
+        follower does so once the stream has a new table. (Where none runs, never.)"""
         self.look()
         end = time.monotonic() + PATIENCE
         while oid not in self.tables and self.lsn < lsn and self.stamp not in (None, self.waited):

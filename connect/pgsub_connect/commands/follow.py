@@ -158,9 +158,8 @@ def own_files(store: str) -> set[str]:
 def leaving_nothing(
     checkpoint: Checkpoint, before: set[str], others: Iterable[str | None]
 ) -> Iterator[None]:
-    """Removes what wasn't among a store's files before, and others that weren't there, as a feed;
-    unless there is a slot by now that the next start goes on with. The checkpoint is locked, and so
-    goes last."""
+    """Removes what wasn't among a store's files before, and others, unless there is a slot by now
+    that the next start goes on with. The checkpoint is locked, and so goes last."""
     new = [it for it in others if it and not os.path.lexists(it)]
     try:
         yield

@@ -42,8 +42,8 @@ class CopiedTables:
         self, plain: Connection, tables: list[Table], before: Catalog, point: int
     ) -> list[Table]:
         """Those of the tables that are published still once the slot is made, the largest first:
-        what is cut later is what can be added by itself. Those that were altered meanwhile are left
-        for later."""
+        what is cut later can be added by itself. Those that were altered meanwhile are left for
+        later."""
         after = self.catalog(plain)
         if before.publications != after.publications:
             raise ServerError(CHANGED)

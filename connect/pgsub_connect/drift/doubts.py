@@ -70,9 +70,8 @@ def asking(connection: Connection) -> Iterator[None]:
 
 @understood("columns")
 def are_empty(connection: Connection, table: Table, columns: Sequence[str]) -> bool:
-    """Whether it is certain that columns which were added are null in all rows that were there. (Of
-    a partitioned table each partition would have to be asked, and a column list may have had a
-    column join.)"""
+    """Whether it is certain that added columns are null in all rows that were there. (Each
+    partition would have to be asked, and a column list may have had a column join.)"""
     if table.kind != "r" or any(it.listed is not None for it in table.parts.values()):
         return False
     named = ", ".join(map(literal, columns))

@@ -22,9 +22,8 @@ def logging_differences(
 
 
 def attached(before: Catalog, now: Catalog) -> dict[int, list[str]]:
-    """The partitions that weren't published, and are by what they were attached to, which was: each
-    with the transactions that have attached it, or what it is in. Rows that are older than these
-    weren't sent."""
+    """The partitions that weren't published, and were attached to what was: each with the
+    transactions that did so. Rows that are older than these weren't sent."""
     found = {}
     for oid, partition in now.partitions.items():
         is_known = oid in before.partitions or oid in before.tables

@@ -36,9 +36,8 @@ class Outstanding:
 
 
 class Unsaved:
-    """What isn't on the disk yet. `is_urgent`: it has to be there before anything more is
-    confirmed; `is_changed`: anything new; `is_other`: anything but what Relation messages said,
-    which are `noted`."""
+    """What isn't on the disk yet. `is_urgent`: it has to be before anything more is confirmed;
+    `is_changed`: anything new; `is_other`: anything but what Relation messages said (`noted`)."""
 
     def __init__(self) -> None:
         self.clear()

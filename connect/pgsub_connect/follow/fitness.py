@@ -34,8 +34,7 @@ class Fitting:
     def check_server(self, server: Server, confirmed: int, position: int) -> None:
         """Checks that this is the server whose changes the store has, and that it has all of them.
         On another timeline it needn't be beyond what a keepalive alone has confirmed: a standby
-        that was promoted never had what isn't published behind its last commit.
-        """
+        that was promoted never had what isn't published behind its last commit."""
         known, remembered = self.checkpoint.known, self.watch.remembered
         slot = self.subscription.slot
         is_same = is_same_database(known.database, remembered.database, server)

@@ -140,8 +140,7 @@ class Upkeep:
 
     def require_server(self) -> None:
         """Asks the server on another connection whether it is there, where nothing has come for too
-        long: of the session nothing is read meanwhile, and it may need that long for what is waited
-        for."""
+        long: the session may need that long for what is waited for."""
         if not self.schedule.is_silent():
             return
         subscription = self.subscription

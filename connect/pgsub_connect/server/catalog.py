@@ -128,10 +128,9 @@ class Table:
 
 @dataclasses.dataclass(frozen=True)
 class Partition:
-    """A partition or a partitioned table; `parent` is 0 of one that is in no other. `made`: it was
-    made there, and not attached; `node`: the number of the file with its rows, 0 where that isn't
-    known; `since`: which transaction has attached it, "" where that isn't known; `logged` and
-    `toast` as of a table."""
+    """A partition or a partitioned table; `parent` is 0 of one in no other. `made`: it was made
+    there, and not attached; `node`: the number of its file, or 0; `since`: which transaction has
+    attached it, "" if unknown; `logged` and `toast` as of a table."""
 
     oid: Oid
     parent: Oid

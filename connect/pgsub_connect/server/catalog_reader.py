@@ -291,9 +291,8 @@ PUT = (
 
 
 def read_members(connection: Connection, names: list[str]) -> Members:
-    """The relations that the publications list, or whose schemas they do. What left a list and
-    joined it again has another OID there, and what left a schema was put there by another
-    transaction."""
+    """The relations that publications list, or whose schemas they do. What left a list or a schema
+    and came back has another OID or transaction there."""
     listed = f"p.pubname IN ({listed_names(names)})"
     query = (
         "SELECT p.pubname, r.prrelid, r.oid::pg_catalog.text FROM pg_catalog.pg_publication p JOIN pg_catalog.pg_publication_rel r ON r.prpubid = p.oid"
@@ -326,8 +325,7 @@ def ways_to(
     oid: int, members: dict[int, list[str]], partitions: dict[int, Partition]
 ) -> Iterator[str]:
     """What says that a publication has a relation, or one above it: `16401`, `16388/741` of one
-    that transaction 741 has attached, `16390@742` of one that transaction 742 has put into a
-    schema."""
+    that transaction 741 has attached, `16390@742` of one that 742 has put into a schema."""
     way = ""
     while oid:
         yield from (entry + way for entry in members.get(oid, ()))
@@ -345,11 +343,10 @@ PARTS = (
 
 
 def read_types(connection: Connection, oids: list[int]) -> dict[int, dict[str, str]]:
-    """What the text of a value depends on beside the value: the labels of enumerations by their
-    OID, and the types of the parts of composite types by their number. Both of all types that
-    columns have in them: in arrays, domains, ranges, composites. Of those that aren't composites
-    themselves which types they have in them, where that leads to such a one.
-    """
+    """What the text of a value depends on beside it: labels of enumerations by their OID, and types
+    of composite types' parts by number. Both of all types that columns have in them, in arrays,
+    domains, ranges, composites. Of the other types, which types they have in them that lead to such
+    a one."""
     rows = connection.rows(
         "WITH RECURSIVE t (oid) AS ("
         f" SELECT a.atttypid FROM pg_catalog.pg_attribute a WHERE a.attrelid IN ({listed_oids(oids)}) AND a.attnum > 0"

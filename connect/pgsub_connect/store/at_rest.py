@@ -1,7 +1,6 @@
-"""A store's file at rest, for whoever reads it: where the store is followed, a copy that its
-follower is asked for; and whether it has all rows of its initial copy. As long as it hasn't, its
-file has the store's name already, at a position that is none of a server's; its checkpoint says so.
-"""
+"""A store's file at rest, for whoever reads it: where it is followed, a copy that its follower is
+asked for; and whether it has all rows of its initial copy. Until then its file has the store's
+name, at a position that is none of a server's, and its checkpoint says so."""
 
 import contextlib
 import errno

@@ -38,9 +38,8 @@ READ = 1 << 20
 
 
 class Wanted(NamedTuple):
-    """The file, the store that it is of, whose tables are remembered, and the feed that it is to
-    follow; how it has numerics; its mode; and the LSN as of which the rows are. The process is told
-    it as a list of JSON."""
+    """The file, and the store that it is of, whose tables are remembered; the feed to follow; how
+    it has numerics; its mode; the LSN of the rows. The process is told it as a list of JSON."""
 
     into: str
     store: str

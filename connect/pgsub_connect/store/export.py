@@ -203,9 +203,8 @@ def repeated(
 
 @dataclasses.dataclass(frozen=True)
 class ExportSettings:
-    """Which store is exported into which file. `form`: how numerics are kept, or each value;
-    `chosen`: the tables that are named, all where there are none; `has_indexes`: with the server's
-    indexes."""
+    """Which store is exported into which file. `form`: how numerics or values are kept; `chosen`:
+    the named tables, all where there are none; `has_indexes`: with the server's indexes."""
 
     store: str
     into: str

@@ -66,10 +66,9 @@ class FilterEnded(Failure):
         return self.status == SPOOL_FULL
 
     def has_told_all(self) -> bool:
-        """Whether it has said of all commits that it stored which of their changes found no row:
-        also of those that came right before one that it rejected, which it doesn't confirm. One
-        that was killed hasn't, nor one whose store, memory or output failed.
-        """
+        """Whether it has said of all stored commits which changes found no row: also of those right
+        before one that it rejected, which it doesn't confirm. One that was killed hasn't, nor one
+        whose store, memory or output failed."""
         return self.status >= 0 and self.status not in PASSING
 
     def is_unopened(self) -> bool:

@@ -49,11 +49,10 @@ from .view import View, check_tables
 
 @dataclasses.dataclass(frozen=True)
 class TablesComparison:
-    """Which tables are compared: those of a file with the server of `subscription`, or with those
-    of another file. `store`: whose publications are meant; `feed`: what the file follows, "" for
-    the folder that it names; `digests`: by the digests that are kept; `chosen`: the tables that are
-    named; `hold`: for how many seconds a slot is waited for; `show`: how many keys that differ are
-    printed."""
+    """Which tables are compared: those of a file with the server of `subscription`, or those of
+    another file. `store`: whose publications are meant; `feed`: what the file follows, or "";
+    `digests`: by those that are kept; `chosen`: the named tables; `hold`: for how many seconds a
+    slot is waited for; `show`: how many keys that differ are printed."""
 
     subscription: Subscription
     path: str

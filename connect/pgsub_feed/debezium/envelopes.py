@@ -55,9 +55,8 @@ TRANSACTION_VALUE = schema_text(
 
 
 class Message(NamedTuple):
-    """A message of a topic: `key` and `value` are JSON, or None. `n` is the number of its change in
-    the commit, and `part` that of the message among the change's. `is_to_all`: it is for each
-    partition."""
+    """A message of a topic: `key` and `value` are JSON, or None. `n` is the number of its change,
+    `part` that of the message among the change's. `is_to_all`: it is for each partition."""
 
     topic: str
     key: bytes | None

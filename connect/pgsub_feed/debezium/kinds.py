@@ -37,9 +37,8 @@ STRING: Schema = {"type": "string"}
 
 
 class Kind(NamedTuple):
-    """A schema without what a field has of its own, and what makes of a text the value that JSON
-    has. That raises a ValueError, a LookupError or an ArithmeticError where it can't.
-    """
+    """A schema without what a field has of its own, and what makes JSON's value of a text. That
+    raises a ValueError, a LookupError or an ArithmeticError where it can't."""
 
     schema: Schema
     read: numbers.Read

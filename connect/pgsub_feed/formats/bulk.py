@@ -73,9 +73,8 @@ Documents = dict[tuple[str, str], Row]
 
 
 class Bulk(Objects):
-    """The lines of a bulk request. `truncated` is the commit whose TRUNCATEs the user has made in
-    the indexes already, and `command` makes them; the store knows the primary keys that no message
-    tells."""
+    """The lines of a bulk request. `truncated` is the commit whose TRUNCATEs were made in the
+    indexes already, and `command` makes them; the store knows primary keys."""
 
     def __init__(
         self,

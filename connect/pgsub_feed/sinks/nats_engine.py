@@ -108,9 +108,8 @@ class Nats(Engine):
         return rows
 
     def remove_left(self) -> None:
-        """Removes the part of a base that a sink has left, but for its last message: by that the
-        next start knows what there is. One that publishes it still would go on, and never know of
-        it."""
+        """Removes the part of a base that a sink has left, but for its last message, by which a
+        start knows it. One that publishes it still would go on, and never know of it."""
         rest(STILL, self.check, STILL / 20)
         if self.stream.last() != self.stream.sequence:
             raise Passing(f"{self.stream.where}: another sink publishes the rows of a base there")

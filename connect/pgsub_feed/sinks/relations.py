@@ -169,9 +169,8 @@ class Relations:
         return None
 
     def primary(self, relation: Relation, kept: Kept | None, lsn: int) -> tuple[str, ...]:
-        """The columns of the primary key of a table whose replica identity is another, as the store
-        knows it: where that doesn't fit, and where it knows none, those that the table has, as long
-        as they hold."""
+        """The columns of the primary key of a table with another replica identity, as the store
+        knows it; where it knows none that fits, those that the table has, as long as they hold."""
         if relation.shape.identity not in OTHER or not self.is_keyed_only:
             return ()
         oid, columns = relation.oid, {it.name for it in relation.shape.columns}

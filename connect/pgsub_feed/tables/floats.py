@@ -1,7 +1,6 @@
-"""Numbers of floating point as the server prints them: the shortest digits that lie within what is
-rounded to the number, and not at its bound. (src/common/d2s.c and f2s.c of PostgreSQL; Python's
-repr takes those at a bound too, as 1e+23 for what is printed as 9.999999999999999e+22.)
-"""
+"""Numbers of floating point as the server prints them: the shortest digits within what is rounded
+to the number, and not at its bound. (src/common/d2s.c and f2s.c of PostgreSQL; Python takes a
+bound, too: 1e+23 for 9.999999999999999e+22.)"""
 
 import contextlib
 import math
@@ -33,9 +32,8 @@ def printed_float(value: float, is_short: bool) -> str:
 
 
 def stored_float(value: float, is_short: bool) -> str:
-    """A number of 8 bytes as the server prints that which it is stored for: read from the digits
-    that the server prints, or of 4 bytes. Any other, which no server has sent, as Python prints it.
-    """
+    """A number of 8 bytes as the server prints that which it is stored for, from its digits or 4
+    bytes. Any other, which no server has sent, as Python prints it."""
     if math.isnan(value):
         return repr(value)
     try:

@@ -34,9 +34,8 @@ MOST = 20000
 
 @dataclasses.dataclass(frozen=True)
 class Wanted:
-    """The file that is wanted: with a user's SQL after a table was made, and with digests. `keys`
-    knows primary keys, and indexes that are made where they are wanted; `form`: how numerics are
-    kept."""
+    """The file that is wanted, with a user's SQL and digests. `keys` knows primary keys, and
+    indexes, made where they are wanted; `form`: how numerics are kept."""
 
     into: str
     reading: Reading

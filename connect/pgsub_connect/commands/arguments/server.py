@@ -63,9 +63,9 @@ Settled = TypeVar("Settled", bound=ServerOptions)
 def settled_server(
     options: Settled, store: str = "", keyless: str = "refuse", told: Iterable[tuple[str, str]] = ()
 ) -> Settled:
-    """The options with the connection string of a file, and with the slot and the publications that
-    a store has followed where none is named; and has files get their mode. `told`: what else the server or
-    the program is told."""
+    """The options with the connection string of a file, and the slot and publications of a store
+    where none is named; files get their mode. `told`: what else the server or the program is
+    told."""
     dsn, readable = options.dsn, ""
     if options.dsn_file:
         with open(options.dsn_file, encoding="utf-8", errors="surrogateescape") as file:
