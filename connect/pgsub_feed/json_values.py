@@ -78,7 +78,7 @@ def form_of_maybe(form: Form) -> Form:
 def form_of_dict(key: Form, value: Form) -> Form:
     return Form(
         lambda said: {key.read(name): value.read(it) for name, it in object_of(said).items()},
-        lambda known: {key.written(name): value.written(it) for name, it in known.items()},
+        lambda known: {str(key.written(name)): value.written(it) for name, it in known.items()},
     )
 
 

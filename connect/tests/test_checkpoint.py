@@ -24,7 +24,15 @@ from pgsub_connect.store.checkpoint import (
     read_known,
     spelled,
 )
-from pgsub_connect.store.checkpoint_lines import COPYING, FOLLOWING, SIZE, Known, line_of
+from pgsub_connect.store.checkpoint_lines import (
+    COPYING,
+    FOLLOWING,
+    SIZE,
+    VERSION,
+    Known,
+    checksum,
+    line_of,
+)
 from pgsub_feed.errors import FileError, Passing, Stopped, Unfit
 
 from .fake_server import Quiet
@@ -371,8 +379,8 @@ class Counts(FileCase):
             checkpoint.put(True, Known(FOLLOWING), counted)
             self.assertEqual(self.reopened(), counted)
 
-    def test_an_older_file_counts_none(self) -> None:
-        for content in (b"", b'{"phase":"following","position":1280}'.ljust(511) + b"\n"):
+    def test_a_new_file_counts_none(self) -> None:
+        for content in (b"", line_of(1, spelled(Known(FOLLOWING, position=1280)), None)):
             with open(self.store + ".connector", "wb") as file:
                 file.write(content)
             checkpoint = self.open_again()
@@ -381,23 +389,25 @@ class Counts(FileCase):
             self.assertFalse(checkpoint.begin_counting(0x600, False))
             self.assertEqual(self.reopened(), Counted(0x600, 0x600))
 
+    def written(self, counted: str) -> Checkpoint:
+        """One whose line has that, with the right checksum."""
+        rest = f'"number":1,"known":{spelled(Known())},"counted":{counted}}}\n'.encode()
+        with open(self.store + ".connector", "wb") as file:
+            file.write(b'{"version":%d,"crc32":"%08x",' % (VERSION, checksum(VERSION, rest)) + rest)
+        return self.open_again()
+
     def test_torn_or_foreign(self) -> None:
+        whole = '{"since":1,"upto":2,"count":0,"first":0,"relation":0,"gap":null'
+        self.assertEqual(self.written(whole + "}").counted, Counted(1, 2))
         for content in (
-            b"x",
-            b"[]",
-            b"5",
-            b"null",
-            b"{}",
-            b'{"since":1}',
-            b'{"since":1,"upto":"2"}',
-            b'{"since":1,"upto":2,"gap":[1]}',
-            b'{"since":1,"upto":2,"gap":5}',
-            b'{"since":1,"upto":2,"other":3}',
+            *("x", "[]", "5", "{}", '{"since":1}'),
+            whole + ',"upto":"2"}',
+            whole + ',"gap":[1]}',
+            whole + ',"gap":5}',
+            whole + ',"other":3}',
         ):
-            with open(self.store + ".connector", "wb") as file:
-                file.write(b"{}".ljust(511) + b"\n" + content)
             with self.assertRaises(FileError, msg=repr(content)):
-                self.open_again()
+                self.written(content)
 
     def test_up_to_where_is_noted_with_the_position(self) -> None:
         """And costs no sync."""

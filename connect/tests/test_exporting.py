@@ -561,7 +561,7 @@ class Files(Case):
             export_store(self.settings(), never)
 
     def test_files_of_the_store_itself(self) -> None:
-        for ending in ("", "-wal", ".connector", ".tables", ".request"):
+        for ending in ("", "-wal", ".connector", ".tables", ".repeats"):
             settings = self.settings(into=self.path + ending)
             with self.assertRaisesRegex(UsageError, "file of the store itself"):
                 export_store(settings, never)

@@ -183,7 +183,7 @@ class Files(StoreCase):
     def test_a_checkpoint(self) -> None:
         for text in TEXTS:
             self.put(".connector", text)
-            if not text.strip(b"\0 \n") or text == b"{}":
+            if not text.strip(b"\0 \n"):
                 os.close(Checkpoint(self.path).file)
                 continue
             with self.assertRaises(FileError, msg=repr(text[:50])):

@@ -126,7 +126,7 @@ def read_line(content: bytes, at: int, path: str) -> Line | None:
         raise FileError(f"{path}: of another version of this program ({version}): install that one")
     said = parsed(b"{" + found[3])
     line: Line = READ.read(said)
-    if line.known.phase not in PHASES or said["known"].keys() != vars(line.known).keys():
+    if line.known.phase not in PHASES or READ.written(line) != said:
         raise Unreadable("of another program")
     return dataclasses.replace(line, at=at)
 
