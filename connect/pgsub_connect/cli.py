@@ -100,9 +100,8 @@ def known(word: str) -> str:
         overview().error(f"{word} is a command of `pgsub`: pgsub {word}{OF_PROGRAM[word]}")
     if word not in COMMANDS:
         like = meant(word, (*COMMANDS, HELP))
-        overview().error(
-            f"there is no command {word}{like}\nThe commands are {', '.join(COMMANDS)}"
-        )
+        text = f"there is no command {word}{like}\nThe commands are {', '.join(COMMANDS)}"
+        overview().error(text)
     return word
 
 

@@ -99,9 +99,8 @@ def run(options: Options, check: Check) -> int:
     except Stopped:
         raise Passing("ended before all was compared") from None
     except NotText:
-        raise Unfit(
-            f"{options.store}: it has values in binary form, which can't be compared"
-        ) from None
+        text = f"{options.store}: it has values in binary form, which can't be compared"
+        raise Unfit(text) from None
     except Malformed:
         raise FileError(
             f"{options.store}: a malformed row or definition: the disk, or another program, has spoiled the file"

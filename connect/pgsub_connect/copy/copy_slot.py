@@ -149,9 +149,8 @@ class CopySlot:
                     f"SELECT s.confirmed_flush_lsn - '0/0'::pg_catalog.pg_lsn {query}"
                 )
                 if at == str(position):
-                    connection.rows(
-                        f"SELECT pg_catalog.pg_drop_replication_slot(s.slot_name) {query}"
-                    )
+                    drop = f"SELECT pg_catalog.pg_drop_replication_slot(s.slot_name) {query}"
+                    connection.rows(drop)
         except (ServerError, Unfit) as error:
             log.warning(f"the slot {slot} was made and not dropped again: {error}")
             return False

@@ -120,7 +120,6 @@ def make_slot(connection: Connection, subscription: Subscription, check: Check) 
     slot = subscription.slot
     settle_for_slot(connection)
     with connection.checked_by(Waiting(subscription.dsn, slot, check).check):
-        connection.run(
-            f"CREATE_REPLICATION_SLOT {identifier(slot)} LOGICAL pgoutput NOEXPORT_SNAPSHOT"
-        )
+        command = f"CREATE_REPLICATION_SLOT {identifier(slot)} LOGICAL pgoutput NOEXPORT_SNAPSHOT"
+        connection.run(command)
     log.info(f"made the slot {slot}")

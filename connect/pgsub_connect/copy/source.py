@@ -138,9 +138,8 @@ class Source:
             if str(error) == CHANGED or error.sqlstate in GONE:
                 raise Passing(f"{CHANGED}: nothing was compared") from None
             if error.sqlstate == LOCK_TIMEOUT:
-                raise Passing(
-                    "published tables are locked by others: nothing was compared"
-                ) from None
+                text = "published tables are locked by others: nothing was compared"
+                raise Passing(text) from None
             raise
         self.slot.close()
 

@@ -186,9 +186,8 @@ class BaseRows(FromCopy):
         if is_copied and not has_base(self.name):
             self.make_from_store(check)
         if not has_base(self.name):
-            log.warning(
-                f"{self.name} has no first rows: its readers begin with an export, by --base"
-            )
+            text = f"{self.name} has no first rows: its readers begin with an export, by --base"
+            log.warning(text)
 
     def make_from_store(self, check: Check) -> None:
         log.info(f"{self.name}: its first rows are read from {self.store}")

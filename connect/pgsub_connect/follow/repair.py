@@ -69,9 +69,8 @@ def messages_in(path: str, most: int) -> Iterator[list[bytes]]:
             raise Unusable(f"{path}: a file of somebody else")
         if about.st_size > most:
             more = "choose tables by --table, or give the follower a --max-buffered above that"
-            raise Unusable(
-                f"the changes have {about.st_size} bytes, and {most} may be buffered: {more}"
-            )
+            text = f"the changes have {about.st_size} bytes, and {most} may be buffered: {more}"
+            raise Unusable(text)
         file = stack.enter_context(open(number, "rb", closefd=False))
         lot, size = list[bytes](), 0
         while head := file.read(4):
@@ -176,9 +175,8 @@ class Repairing:
         """Messages that the filter takes. Their definitions are known then."""
         for message in lot:
             if len(message) > self.limits.max_frame - 25:
-                raise Unusable(
-                    f"a row has {len(message)} bytes: give the follower a --max-frame above that"
-                )
+                text = f"a row has {len(message)} bytes: give the follower a --max-frame above that"
+                raise Unusable(text)
             if message[:1] == b"R" and self.hold.point and (relation := relation_of(message[1:])):
                 self.remembered.replaced(relation, self.hold.point - 1)
         return lot
@@ -196,9 +194,8 @@ class Repairing:
         for oid in tables:
             texts = [it for it in self.remembered.found_of(oid) if it in self.texts]
             self.checkpoint.accept(self.remembered.are_right(oid, texts))
-        log.info(
-            f"rows of {counted(len(tables), 'table')} were repaired as of {lsn_text(hold.point)}"
-        )
+        text = f"rows of {counted(len(tables), 'table')} were repaired as of {lsn_text(hold.point)}"
+        log.info(text)
         self.snapshots.end(repaired=lsn_text(hold.point))
         hold.end()
         self.ends_session = True

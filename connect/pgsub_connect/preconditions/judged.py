@@ -114,9 +114,8 @@ def require(connection: Connection, name: str, copies: bool, failover: bool) -> 
     """Ends a start where the server can't do, before anything is made there."""
     facts = server_facts(connection, name)
     if failover and facts.version < server.FAILOVER:
-        raise UsageError(
-            f"--failover needs PostgreSQL 17, and this is {server.version_text(facts.version)}"
-        )
+        text = f"--failover needs PostgreSQL 17, and this is {server.version_text(facts.version)}"
+        raise UsageError(text)
     for result in results(facts, server.Purpose(name, copies=copies, failover=failover)):
         if result.level == server.ERROR and result.name in REQUIRED:
             raise ServerError(f"{result.name}: {result.text}", REFUSED)

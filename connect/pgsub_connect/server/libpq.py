@@ -136,6 +136,5 @@ def decoded(value: bytes) -> str:
         return value.decode()
     except UnicodeDecodeError:
         shown = said_text(value[:LONGEST].decode("latin-1").encode("unicode_escape"))
-        raise WrongAnswer(
-            f"a name or text of the database isn't UTF-8: {shown}: rename what has it"
-        ) from None
+        text = f"a name or text of the database isn't UTF-8: {shown}: rename what has it"
+        raise WrongAnswer(text) from None

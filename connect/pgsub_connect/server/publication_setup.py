@@ -178,9 +178,8 @@ class Maker:
     def make_one(self, name: str) -> None:
         connection, wanted = self.connection, self.wanted
         if self.is_standby:
-            raise refusal(
-                f"the server is a standby, and has no publication {name}: make it at the primary"
-            )
+            text = f"the server is a standby, and has no publication {name}: make it at the primary"
+            raise refusal(text)
         if wanted.all_tables:
             self.create(name, "ALL TABLES")
         elif wanted.tables:

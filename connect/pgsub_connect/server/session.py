@@ -162,9 +162,8 @@ def other_slot(connection: Connection, slot: str) -> Unfit:
     )[0]
     if plugin != "pgoutput":
         kind = f"of the plugin {plugin}" if plugin else "a physical one"
-        return Unfit(
-            f"the slot {slot} is {kind}, and not one of pgoutput: name another one by --slot"
-        )
+        text = f"the slot {slot} is {kind}, and not one of pgoutput: name another one by --slot"
+        return Unfit(text)
     return Unfit(
         f"the slot {slot} is of the database {database}, and this is {here}: name that one by --dsn, or another slot by --slot"
     )

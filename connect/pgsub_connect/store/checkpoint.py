@@ -303,9 +303,8 @@ def check_gap(known: Known, position: int, slot_at: int) -> None:
         return
     gap = f"the store is at {lsn_text(position)} and the slot at {lsn_text(slot_at)}: changes between may be missing"
     if position < known.position:
-        raise Unfit(
-            f"{gap}; the store was at {lsn_text(known.position)} before, so this is an older one. {cure}"
-        )
+        text = f"{gap}; the store was at {lsn_text(known.position)} before, so this is an older one. {cure}"
+        raise Unfit(text)
     if slot_at > known.confirmed:
         raise Unfit(
             f"{gap}; up to {lsn_text(known.confirmed)} was confirmed from here, so somebody else moved the slot, or made it anew. {cure}"
@@ -342,9 +341,8 @@ def locked(path: str) -> Iterator[None]:
         try:
             fcntl.flock(file, fcntl.LOCK_EX | fcntl.LOCK_NB)
         except BlockingIOError:
-            raise Passing(
-                f"{path}: a connector or its filter is at work on this store: end it first"
-            ) from None
+            text = f"{path}: a connector or its filter is at work on this store: end it first"
+            raise Passing(text) from None
         if not has_name(file, path):
             raise Passing(f"{path} was removed meanwhile")
         yield

@@ -126,9 +126,8 @@ class Export:
         for target in self.targets.values():
             if target.key and not target.is_keyed:
                 index = identifier(key_index(target.relation.oid))
-                self.into.execute(
-                    f"CREATE INDEX {index} ON {identifier(target.name)} ({target.keys()})"
-                )
+                make = f"CREATE INDEX {index} ON {identifier(target.name)} ({target.keys()})"
+                self.into.execute(make)
 
     def values(self, target: Target, bodies: list[bytes]) -> list[Value]:
         try:

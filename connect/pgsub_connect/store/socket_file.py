@@ -166,9 +166,8 @@ class Asking:
         while not self.answers and not self.is_over:
             left = until - time.monotonic()
             if left <= 0 and not has_begun():
-                raise Passing(
-                    f"{self.store}: its follower hasn't answered in {seconds:.0f} seconds"
-                )
+                text = f"{self.store}: its follower hasn't answered in {seconds:.0f} seconds"
+                raise Passing(text)
             if self.wait(min(left, STEP) if left > 0 else STEP):
                 self.read()
         return self.answers.popleft() if self.answers else None

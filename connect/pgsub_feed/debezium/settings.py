@@ -55,9 +55,8 @@ def read_settings(words: Iterable[str], schemas: bool = False) -> Settings:
         name, _, value = word.partition("=")
         if name == PREFIX:
             if not NAME.fullmatch(value):
-                raise UsageError(
-                    f"{word}: a prefix of topics has letters, digits, `.`, `_` and `-`"
-                )
+                text = f"{word}: a prefix of topics has letters, digits, `.`, `_` and `-`"
+                raise UsageError(text)
             prefix = value
         elif name not in VALUES:
             # (without its value, which may be a password in the wrong place)

@@ -19,9 +19,8 @@ def segments(folder: str) -> list[tuple[int, str]]:
     try:
         return sorted((int(it, 16), it) for it in os.listdir(folder) if NAME.fullmatch(it))
     except FileNotFoundError:
-        raise NoFeed(
-            f"there is no feed {folder}: start `pgsub-connect follow` with --feed {folder}"
-        ) from None
+        text = f"there is no feed {folder}: start `pgsub-connect follow` with --feed {folder}"
+        raise NoFeed(text) from None
     except OSError as error:
         raise FileError(f"{folder}: {error.strerror}") from None
 

@@ -111,8 +111,9 @@ class JetStream:
         if kind == OTHER_TOO_LARGE:
             return TooLarge(f"{self.where}: {about}")
         is_away = code in PASSING and kind not in NO_JETSTREAM
+        text = f"{self.where}: {about}"
         return (Passing if is_away or kind == WRONG_SEQUENCE or FULL in about else EngineError)(
-            f"{self.where}: {about}"
+            text
         )
 
     def begin(self) -> Info:

@@ -166,9 +166,8 @@ class Connection:
         except errors.ResponseError as error:
             raise raised(Said(self.text(error)), self.where) from None
         except (errors.InvalidResponse, ValueError) as error:
-            raise EngineError(
-                f"{self.where}: it said what isn't Redis' protocol: {str(error)[:200]}"
-            ) from None
+            text = f"{self.where}: it said what isn't Redis' protocol: {str(error)[:200]}"
+            raise EngineError(text) from None
         except RecursionError:
             raise EngineError(f"{self.where}: it said what isn't Redis' protocol") from None
         except (errors.RedisError, OSError) as error:
@@ -252,9 +251,8 @@ def connected(url: str, check: Check) -> Calls:
     service, _, number = rest.partition("/")
     sentinels = [it if ":" in it.rpartition("]")[2] else f"{it}:{PORT}" for it in hosts.split(",")]
     if not service or not all(hosts.split(",")):
-        raise UsageError(
-            "the URL of Redis: it is no URL as redis+sentinel://localhost:26379/service/0"
-        )
+        text = "the URL of Redis: it is no URL as redis+sentinel://localhost:26379/service/0"
+        raise UsageError(text)
     where = master_of(sentinels, service, check)
     master = Connection(f"redis://{login}{sign}{where}/{number}", check)
     try:

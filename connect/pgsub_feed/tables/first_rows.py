@@ -188,9 +188,8 @@ def head_of(reading: Reading, check: Check) -> Head:
                 )
             poll.rest()
         if reader.head is None:
-            raise Passing(
-                f"{reading.feed}: the feed has no segment yet: is it the --feed of a follower?"
-            )
+            text = f"{reading.feed}: the feed has no segment yet: is it the --feed of a follower?"
+            raise Passing(text)
         return reader.head
 
 

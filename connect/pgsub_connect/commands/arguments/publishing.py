@@ -67,9 +67,8 @@ def check_publishing(parser: argparse.ArgumentParser, options: PublishingOptions
     if options.table and options.all_tables:
         parser.error("--table and --all-tables exclude each other")
     if options.all_tables and options.keyless != "refuse":
-        parser.error(
-            "of a publication for all tables no table can be left out: --keyless needs a list"
-        )
+        text = "of a publication for all tables no table can be left out: --keyless needs a list"
+        parser.error(text)
 
 
 def check_creates(parser: argparse.ArgumentParser, options: PublishingOptions) -> None:
