@@ -115,7 +115,7 @@ class KnownTables:
 
     def require(self, lsn: int, check: Check) -> None:
         """Waits until they are right for a commit that ends at this LSN, and looks at them. Raises a
-        Passing where that takes too long. (An earlier version of the follower doesn't tell.)"""
+        Passing where that takes too long."""
         end = time.monotonic() + PATIENCE
         while self.right < lsn and self.feed and (at := read_keys(self.feed)) is not None:
             self.right = at

@@ -25,8 +25,7 @@ What is known of the store:
 | `repeats` | the LSN from which on commits that come again are compared with what the filter has noted of them, as the module `store.repeats_file` says; 0 where none are |
 | `publications` | a checksum of the names of those by which these commits were asked for |
 
-What is counted of changes that found no row. Where an earlier version of this program has counted
-none, they are from the store's position on then.
+What is counted of changes that found no row:
 
 | Field | Means |
 |---|---|

@@ -14,7 +14,6 @@ from collections.abc import Iterator
 from .. import log
 from ..errors import Passing, TooLarge, Unfit
 from ..interruption import Check, rest
-from ..json_texts import LARGEST, object_of, parsed
 from ..reader.commits import Commit, TableLine
 from ..reader.following import Read
 from ..reader.reading import Chosen
@@ -153,7 +152,7 @@ class Nats(Engine):
             if part.n > after:
                 yield self.sized(message)
             else:
-                is_known = are_alike(message.payload, self.part_said)
+                is_known = message.payload == self.part_said
         if not is_known:
             # (a filter that was killed may have left out a table since, by which numbers are others)
             raise self.other_part("the feed's has other changes")
@@ -202,14 +201,6 @@ class Nats(Engine):
 
     def close(self) -> None:
         self.stream.wire.close()
-
-
-def are_alike(one: bytes, other: bytes) -> bool:
-    """Whether two messages tell the same change. (An earlier version may tell less of it.)"""
-    with contextlib.suppress(ValueError):
-        told, said = (object_of(parsed(it, LARGEST)) for it in (one, other))
-        return all(told[it] == said[it] for it in told.keys() & said.keys())
-    return False
 
 
 def connect(url: str, stream: str, replicas: int, check: Check) -> Nats:
