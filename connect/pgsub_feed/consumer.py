@@ -91,7 +91,7 @@ def read_here(
 
 
 class Build:
-    """Makes commits of parts. First rows begin with TRUNCATEs of an earlier run's."""
+    """Makes commits of parts. First rows begin with a TRUNCATE of what may be there."""
 
     def __init__(self, tables: Iterable[str], types: KnownTypes) -> None:
         self.names, self.types = tuple(tables), types

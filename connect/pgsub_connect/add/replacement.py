@@ -241,14 +241,14 @@ class LeftOut:
         return next((oid for oid in self.leaving.points if not self.remembered.wanted.get(oid)), 0)
 
     def wants_session(self) -> bool:
-        """Whether another session is to begin, of whole transactions, without other tables."""
+        """Whether another session is to begin, of whole transactions, leaving out others."""
         if self.remembered.wanted and not self.next_oid():
             self.fill()
         points = self.points()
         return not self.leaving.points.keys() >= points.keys() or self.is_whole and not points
 
     def begin_session(self, streams: bool) -> bool:
-        """Whether a session is of whole transactions. Snapshots of other tables are gone."""
+        """Whether a session needs whole transactions. Snapshots of tables to come are gone."""
         self.checkpoint.write_adding(dict.fromkeys(self.checkpoint.adding(), 0))
         self.fill()
         self.leaving.begin_session()

@@ -57,7 +57,7 @@ class Options:
 
 
 class Awaited:
-    """All that was committed up to an LSN: what a feed has all of, and its last commit's end."""
+    """All that was committed up to an LSN. A feed tells that it has that, and where it ends."""
 
     def __init__(self, path: str, feed: str | None, lsn: int) -> None:
         self.path, self.feed, self.lsn = path, feed, lsn

@@ -104,7 +104,7 @@ class Copier(Worker):
         self.meter = Meter("copying")
 
     def run(self) -> None:
-        """Copies until it is done, anew where server or filter are lost. Else all that goes."""
+        """Copies until it is done, anew where server or filter are lost, or takes all back."""
         self.files.take(self.checkpoint.known.phase)
         tries = Tries()
         try:

@@ -300,7 +300,7 @@ class Readers:
             self.items.put(part)
 
     def lock_table(self, connection: Connection, table: Table) -> str | None:
-        """Locks a table as it was; why it is left out, "" where others have it locked, or None."""
+        """Locks a table. Returns why it is left out, "" where others have it locked, or None."""
         try:
             lock_tables(connection, [table])
             is_same = self.is_same(connection, table)

@@ -112,7 +112,7 @@ class Baseline:
             self.touch()
 
     def look(self, now: Catalog) -> list[str]:
-        """Compares what a server has, and remembers it; what is new and makes nothing wrong."""
+        """Compares what a server has, and remembers it. Returns what is new, and harmless."""
         before = self.catalog
         assert before is not None
         harmless = []

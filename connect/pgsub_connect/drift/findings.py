@@ -142,7 +142,7 @@ class Findings(dict[str, Found]):
         return [it for it, tables in several if oid in (tables or self.about(it).tables)]
 
     def is_mended(self, text: str, oid: int, catalog: Catalog | None) -> bool:
-        """Notes that a table's rows are right; whether those of a text's other tables are, too."""
+        """Notes that a table's rows are right. Returns whether those of a text's others are."""
         others = tables_of_several(self.about(text), catalog)
         if others is None:
             return True

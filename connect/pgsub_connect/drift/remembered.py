@@ -73,7 +73,7 @@ class Remembered(Baseline):
         self.save()
 
     def added(self, oid: int, texts: Iterable[str] = ()) -> list[str]:
-        """Notes durably that a table was added, or won't be; the kinds that go by that."""
+        """Notes durably that a table was added, or won't be. Returns the kinds that go by it."""
         was_unwanted = self.outstanding.added(oid)
         gone = self.are_right(oid, texts)
         if was_unwanted:

@@ -51,7 +51,7 @@ class DurableFile:
         self.file = (0, 0)
 
     def add(self, line: bytes) -> bool:
-        """Adds a line durably; whether it did, as to a file that is right and not too long."""
+        """Adds a line durably, if the file is right and not too long. Returns whether it did."""
         (inode, length), first = self.file, self.first
         if not first or length + len(line) - first > max(first, LEAST):
             return False

@@ -81,7 +81,7 @@ class Altered:
         return is_looked_at and text in self.remembered.found[kind].texts.keys() - self.lasting
 
     def look(self, connection: Connection) -> list[str]:
-        """Has tables copied anew just after a look; the kinds of which nothing stays found."""
+        """Has tables copied anew after a look. Returns the kinds of which nothing stays found."""
         self.lasting, self.due = set(), float("inf")
         if self.most is None:
             return []

@@ -276,7 +276,7 @@ class Feeding:
         return [*([self.beside] if self.beside else []), *self.sinks]
 
     def is_read(self, position: int) -> bool:
-        """Whether tables and sinks have what the store had first, which an end waits for."""
+        """Whether tables and sinks have what the store had when this was asked first."""
         if self.wanted is None:
             self.wanted, self.tells_from = position, time.monotonic() + UNTOLD
         wanted = self.wanted

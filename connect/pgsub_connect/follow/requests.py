@@ -98,7 +98,7 @@ class Requests:
         self.hold.end_session()
 
     def step(self) -> bool:
-        """Goes on with additions and repairs; whether another session is to begin for them."""
+        """Goes on with additions and repairs. Returns whether another session is to begin."""
         # (behind a repair nothing is passed on in this session)
         self.repairing.step()
         if self.repairing.wants_session() or not self.hold.keeps and self.adder.wants_session():

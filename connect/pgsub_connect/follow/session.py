@@ -95,7 +95,7 @@ class Session:
         return self.take_payloads(connection) if room and more else more
 
     def take_payloads(self, connection: Connection) -> bool | None:
-        """Passes on what has come; whether there may be more now, None after the end."""
+        """Passes on what has come. Returns whether there may be more now, None after the end."""
         hold, more = self.hold, True if self.hold.kept else None
         payloads = hold.take_kept()
         if more is None:

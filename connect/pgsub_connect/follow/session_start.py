@@ -80,7 +80,7 @@ class SessionStart:
         )
 
     def fit(self, connection: Connection, server: Server) -> int:
-        """Checks that store, server and slot fit together; from where the slot sends."""
+        """Checks that store, server and slot fit together. Returns from where the slot sends."""
         fitting, position = self.fitting, self.confirming.position
         confirmed = self.filter.confirmed()
         fitting.check_server(server, confirmed, position)

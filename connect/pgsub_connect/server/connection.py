@@ -140,7 +140,7 @@ class Connection:
     def execute(
         self, command: str, wanted: tuple[pq.ExecStatus, ...], limit: float = float("inf")
     ) -> Rows:
-        """Runs a command: its rows, or its copy. `limit`: when the connection is given up."""
+        """Runs a command for its rows or copy. `limit`: when the connection is given up."""
         found, last = Rows(), None
         try:
             last = self.answer(command, time.monotonic() + limit, found)

@@ -16,7 +16,7 @@ OFTEN = 1.0
 
 
 def make_folder(path: str, mode: int) -> None:
-    """Makes a folder that whoever may read a file of this mode may look into."""
+    """Makes a folder, unless it is there, for whoever may read a file of this mode."""
     try:
         os.mkdir(path, 0o700)
     except FileExistsError:
