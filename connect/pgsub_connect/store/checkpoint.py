@@ -302,8 +302,9 @@ def check_gap(known: Known, position: int, slot_at: int) -> None:
         return
     gap = f"the store is at {lsn_text(position)} and the slot at {lsn_text(slot_at)}: changes between may be missing"
     if position < known.position:
-        text = f"{gap}; the store was at {lsn_text(known.position)} before, so this is an older one. {cure}"
-        raise Unfit(text)
+        raise Unfit(
+            f"{gap}; the store was at {lsn_text(known.position)} before, so this is an older one. {cure}"
+        )
     if slot_at > known.confirmed:
         raise Unfit(
             f"{gap}; up to {lsn_text(known.confirmed)} was confirmed from here, so somebody else moved the slot, or made it anew. {cure}"

@@ -14,7 +14,8 @@ from ..texts import parse_lsn
 from .commits import UNSENT, Cells, Change, Closing, Commit, Head, Missed, Part, TableLine, Unsent
 
 FORMAT = 2
-# How many bytes the head of a segment has, and the line of a commit or of the segment's end.
+# How many bytes the head of a segment has, and the line of a commit, or that which closes a
+# segment.
 HEAD_SIZE, COMMIT_SIZE = 1024, 256
 # How many definitions are kept read.
 MOST_DEFINITIONS = 10000
@@ -110,7 +111,8 @@ def read_head(line: bytes) -> Head:
 
 
 def read_commit(line: bytes) -> Commit | Closing:
-    """The line of a commit, or of a segment's end. A ValueError says that it is neither."""
+    """The line of a commit, or that which closes a segment. A ValueError says that it is
+    neither."""
     if plain := PLAIN.fullmatch(line):
         end, prev, size, changes, final, xid, time, crc = plain.groups()
         about = (lsn_of(final), int(xid), int(time)) if final else (None, None, None)
@@ -125,7 +127,8 @@ def lsn_of(text: bytes) -> int:
 
 
 def read_commit_object(line: bytes) -> Commit | Closing:
-    """The same of a line that isn't written as today: of more fields, or another order."""
+    """The same of a line that isn't as it is written today: with more fields, or in another
+    order."""
     found = read_object(line)
     try:
         if "last" in found:
@@ -143,7 +146,8 @@ def read_commit_object(line: bytes) -> Commit | Closing:
 
 
 def read_relation(found: dict[str, Any]) -> Relation:
-    """The line of a definition. Key columns are those that it lists, of a table with a key."""
+    """The line of a definition. A column is one of the key where the line lists its name, in a
+    table that has a key."""
     listed = found["key"]
     keys = {text(it) for it in listed} if listed is not None else set[str]()
     columns = tuple(
