@@ -111,6 +111,22 @@ class Row(Mapping[str, Cell]):
 
 
 @dataclasses.dataclass(frozen=True)
+class Truncate:
+    table: Relation
+
+
+@dataclasses.dataclass(frozen=True)
+class Missed:
+    """An update or a delete, u or d, of a row that the store didn't have: it changed nothing. What
+    the server sent of it, by the names of the columns."""
+
+    table: Relation
+    sent: str
+    old: dict[str, Cell]
+    new: dict[str, Cell]
+
+
+@dataclasses.dataclass(frozen=True)
 class Insert:
     table: Relation
     after: Row
@@ -129,22 +145,6 @@ class Update:
 class Delete:
     table: Relation
     before: Row
-
-
-@dataclasses.dataclass(frozen=True)
-class Truncate:
-    table: Relation
-
-
-@dataclasses.dataclass(frozen=True)
-class Missed:
-    """An update or a delete, u or d, of a row that the store didn't have: it changed nothing. What
-    the server sent of it, by the names of the columns."""
-
-    table: Relation
-    sent: str
-    old: dict[str, Cell]
-    new: dict[str, Cell]
 
 
 Change = Insert | Update | Delete | Truncate | Missed

@@ -33,6 +33,16 @@ def never() -> None:
     """Asks for no end."""
 
 
+@contextlib.contextmanager
+def undone_by(undo: Callable[[], object]) -> Iterator[None]:
+    """Undoes what goes before where what is done inside fails, or is interrupted."""
+    try:
+        yield
+    except BaseException:
+        undo()
+        raise
+
+
 def looked_up(host: str, port: int | None, seconds: float, check: Check) -> list[Address]:
     """A host's addresses. A name is looked up by another thread, since no signal ends that. An
     OSError says why there are none, with the number ETIMEDOUT where it takes longer than that."""

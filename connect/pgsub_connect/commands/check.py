@@ -36,9 +36,9 @@ class Options(StoreOptions, CopyOptions):
 
     def purpose(self) -> Purpose:
         has_store, copies = bool(self.store and is_whole(self.store)), not self.no_copy
-        more = self.failover, self.keyless, self.all_tables
+        more = copies, self.failover, self.all_tables
         # (where nothing is said of a start without a store, it is one with --create)
-        return Purpose(self.slot, has_store, bool(self.create) or copies, copies, *more)
+        return Purpose(self.slot, self.keyless, has_store, bool(self.create) or copies, *more)
 
 
 def add_options(parser: argparse.ArgumentParser) -> None:

@@ -9,7 +9,7 @@ import time
 from collections.abc import Iterable, Mapping
 
 from pgsub_feed.errors import Passing, Unfit
-from pgsub_feed.interruption import Check
+from pgsub_feed.interruption import Check, undone_by
 from pgsub_feed.options import meant
 from pgsub_feed.tables.names import names_of
 
@@ -48,7 +48,7 @@ class Source:
         self.patience = PATIENCE
         # what is closed at the end, and the slot's connection, once the snapshot is taken
         self.closing, self.slot = contextlib.ExitStack(), contextlib.ExitStack()
-        try:
+        with undone_by(self.close):
             self.replication = self.connect(self.slot, replication=True)
             self.check_server(known)
             self.plain = self.connect(self.closing, replication=False)
@@ -59,9 +59,6 @@ class Source:
             # those that can't be read as the snapshot has them, and why, where the others are read
             self.left: dict[int, str] = {}
             self.encoding = self.plain.text("SELECT pg_catalog.current_setting('server_encoding')")
-        except BaseException:
-            self.close()
-            raise
 
     def connect(self, closing: contextlib.ExitStack, replication: bool) -> Connection:
         connection = Connection(

@@ -34,13 +34,13 @@ class Purpose:
     """What the server is to be used for."""
 
     slot: str = "pgsub"
+    keyless: str = "refuse"
     # whether a store is there, so that only its slot is needed
     has_store: bool = False
     # whether publication and slot are made where they aren't there
     makes: bool = True
     copies: bool = True
     failover: bool = False
-    keyless: str = "refuse"
     all_tables: bool = False
 
 

@@ -8,6 +8,7 @@ from collections.abc import Sequence
 
 from pgsub_feed import log
 from pgsub_feed.errors import FileError
+from pgsub_feed.interruption import undone_by
 from pgsub_feed.texts import lsn_text
 
 from ..stream.messages import header
@@ -82,7 +83,7 @@ def opened(path: str, append: bool, mode: int, overwrites: bool) -> int:
     is_file = not os.path.exists(path) or os.path.isfile(path)
     how = (os.O_RDWR if is_file else os.O_WRONLY) | (os.O_APPEND if append else 0)
     file = os.open(path, how | os.O_CREAT | os.O_CLOEXEC, mode)
-    try:
+    with undone_by(lambda: os.close(file)):
         if stat.S_ISREG(os.fstat(file).st_mode):
             head = os.pread(file, len(HEAD), 0) if is_file else b""
             if head not in (b"", HEAD) and not overwrites:
@@ -90,10 +91,7 @@ def opened(path: str, append: bool, mode: int, overwrites: bool) -> int:
                 raise FileError(f"{text}: name another file, or say --overwrite to `record`")
             if not append:
                 os.ftruncate(file, 0)
-        return file
-    except BaseException:
-        os.close(file)
-        raise
+    return file
 
 
 class Aside:

@@ -6,7 +6,7 @@ import time
 from psycopg import pq
 from psycopg.conninfo import make_conninfo
 
-from pgsub_feed.interruption import Check
+from pgsub_feed.interruption import Check, undone_by
 from pgsub_feed.texts import said_text
 
 from ..errors import LOGIN, ServerError, Unconnected
@@ -55,7 +55,7 @@ def connect_to(
     )
     set_verbosity(raw, VERBOSE)
     until = time.monotonic() + limit
-    try:
+    with undone_by(raw.finish):
         while raw.status != pq.ConnStatus.BAD and (polled := raw.connect_poll()) not in DONE:
             check()
             if time.monotonic() > until:
@@ -68,9 +68,6 @@ def connect_to(
         transport.OWN.judge(protection)
         set_verbosity(raw, DEFAULT)
         raw.nonblocking = 1
-    except BaseException:
-        raw.finish()
-        raise
     return raw, protection
 
 

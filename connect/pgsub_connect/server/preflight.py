@@ -4,6 +4,7 @@ follows. Nothing is changed there."""
 import contextlib
 import dataclasses
 from contextlib import closing
+from typing import NamedTuple
 
 from pgsub_feed import log
 from pgsub_feed.interruption import Check
@@ -29,8 +30,7 @@ SETTINGS = (
 RDS = "rds_replication"
 
 
-@dataclasses.dataclass
-class Role:
+class Role(NamedTuple):
     """The role that is logged in."""
 
     name: str = ""
@@ -39,8 +39,7 @@ class Role:
     creates: bool = False
 
 
-@dataclasses.dataclass
-class TableFacts:
+class TableFacts(NamedTuple):
     """A table that is published, or would be."""
 
     name: str
@@ -73,7 +72,7 @@ class Facts:
     protection: Protection = Protection()
     slots: int = 0
     senders: int = 0
-    role: Role = dataclasses.field(default_factory=Role)
+    role: Role = Role()
     slot: Slot | None = None
     publications: list[PublicationFacts] = dataclasses.field(default_factory=list)
     tables: list[TableFacts] = dataclasses.field(default_factory=list)

@@ -24,7 +24,8 @@ ENDED = ("stopped", "failed")
 # How often the filter may be lost within the time that the status file counts, and for how many
 # seconds a reader may stand still while it lacks commits.
 LOSSES, STILL = 2, 60.0
-# What mends what was found of a kind.
+# What mends what was found of a kind, and of a table whose rows are to come.
+ADDED = "its rows are being copied: wait for that"
 CURES = {
     "names": "`pgsub-connect names --store {store}` tells them apart; then start it with --accept names",
     "publication": "`pgsub-connect refresh --store {store}`",
@@ -32,7 +33,6 @@ CURES = {
     "missing": "`pgsub-connect verify --repair --store {store}`, then start it with --accept missing",
     "history": "`pgsub-connect verify --repair --store {store}`, once it was started with --accept history; then start it so again",
 }
-ADDED = "its rows are being copied: wait for that"
 # What doesn't make the copy wrong by itself.
 UNWATCHED = "unwatched"
 UNWATCHED_CURE = "`pgsub-connect verify --store {store}` compares the copy; then start it with --accept unwatched"

@@ -13,7 +13,7 @@ import sqlite3
 from collections.abc import Collection, Iterable, Iterator
 
 from pgsub_feed.errors import FileError, Passing, Unfit
-from pgsub_feed.interruption import Check
+from pgsub_feed.interruption import Check, undone_by
 from pgsub_feed.reader.commits import Head
 from pgsub_feed.reader.trail import Image, Trail
 from pgsub_feed.relation import Relation
@@ -50,13 +50,10 @@ class View:
         self.path, self.check = path, check
         self.db = opened(path)
         self.trail: Trail | None = None
-        try:
+        with undone_by(self.db.close):
             self.db.text_factory = lambda it: it.decode(errors="surrogateescape")
             self.db.execute("BEGIN")
             self.read()
-        except BaseException:
-            self.db.close()
-            raise
 
     def read(self) -> None:
         db = self.db

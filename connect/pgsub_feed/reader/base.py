@@ -14,7 +14,7 @@ from typing import Any, NamedTuple, Protocol
 
 from ..errors import COUNTS, LINE, NOT_A_FEED, OTHER_FEED, WIDTH, Damaged, FileError, Unfit
 from ..files import NEW
-from ..interruption import Check
+from ..interruption import Check, undone_by
 from ..relation import Relation
 from ..texts import lsn_text, parse_lsn
 from .commits import Cells, Head
@@ -102,11 +102,8 @@ class BaseFile:
             raise Unfit(f"{self.path} is gone: the feed's first rows were removed") from None
         except OSError as error:
             raise FileError(f"{self.path}: {error.strerror}") from None
-        try:
+        with undone_by(self.close):
             self.head = self.read_head()
-        except BaseException:
-            self.close()
-            raise
 
     def read_head(self) -> FileHead:
         line = self.file.read(HEAD_SIZE)

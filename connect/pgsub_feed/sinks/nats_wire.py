@@ -22,7 +22,7 @@ from typing import Any
 
 from .. import log
 from ..errors import EngineError, Passing, Stopped, UsageError
-from ..interruption import Check, never
+from ..interruption import Check, never, undone_by
 from ..json_texts import Unreadable, object_of, parsed, whole_of
 from ..texts import shortened
 from .connecting import BUSY, connected, encrypted, is_loopback, is_ready
@@ -105,11 +105,8 @@ class Wire:
             self.socket = connected(self.host, self.port, CONNECT, check)
         except OSError as error:
             raise Passing(f"{self.where}: {error}") from None
-        try:
+        with undone_by(self.close):
             self.log_in(parts)
-        except BaseException:
-            self.close()
-            raise
 
     def log_in(self, parts: urllib.parse.SplitResult) -> None:
         line = self.line(CONNECT)

@@ -14,7 +14,7 @@ from typing import Any, Protocol, Union
 
 from .. import log
 from ..errors import EngineError, FileError, Passing, Stopped, UsageError
-from ..interruption import Check, interruptible, looked_up, never
+from ..interruption import Check, interruptible, looked_up, never, undone_by
 from ..texts import shortened
 from .connecting import GRACE, is_loopback
 
@@ -255,11 +255,8 @@ def connected(url: str, check: Check) -> Calls:
         raise UsageError(text)
     where = master_of(sentinels, service, check)
     master = Connection(f"redis://{login}{sign}{where}/{number}", check)
-    try:
+    with undone_by(master.close):
         check_master(master)
-    except BaseException:
-        master.close()
-        raise
     return master
 
 

@@ -7,6 +7,7 @@ import sqlite3
 
 from .. import log
 from ..errors import FileError, Passing, Unfit
+from ..interruption import undone_by
 from ..known_tables import KnownTables
 from ..reader.commits import Head
 from ..relation import Relation
@@ -54,12 +55,9 @@ class Rows:
         self.indexes = indexes
         self.db = sqlite3.connect(path, timeout=BUSY, isolation_level=None, cached_statements=2000)
         self.number, self.asides = inode_of(path), Asides(self.db, path)
-        try:
+        with undone_by(self.db.close):
             self.set_up()
             self.reload()
-        except BaseException:
-            self.db.close()
-            raise
 
     def set_up(self) -> None:
         if self.db.execute("PRAGMA user_version").fetchone()[0] not in (FORMAT, WITH_DIGESTS):

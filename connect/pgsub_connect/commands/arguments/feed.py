@@ -30,6 +30,9 @@ NEEDS = {
 }
 
 
+OLDER = "remove segments that are older, as 7d, and that all readers have read (default: as soon as all readers have, where there are any)"
+
+
 @dataclasses.dataclass(frozen=True)
 class FeedOptions:
     """The folder of the feed, when segments of it begin and go, and the file of tables."""
@@ -60,11 +63,7 @@ class FeedOptions:
         0,
         type=size,
     )
-    feed_max_age: float | None = option(
-        "--feed-max-age TIME",
-        "remove segments that are older, as 7d, and that all readers have read (default: as soon as all readers have, where there are any)",
-        type=duration,
-    )
+    feed_max_age: float | None = option("--feed-max-age TIME", OLDER, type=duration)
     feed_base: str = option(
         "--feed-base WHETHER",
         "keep the rows of the initial copy as files of the feed, too, yes or no (default: yes where --feed is named)",
