@@ -32,7 +32,7 @@ class Cuts(Case):
         self.followed()
         self.spoil()
 
-    def cut(self, patches: list[tuple[object, str]], after: bool, times: int = 0) -> dict[str, int]:
+    def cut(self, patches: list[tuple[object, str]], after: bool, times: int = 0) -> dict[int, int]:
         """Follows until a call is made for the last time. Returns what the checkpoint says then."""
         left, stack = [times], contextlib.ExitStack()
         for where, name in patches:
@@ -59,15 +59,15 @@ class Cuts(Case):
     def test_all(self) -> None:
         for where, name, after, times, noted in (
             (LeftOut, "fill", False, 0, {}),
-            (LeftOut, "fill", True, 0, {str(T): 0}),
-            (Adder, "prepare", True, 0, {str(T): 0}),
-            (Adder, "meet", False, 0, {str(T): 0}),
-            (Adder, "meet", True, 0, {str(T): 1}),
-            (Adder, "send", False, 0, {str(T): 1}),
-            (RowsSender, "push", True, 2, {str(T): 1}),
-            (RowsSender, "push", True, 4, {str(T): 1}),
-            (Adder, "send", True, 0, {str(T): 1}),
-            (Adder, "finish", False, 0, {str(T): 1}),
+            (LeftOut, "fill", True, 0, {T: 0}),
+            (Adder, "prepare", True, 0, {T: 0}),
+            (Adder, "meet", False, 0, {T: 0}),
+            (Adder, "meet", True, 0, {T: 1}),
+            (Adder, "send", False, 0, {T: 1}),
+            (RowsSender, "push", True, 2, {T: 1}),
+            (RowsSender, "push", True, 4, {T: 1}),
+            (Adder, "send", True, 0, {T: 1}),
+            (Adder, "finish", False, 0, {T: 1}),
             (Adder, "forget", True, 0, {}),
         ):
             with self.subTest(name=name, after=after):
@@ -80,9 +80,9 @@ class Cuts(Case):
         """As where the server has described the table otherwise before."""
         self.patch(Leaving, "has_described_otherwise", lambda *_: True)
         for where, name, after, noted in (
-            (Adder, "send", False, [str(T)]),
-            (Adder, "send", True, [str(T)]),
-            (Adder, "finish", False, [str(T)]),
+            (Adder, "send", False, [T]),
+            (Adder, "send", True, [T]),
+            (Adder, "finish", False, [T]),
             (Adder, "finish", True, []),
             (Session, "renew", False, []),
             (Session, "renew", True, []),
@@ -94,7 +94,7 @@ class Cuts(Case):
 
     def test_between_two_files(self) -> None:
         """The table isn't wanted any more, and the checkpoint has it still."""
-        self.assertEqual(list(self.cut([(Remembered, "added")], True)), [str(T)])
+        self.assertEqual(list(self.cut([(Remembered, "added")], True)), [T])
         self.goes_on()
 
     def test_the_rows_are_stored_before_it_is_noted(self) -> None:
@@ -103,7 +103,7 @@ class Cuts(Case):
         WorldSource.hook = staticmethod(mock.Mock())
         self.goes_on()
         WorldSource.hook.assert_not_called()  # type: ignore[attr-defined]
-        self.assertGreater(found[str(T)], 0)
+        self.assertGreater(found[T], 0)
 
     def test_an_lsn_without_its_rows_is_forgotten(self) -> None:
         """Before a session passes anything on, since the position may pass that LSN by."""
@@ -117,7 +117,7 @@ class Cuts(Case):
 
         self.patch(SessionStart, "start_replication", start)
         self.goes_on()
-        self.assertEqual(noted[0], {str(T): 0})
+        self.assertEqual(noted[0], {T: 0})
 
 
 if __name__ == "__main__":

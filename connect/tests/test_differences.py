@@ -281,20 +281,6 @@ CASES: list[Case] = [
         "left and joined again",
     ),
     (
-        "who put it there wasn't known",
-        a_catalog(a_table(1, "t", part=by("16401/741"))),
-        a_catalog(a_table(1, "t", part=by("16401@702/741"))),
-        [],
-        "",
-    ),
-    (
-        "another one above it, either",
-        a_catalog(a_table(1, "t", part=by("16401/741"))),
-        a_catalog(a_table(1, "t", part=by("16401@702/742"))),
-        [PUBLICATION],
-        "left and joined again",
-    ),
-    (
         "from when it wasn't known",
         a_catalog(T),
         a_catalog(a_table(1, "t", part=by("16401"))),

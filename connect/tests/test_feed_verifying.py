@@ -20,6 +20,8 @@ from pgsub_connect.commands.tables import Options
 from pgsub_connect.copy.source import chosen
 from pgsub_connect.server.catalog import Table
 from pgsub_connect.server.session import Subscription
+from pgsub_connect.store.checkpoint import spelled
+from pgsub_connect.store.checkpoint_lines import FOLLOWING, Known, line_of
 from pgsub_connect.verify import tables_file
 from pgsub_connect.verify.tables_file import TablesComparison
 from pgsub_feed.errors import FileError, Passing, Stopped, Unfit
@@ -412,7 +414,8 @@ class Server(VerifyCase):
         path = self.folder / "store.connector"
 
         def add(oid: int) -> None:
-            path.write_text(json.dumps({"phase": "following", "adding": {str(oid): 0}}))
+            known = Known(FOLLOWING, adding={oid: 0})
+            path.write_bytes(line_of(1, spelled(known), None))
 
         add(1)
         self.fails(Passing, "being added just now, or refused: public.stock", store=str(store))

@@ -75,7 +75,7 @@ class InTheWay(Case):
         self.world.commit(insert(THIRD, (1, "x")))
         end = self.world.end
         self.assertTrue(run.until(lambda: run.filter.confirmed() >= end))
-        self.assertEqual(Checkpoint.read(run.checkpoint).adding, {str(T): 0})
+        self.assertEqual(Checkpoint.read(run.checkpoint).adding, {T: 0})
         self.fails("none")
         self.assertTrue(run.until(lambda: not run.remembered.wanted), self.said)
         self.assertTrue(run.until(lambda: self.is_stored(run)))

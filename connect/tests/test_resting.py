@@ -437,7 +437,6 @@ class Taken(Case):
             own,
             own + "-journal",
             own + ".pgsub-new-wal",
-            own + ".request",
             f"{own}.pgsub-{GONE}",
             f"{own}.copied.pgsub-{GONE}-wal",
         ]
