@@ -154,7 +154,7 @@ class Case(unittest.TestCase):
         self.install("--pages", self.make_pages())
         store = self.room / "copy.db"
         store.touch()
-        words = [self.root / "bin/pgsub", "dump", "--store", store]
+        words = [str(self.root / "bin/pgsub"), "dump", "--store", str(store)]
         with store.open("r+") as file:
             fcntl.lockf(file, fcntl.LOCK_EX)
             ran = subprocess.run(words, capture_output=True, text=True, check=True)
