@@ -712,8 +712,11 @@ class Fits(Case):
     def test_a_session_that_is_lost_within_a_look(self) -> None:
         """A status that is due meanwhile meets it first; another session begins."""
         peers, looked, copy = list[socket.socket](), list[int](), self.server.copy
-        self.patch(self.server, "copy", lambda peer: (peers.append(peer), copy(peer)))
         follower = self.follower()
+
+        def copied(peer: socket.socket) -> None:
+            peers.append(peer)
+            copy(peer)
 
         def look(*_: object) -> bool:
             if peers and not looked:
@@ -728,6 +731,7 @@ class Fits(Case):
                 connection.drain(5.0)
             return True
 
+        self.patch(self.server, "copy", copied)
         self.patch(drift_watch, "AT_LEAST", 0.0)
         self.patch(drift_watch.Watch, "look_again", look)
         self.run_until(follower, lambda: self.server.sessions == 2)
