@@ -1,7 +1,7 @@
 //! The commits that are noted in a file.
 
 ghost use Rattle.std.specs.Prelude.{◌≡◌, ◌<◌, ℕ, List, [], IfOk, OnOk, OnErr, Some, true, false};
-ghost use Rattle.std.specs.BTreeMap.{btree_map_len};
+ghost use Rattle.std.specs.Prelude.{length};
 ghost use Rattle.pgpast.specs.Noting.{IsAdded, IsBegun, IsKept, IsLoaded, head};
 ghost use Rattle.pgpast.specs.Records.{written};
 
@@ -60,7 +60,7 @@ pub struct Opened<F: NotesFile + Drop> {
 impl<F: NotesFile + Drop> Opened<F> {
     /// What it was found to hold.
     pub fn found(&self) -> Found
-        ensures count { result.count ≡ btree_map_len self.now.past.commits }
+        ensures count { result.count ≡ length self.now.past.commits }
         ensures newest { result.newest ≡ self.now.past.newest }
         ensures unreadable { result.unreadable ≡ self.now.unreadable }
     {

@@ -3,9 +3,7 @@ use Rattle.std.proofs.Common.{◌≡◌, ◌≤◌, ◌<◌, ◌⊎◌, ◌∙�
 use Rattle.std.proofs.Common.{true, false}
 use Rattle.std.proofs.Common.{true≢false, Option, None, Some, Ok, refl, sym, ap, subst, arith}
 use Rattle.std.proofs.Common.{if◌then◌else◌}
-use Rattle.std.specs.Option.{IsSome}
 use Rattle.std.proofs.lemmas.Bool.{cases_eq, cases_order}
-use Rattle.std.proofs.lemmas.Map.Keys.{le_from_not_gt}
 use Rattle.pgrepeats.specs.declared.commit.Commit.{Commit}
 use Rattle.pgrepeats.specs.declared.fault.Contradiction.{Contradiction}
 use Rattle.pgrepeats.specs.declared.fault.Contradiction.TheVariants as contradiction
@@ -13,7 +11,7 @@ use Rattle.pgrepeats.specs.declared.fault.Part.{Part}
 use Rattle.pgrepeats.specs.declared.fault.Part.TheVariants as part
 use Rattle.pgrepeats.specs.declared.past.Answer.{Answer}
 use Rattle.pgrepeats.specs.declared.past.Answer.TheVariants as answer
-use Rattle.pgrepeats.specs.declared.past.Noted.{Noted}
+use Rattle.pgrepeats.specs.declared.noted.Noted.{Noted}
 use Rattle.pgrepeats.specs.declared.past.Past.{Past}
 use Rattle.pgrepeats.specs.Past.{noted_at, commit_at, must_come, Answers, Begins, Contradicts}
 use Rattle.pgrepeats.specs.Past.{IsBefore}
@@ -166,7 +164,7 @@ module _ (history : List Commit) (p : Past) (at : ℕ) (d : Commit) (h : IsHisto
     low : (k : ℕ) (n : Noted) → noted_at p k ≡ Some n → noted_at new k ≡ Some n → k < d.end → Begins p d new → new.since ≤ k
     low k n e there below (inl (same, some)) = omega (arith, same, (i.noted k n e).1)
     low k n e there below (inr (inl (m, first, least, some))) =
-        le_from_not_gt new.since k (least k (subst IsSome (sym e) refl))
+        least k n e
     low k n e there below (inr (inr (same, none))) =
         let no : noted_at new k ≡ None = none k (λ eq. omega (arith, eq, below)) in
         let bad : Some n ≡ None = sym there ∙ no in absurd (cc)

@@ -1,3 +1,4 @@
 mod Commits
 pub mod Histories
 mod Noting
+mod Rings

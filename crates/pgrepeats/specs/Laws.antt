@@ -1,11 +1,10 @@
 -- What an answer means: no commit of a well-formed server is contradicted by those of the same
 -- history that it sent before. `docs/PROTOCOL.md`, "What a well-formed server is".
-use Rattle.std.specs.Prelude.{◌≡◌, ◌≤◌, ◌<◌, ◌⊎◌, ℕ, List, [], ◌∷◌, true, None, Some, Ok}
-use Rattle.std.specs.BTreeMap.{btree_map_len}
+use Rattle.std.specs.Prelude.{◌≡◌, ◌≤◌, ◌<◌, ◌⊎◌, ℕ, List, [], ◌∷◌, true, None, Some, Ok, length}
 use Rattle.pgrepeats.specs.declared.commit.Commit.{Commit}
 use Rattle.pgrepeats.specs.declared.fault.Contradiction.{Contradiction}
 use Rattle.pgrepeats.specs.declared.past.Answer.{Answer}
-use Rattle.pgrepeats.specs.declared.past.Noted.{Noted}
+use Rattle.pgrepeats.specs.declared.noted.Noted.{Noted}
 use Rattle.pgrepeats.specs.declared.past.Past.{Past}
 use Rattle.pgrepeats.specs.Past.{noted_at, commit_at, must_come, Answers, Contradicts, IsFirst}
 use Rattle.pgrepeats.specs.Past.{IsForgotten}
@@ -28,7 +27,7 @@ pub record IsNext (history : List Commit) (at : ℕ) (d : Commit) : Type 0 where
 -- all that must come and ends at or below a place has come
 abbrev pub HasComeTo : List Commit → Past → ℕ → Type 0
 HasComeTo history p at =
-    0 < btree_map_len p.commits → (c : Commit) → IsOf history c → must_come c ≡ true → p.newest < c.end → at < c.end
+    0 < length p.commits → (c : Commit) → IsOf history c → must_come c ≡ true → p.newest < c.end → at < c.end
 
 -- where one of them ends that must come, or none
 abbrev pub EndsOne : List Commit → ℕ → Type 0

@@ -1,3 +1,4 @@
 pub mod Digests
 pub mod Past
+pub mod Rings
 pub mod Laws

@@ -1,9 +1,7 @@
 -- What is noted of commits that came, and what is answered of one that comes.
 use Rattle.std.specs.Prelude.{◌≡◌, ◌≢◌, ◌≤◌, ◌<◌, ◌+◌, ◌-◌, ◌^◌, ◌⊎◌, ℕ, min, Bool, true, false}
 use Rattle.std.specs.Prelude.{Option, Some, None, Result, Ok, Err, if◌then◌else◌, ◌&&◌, ◌==◌}
-use Rattle.std.specs.Prelude.{not, nat_lt}
-use Rattle.std.specs.Ordering.{nat_cmp}
-use Rattle.std.specs.BTreeMap.{get, btree_map_len, IsLowerBound, Updates}
+use Rattle.std.specs.Prelude.{not, nat_lt, length}
 use Rattle.pgrepeats.specs.declared.commit.Commit.{Commit}
 use Rattle.pgrepeats.specs.declared.fault.Contradiction.{Contradiction}
 use Rattle.pgrepeats.specs.declared.fault.Contradiction.TheVariants as contradiction
@@ -13,12 +11,13 @@ use Rattle.pgrepeats.specs.declared.fault.Trouble.{Trouble}
 use Rattle.pgrepeats.specs.declared.fault.Trouble.TheVariants as trouble
 use Rattle.pgrepeats.specs.declared.past.Answer.{Answer}
 use Rattle.pgrepeats.specs.declared.past.Answer.TheVariants as answer
-use Rattle.pgrepeats.specs.declared.past.Noted.{Noted}
+use Rattle.pgrepeats.specs.declared.noted.Noted.{Noted}
 use Rattle.pgrepeats.specs.declared.past.Past.{Past}
+use Rattle.pgrepeats.specs.Rings.{IsLeast, Updates, noted_in}
 
 -- what is noted of the commit that ends there
 abbrev pub noted_at : Past → ℕ → Option Noted
-noted_at p end = get nat_cmp p.commits end
+noted_at p end = noted_in p.commits end
 
 abbrev pub commit_at : ℕ → Noted → Commit
 commit_at end n = record { end = end; lsn = n.lsn; xid = n.xid; time = n.time; digest = n.digest }
@@ -67,8 +66,8 @@ Contradicts p d (contradiction.Overlaps lsn end) = (lsn ≡ d.lsn) × (end ≡ p
 -- with this one.
 abbrev pub Begins : Past → Commit → Past → Type 0
 Begins p d new =
-    ((new.since ≡ p.since) × (0 < btree_map_len p.commits))
-    ⊎ ((n : Noted) × (noted_at p new.since ≡ Some n) × IsLowerBound nat_cmp p.commits new.since × (0 < btree_map_len p.commits))
+    ((new.since ≡ p.since) × (0 < length p.commits))
+    ⊎ ((n : Noted) × (noted_at p new.since ≡ Some n) × IsLeast p.commits new.since × (0 < length p.commits))
     ⊎ ((new.since ≡ d.end) × ((k : ℕ) → k ≢ d.end → noted_at new k ≡ None))
 
 -- it came before, just so
@@ -86,7 +85,7 @@ pub record Keeps (p : Past) (d : Commit) (new : Past) : Type 0 where
   pub none_more : (k : ℕ) (n : Noted) → k ≢ d.end → noted_at new k ≡ Some n → noted_at p k ≡ Some n
   pub all_since : (k : ℕ) → new.since < k → k ≤ p.newest → k ≢ d.end → noted_at new k ≡ noted_at p k
   pub first_goes : d.xid ≢ 2 → (k : ℕ) (n : Noted) → k ≢ d.end → noted_at p k ≡ Some n
-      → (noted_at new k ≡ Some n) ⊎ ((p.limit ≤ btree_map_len p.commits) × IsLowerBound nat_cmp p.commits k)
+      → (noted_at new k ≡ Some n) ⊎ ((p.limit ≤ length p.commits) × IsLeast p.commits k)
   pub since_is : Begins p d new
 
 -- it is above all that came, and is noted
@@ -100,6 +99,7 @@ pub record IsNew (p : Past) (d : Commit) (new : Past) : Type 0 where
   pub before : (noted.before ≡ p.changed) ⊎ ((noted.before ≡ 0) × (d.xid ≡ 2))
   pub keeps : Keeps p d new
   pub limit : new.limit ≡ p.limit
+  pub bound : 0 < p.limit → length p.commits ≤ p.limit → length new.commits ≤ p.limit
   pub newest : new.newest ≡ d.end
   pub changed : new.changed ≡ (if must_come d then d.end else noted.before)
   pub last : new.last ≡ Some d.end
@@ -122,7 +122,7 @@ Answers p d new (Err trouble.Memory) = Unit {0}
 pub record IsFirst (limit : ℕ) (p : Past) : Type 0 where
   pub limit_is : p.limit ≡ limit
   pub none : (k : ℕ) → noted_at p k ≡ None
-  pub empty : btree_map_len p.commits ≡ 0
+  pub empty : length p.commits ≡ 0
   pub newest : p.newest ≡ 0
   pub since : p.since ≡ 0
   pub changed : p.changed ≡ 0
@@ -132,7 +132,7 @@ pub record IsFirst (limit : ℕ) (p : Past) : Type 0 where
 pub record IsForgotten (p new : Past) : Type 0 where
   pub limit_is : new.limit ≡ p.limit
   pub none : (k : ℕ) → noted_at new k ≡ None
-  pub empty : btree_map_len new.commits ≡ 0
+  pub empty : length new.commits ≡ 0
   pub newest : new.newest ≡ p.newest
   pub since : new.since ≡ p.newest
   pub changed : new.changed ≡ 0
@@ -145,8 +145,9 @@ pub record IsFirstForgotten (p new : Past) : Type 0 where
   pub end : ℕ
   pub noted : Noted
   pub was : noted_at p end ≡ Some noted
-  pub least : IsLowerBound nat_cmp p.commits end
-  pub goes : Updates nat_cmp p.commits new.commits end None
+  pub least : IsLeast p.commits end
+  pub goes : Updates p.commits new.commits end None
+  pub fewer : length new.commits + 1 ≡ length p.commits
   pub since : new.since ≡ end
   pub newest : new.newest ≡ p.newest
   pub changed : new.changed ≡ p.changed
@@ -155,22 +156,23 @@ pub record IsFirstForgotten (p new : Past) : Type 0 where
 abbrev pub Forgets : Past → ℕ → Past → Type 0
 Forgets p xid new =
     ((xid ≡ 2) × IsForgotten p new)
-    ⊎ ((p.limit ≤ btree_map_len p.commits) × (0 < btree_map_len p.commits) × IsFirstForgotten p new)
-    ⊎ ((xid ≢ 2) × (new ≡ p))
+    ⊎ ((p.limit ≤ length p.commits) × (0 < length p.commits) × IsFirstForgotten p new)
+    ⊎ ((xid ≢ 2) × (new ≡ p) × ((length p.commits ≡ 0) ⊎ (length p.commits < p.limit)))
 
 abbrev pub BeginsAt : Past → ℕ → Past → Type 0
 BeginsAt p end new =
-    ((btree_map_len p.commits ≡ 0) × (new ≡ record p { since = end })) ⊎ ((0 < btree_map_len p.commits) × (new ≡ p))
+    ((length p.commits ≡ 0) × (new ≡ record p { since = end })) ⊎ ((0 < length p.commits) × (new ≡ p))
 
 -- what has to be forgotten is
 pub record Readies (p : Past) (d : Commit) (new : Past) : Type 0 where
   pub none_more : (k : ℕ) (n : Noted) → noted_at new k ≡ Some n → noted_at p k ≡ Some n
   pub all_since : (k : ℕ) → new.since < k → k ≤ p.newest → noted_at new k ≡ noted_at p k
   pub first_goes : d.xid ≢ 2 → (k : ℕ) (n : Noted) → noted_at p k ≡ Some n
-      → (noted_at new k ≡ Some n) ⊎ ((p.limit ≤ btree_map_len p.commits) × IsLowerBound nat_cmp p.commits k)
+      → (noted_at new k ≡ Some n) ⊎ ((p.limit ≤ length p.commits) × IsLeast p.commits k)
   pub since_is : Begins p d new
   pub before : (new.changed ≡ p.changed) ⊎ ((new.changed ≡ 0) × (d.xid ≡ 2))
   pub limit : new.limit ≡ p.limit
+  pub room : 0 < p.limit → length p.commits ≤ p.limit → length new.commits < p.limit
 
 pub record IsNoted (p : Past) (d : Commit) (new : Past) : Type 0 where
   pub noted : Noted
@@ -178,6 +180,7 @@ pub record IsNoted (p : Past) (d : Commit) (new : Past) : Type 0 where
   pub same : commit_at d.end noted ≡ d
   pub before : noted.before ≡ p.changed
   pub others : (k : ℕ) → k ≢ d.end → noted_at new k ≡ noted_at p k
+  pub more : length new.commits ≡ length p.commits + 1
   pub limit : new.limit ≡ p.limit
   pub since : new.since ≡ p.since
   pub newest : new.newest ≡ d.end

@@ -21,7 +21,9 @@ mod commit;
 mod digest;
 mod fault;
 mod laws;
+mod noted;
 mod past;
+mod ring;
 
 pub use commit::Commit;
 pub use digest::{Change, Digest};

@@ -1,19 +1,19 @@
 //! The newest commits that came, and what is said of one that comes.
 
-ghost use Rattle.std.specs.Prelude.{◌≡◌, ◌≢◌, ◌<◌, ◌≤◌, ◌==◌, Some, None, true, OnOk, IfErr};
+ghost use Rattle.std.specs.Prelude.{◌≡◌, ◌≢◌, ◌<◌, ◌≤◌, ◌==◌, Some, None, true, length};
+ghost use Rattle.std.specs.Prelude.{OnOk, IfErr};
 ghost use Rattle.std.specs.Bool.{OnTrue};
-ghost use Rattle.std.specs.BTreeMap.{btree_map_len};
 ghost use Rattle.pgrepeats.specs.Past.{BeginsAt, Forgets, IsFirstForgotten};
 ghost use Rattle.pgrepeats.specs.Past.{Answers, DiffersIn, IsFirst, IsForgotten, IsLeftOut};
 ghost use Rattle.pgrepeats.specs.Past.{NoneIsLeftOut, Notes, Readies, commit_at, must_come};
 ghost use Rattle.pgrepeats.specs.Past.{noted_at};
 
 use crate::commit::Commit;
-use crate::digest::Digest;
 use crate::fault::{Contradiction, Part, Trouble};
+use crate::noted::Noted;
+use crate::ring::Ring;
 use pglsn::Lsn;
 use std::alloc::Global;
-use std::collections::BTreeMap;
 
 /// FrozenTransactionId, which is no transaction's: so the connector marks rows that it puts into a
 /// stream.
@@ -32,49 +32,12 @@ pub enum Answer {
     Unknown,
 }
 
-/// What is noted of a commit, and where the last one before it ends that changes something.
-#[derive(Clone, Copy, Debug)]
-pub(crate) struct Noted {
-    pub(crate) lsn: u64,
-    pub(crate) xid: u32,
-    pub(crate) time: i64,
-    pub(crate) digest: Digest,
-    pub(crate) before: u64,
-}
-
-impl Noted {
-    fn of(commit: Commit, before: u64) -> Noted
-        ensures same { commit_at commit.end result ≡ commit }
-        ensures before { result.before ≡ before }
-    {
-        Noted {
-            lsn: commit.lsn,
-            xid: commit.xid,
-            time: commit.time,
-            digest: commit.digest,
-            before,
-        }
-    }
-
-    fn commit(&self, end: u64) -> Commit
-        ensures { result ≡ commit_at end self.now }
-    {
-        Commit {
-            end,
-            lsn: self.lsn,
-            xid: self.xid,
-            time: self.time,
-            digest: self.digest,
-        }
-    }
-}
-
 /// Commits that came, by where they end: of those that change something all that end above `since`,
 /// up to `newest`.
 #[derive(Drop)]
 pub struct Past {
     limit: usize,
-    commits: BTreeMap<u64, Noted>,
+    commits: Ring,
     since: u64,
     newest: u64,
     /// Where the newest one ends that changes something.
@@ -92,7 +55,7 @@ impl Past {
     {
         Past {
             limit,
-            commits: BTreeMap::new(alloc),
+            commits: Ring::new(alloc),
             since: 0,
             newest: 0,
             changed: 0,
@@ -104,14 +67,14 @@ impl Past {
 
     /// How many are noted.
     pub fn len(&self) -> usize
-        ensures { result ≡ btree_map_len self.now.commits }
+        ensures { result ≡ length self.now.commits }
     {
         self.commits.len()
     }
 
     /// Whether none is noted.
     pub fn is_empty(&self) -> bool
-        ensures { result ≡ (btree_map_len self.now.commits == 0) }
+        ensures { result ≡ (length self.now.commits == 0) }
     {
         self.commits.is_empty()
     }
@@ -198,7 +161,7 @@ impl Past {
     fn noted(&self, end: u64) -> Option<Noted>
         ensures { result ≡ noted_at self.now end }
     {
-        self.commits.get(&end).copied()
+        self.commits.get(end)
     }
 
     // A commit with an end that is noted.
@@ -268,7 +231,7 @@ impl Past {
     }
 
     fn forget_first(&mut self)
-        requires { 0 < btree_map_len self.old.commits }
+        requires { 0 < length self.old.commits }
         ensures { IsFirstForgotten self.old self.new }
     {
         let Some((end, _)) = self.commits.pop_first() else {
@@ -292,7 +255,7 @@ impl Past {
         ensures { Notes self.old commit self.new result }
     {
         let noted = Noted::of(commit, self.changed);
-        let Ok(_) = self.commits.insert(commit.end, noted) else {
+        let Ok(_) = self.commits.push(commit.end, noted) else {
             return Err(Trouble::Memory);
         };
         self.newest = commit.end;

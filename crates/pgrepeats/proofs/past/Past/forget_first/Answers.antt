@@ -8,6 +8,7 @@ returns c = record {
   was = c.in-Some.ensures.value;
   least = c.in-Some.ensures.least;
   goes = c.in-Some.ensures.updates;
+  fewer = c.in-Some.ensures.fewer;
   since = refl;
   newest = refl;
   changed = refl;
