@@ -3,7 +3,7 @@ use Rattle.std.proofs.Common.{◌≡◌, ◌∙◌, ◌⊎◌, inl, inr, ℕ, �
 use Rattle.std.proofs.Common.{cond}
 use Rattle.std.proofs.Common.{Option, None, Some, Result, Ok, Err, refl, sym, ap, subst, arith}
 use Rattle.std.proofs.Common.{append-nil}
-use Rattle.std.proofs.Common.{append_assoc, true≢false, ◌==◌, if◌then◌else◌, not, ◌&&◌, ◌||◌}
+use Rattle.std.proofs.Common.{true≢false, ◌==◌, if◌then◌else◌, not, ◌&&◌, ◌||◌}
 use Rattle.std.proofs.lemmas.Bool.Decides.{nat_tests}
 use Rattle.pglogical.specs.declared.message.Item.{Item}
 use Rattle.pglogical.specs.declared.message.Message.{Message}
@@ -13,7 +13,6 @@ use Rattle.pgorder.specs.declared.Version.{Version}
 use Rattle.pgorder.specs.declared.Version.TheVariants.{One, Two}
 use Rattle.pgorder.specs.declared.Event.TheVariants as event
 use Rattle.pgorder.specs.declared.fault.OrderFault.{OrderFault}
-use Rattle.pgorder.specs.declared.fault.OrderFault.TheVariants as fault
 use Rattle.pgorder.specs.OpenXids.{OpenXids, is_open, is_open-opened, is_open-with_open}
 use Rattle.pgorder.specs.OpenXids.{is_open-without, with_open, without as without_xid}
 use Rattle.pgorder.specs.States.{is_in_block}
@@ -28,13 +27,13 @@ use Rattle.pgcompared.specs.Commits.{AreOfCommits, Course, IsOfCommit, Labelled,
 use Rattle.pgcompared.specs.Commits.{commit_with, commits_of, course_after, first_course, holding}
 use Rattle.pgcompared.specs.Commits.{items_of, kept_of, left_of}
 use Rattle.pgcompared.specs.Laws.{EndedAreCommits, HearsMessages, listed_end}
-use Rattle.pgcompared.specs.Sessions.{at_start, by_order, change_in, ended_as, ended_by, hear}
+use Rattle.pgcompared.specs.Sessions.{at_start, by_order, change_in, ended_as, ended_by}
 use Rattle.pgcompared.specs.Sessions.{opened_by}
-use Rattle.pgcompared.specs.Streams.{Opened, Streamed, added, begun, closed, cut, digest_at}
+use Rattle.pgcompared.specs.Streams.{Opened, Streamed, added, begun, closed, cut}
 use Rattle.pgcompared.specs.Streams.{digest_found, each_added, each_cut, found, listed, with_block}
-use Rattle.pgcompared.specs.Streams.{with_block_item, with_cut, with_item, without, without_block}
+use Rattle.pgcompared.specs.Streams.{with_block_item, with_item, without}
 use Rattle.pgcompared.proofs.Points.{Tracks, added_is, added_top, cut_tracks, digest_is, pair_push}
-use Rattle.pgcompared.proofs.Points.{digest_from, tracks_none}
+use Rattle.pgcompared.proofs.Points.{tracks_none}
 
 -- ---- one stream among several
 

@@ -1,12 +1,12 @@
 -- The session that goes on is heard message by message.
-use Rattle.std.proofs.Common.{◌≡◌, ◌∙◌, ◌⊎◌, inl, inr, ℕ, ℤ, List, [], ◌∷◌, ◌++◌, Bool, true, false}
+use Rattle.std.proofs.Common.{◌≡◌, ◌∙◌, inl, inr, ℕ, ℤ, List, [], ◌∷◌, ◌++◌, Bool, true, false}
 use Rattle.std.proofs.Common.{Option, None, Some, Ok, refl, sym, ap, subst, true≢false}
 use Rattle.std.proofs.Common.{append_assoc}
 use Rattle.std.proofs.Common.{append-nil, ◌+◌, length}
 use Rattle.pgwire.specs.Frames as wire
 use Rattle.pgwire.specs.Payloads.{XLogData, payload}
 use Rattle.pglogical.specs.declared.message.Message.{Message}
-use Rattle.pglogical.specs.Spelling.{IsMessageFor, Says, message_spelling}
+use Rattle.pglogical.specs.Spelling.{IsMessageFor, message_spelling}
 use Rattle.pgorder.specs.declared.Version.{Version}
 use Rattle.pgrepeats.specs.declared.past.Past.{Past}
 use Rattle.pgcompared.specs.declared.hearing.Hearing.{Hearing}
@@ -17,9 +17,9 @@ use Rattle.pgcompared.specs.declared.session.Session.{Session}
 use Rattle.pgcompared.specs.Frames.{HearsBody, HearsFrame, HearsIf, HearsOrPasses, IsKeepalive}
 use Rattle.pgcompared.specs.Frames.{OfData}
 use Rattle.pgcompared.specs.Frames.{TakesFrame, is_lost}
-use Rattle.pgcompared.specs.HeardSessions.{AreBehindDone, Carry, IsSessionHeard, SessionsAreHeard}
+use Rattle.pgcompared.specs.HeardSessions.{AreBehindDone, IsSessionHeard, SessionsAreHeard}
 use Rattle.pgcompared.specs.Laws.{HearsEach, HearsMessages, listed_end}
-use Rattle.pgcompared.specs.Live.{Leads, Step, first_hearing}
+use Rattle.pgcompared.specs.Live.{Leads, Step}
 use Rattle.pgcompared.specs.Noting.{HearsEnded}
 use Rattle.pgcompared.specs.Sessions.{at_start, hear, in_block_of}
 

@@ -1,15 +1,14 @@
 -- No session of the same history is contradicted.
-use Rattle.std.proofs.Common.{◌≡◌, ◌≤◌, ◌<◌, ◌⊎◌, ◌∙◌, inl, inr, ℕ, List, [], ◌∷◌, Bool, true}
+use Rattle.std.proofs.Common.{◌≡◌, ◌≤◌, ◌∙◌, ℕ, List, [], ◌∷◌, Bool, true}
 use Rattle.std.proofs.Common.{false}
-use Rattle.std.proofs.Common.{Option, None, Some, Ok, refl, sym, ap, subst, arith, not, nat_lt}
+use Rattle.std.proofs.Common.{Option, None, Some, refl, sym, ap, subst, arith, not, nat_lt}
 use Rattle.std.proofs.Common.{◌&&◌}
 use Rattle.std.proofs.Common.{true≢false}
 use Rattle.std.specs.List.{AllByRecursion}
 use Rattle.std.proofs.lemmas.Bool.Decides.{nat_tests}
 use Rattle.pgrepeats.specs.declared.commit.Commit.{Commit}
 use Rattle.pgrepeats.specs.declared.past.Past.{Past}
-use Rattle.pgrepeats.specs.Past.{IsForgotten}
-use Rattle.pgrepeats.specs.Laws.{IsHistory, IsNext, IsPastOf, HasComeTo}
+use Rattle.pgrepeats.specs.Laws.{IsHistory, IsNext, IsPastOf}
 use Rattle.pgrepeats.proofs.Histories.{answers_keep_the_past, histories_are_not_contradicted}
 use Rattle.pgrepeats.proofs.Histories.{sessions_keep_the_past}
 use Rattle.pgcompared.specs.declared.finding.Finding.{Finding}

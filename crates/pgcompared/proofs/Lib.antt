@@ -1,4 +1,5 @@
 pub mod Paths
+mod Fronts
 pub mod Histories
 pub mod Points
 pub mod Courses

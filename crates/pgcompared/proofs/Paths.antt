@@ -1,6 +1,6 @@
 -- Sessions that are compared, with each front of a piece that comes.
-use Rattle.std.proofs.Common.{◌≡◌, ◌≢◌, ◌≤◌, ◌+◌, ◌⊎◌, ◌∙◌, inl, inr, ℕ, List, [], ◌∷◌, ◌++◌}
-use Rattle.std.proofs.Common.{Bool, true, false, true≢false, None, Some, Ok, Err, refl, sym, ap}
+use Rattle.std.proofs.Common.{◌≡◌, ◌≢◌, ◌+◌, ◌∙◌, inl, inr, ℕ, List, [], ◌∷◌, ◌++◌}
+use Rattle.std.proofs.Common.{true, false, None, Some, Ok, Err, refl, sym, ap}
 use Rattle.std.proofs.Common.{subst}
 use Rattle.std.proofs.Common.{arith, length, take, take_all, append_assoc, append-nil, ⊎_elim}
 use Rattle.std.proofs.lemmas.List.{length-append, length-take-le}
@@ -8,17 +8,16 @@ use Rattle.pgwire.specs.declared.fault.WireFault.{WireFault}
 use Rattle.pgwire.specs.declared.fault.WireFault.TheVariants as wire_fault
 use Rattle.pgwire.specs.Frames as wire
 use Rattle.pgwire.specs.Deframed.{Deframed, fresh, Stands, Waits, IsFed, IsReleased, after_release}
-use Rattle.pgwire.specs.Deframed.{is_copy_done}
 use Rattle.pgorder.specs.declared.Version.{Version}
 use Rattle.pgrepeats.specs.declared.past.Past.{Past}
 use Rattle.pgcompared.specs.declared.compared.Compared.{Compared}
-use Rattle.pgcompared.specs.declared.compared.Heard.{Heard}
 use Rattle.pgcompared.specs.declared.hearing.Hearing.{Hearing}
 use Rattle.pgcompared.specs.declared.noting.Told.{Told}
 use Rattle.pgcompared.specs.Frames.{Takes}
 use Rattle.pgcompared.specs.Noting.{told_nothing}
-use Rattle.pgcompared.specs.Live.{HearsNext, IsCompared, IsDeaf, IsGoing, Leads, StandsBehind, Step}
-use Rattle.pgcompared.specs.Live.{bytes_of, first_hearing, passed_over, speaking, spoken, told_deaf}
+use Rattle.pgcompared.specs.Live.{HearsNext, HearsWhole, IsCompared, IsDeaf, IsGoing, Leads}
+use Rattle.pgcompared.specs.Live.{StandsBehind, Step}
+use Rattle.pgcompared.specs.Live.{bytes_of, first_hearing, passed_over, spoken, told_deaf}
 use Rattle.pgcompared.specs.Live.{told_of}
 
 -- nothing is held
@@ -26,9 +25,14 @@ nothing_partial : (max : ℕ) (held : List ℕ) → held ≡ [] → wire.IsParti
 nothing_partial max held none =
     subst (wire.IsPartial max) (sym none) (record { tag = λ some. absurd (omega arith); payload = λ long. absurd (omega arith) })
 
+nothing_long : (held : List ℕ) → length held ≡ 0 → held ≡ []
+nothing_long [] none = refl
+nothing_long (x ∷ xs) none = absurd (omega (arith, none))
+
 pub at_first : (v : Version) (limit max : ℕ) (past : Past) (c : Compared) → c.deframer ≡ fresh max
-    → c.hearing ≡ first_hearing v limit past → c.came ≡ 0 → c.deaf ≡ false → IsCompared v limit max past [] c []
-at_first v limit max past c new first came whole = record {
+    → c.max_frame ≡ max → c.hearing ≡ first_hearing v limit past → c.came ≡ 0 → c.deaf ≡ false → IsCompared v limit max past [] c []
+at_first v limit max past c new same first came whole = record {
+  limit_is = same;
   steps = [];
   leads = first;
   max_is = ap (λ (d : Deframed). d.max) new;
@@ -88,14 +92,6 @@ fed_max old new piece wire_fault.Short fed = ap (λ (m : Deframed). m.max) fed.0
 fed_max old new piece wire_fault.Trailing fed = ap (λ (m : Deframed). m.max) fed.0
 fed_max old new piece wire_fault.BadReplyByte fed = ap (λ (m : Deframed). m.max) fed.0
 
--- what is answered is what is told
-pub answered : (v : Version) (limit max : ℕ) (past : Past) (all : List ℕ) (told : List Told) (piece : List ℕ) (h : Heard) (n : ℕ) (t : Told)
-    (new : Compared) → h ≡ record { count = n; forgot = t.forgot; noted = t.noted; found = t.found }
-    → IsCompared v limit max past (all ++ take n piece) new (told ++ spoken t)
-    → IsCompared v limit max past (all ++ take h.count piece) new (told ++ speaking h.forgot h.noted h.found)
-answered v limit max past all told piece h n t new is =
-    subst (λ (x : Heard). IsCompared v limit max past (all ++ take x.count piece) new (told ++ speaking x.forgot x.noted x.found)) (sym is)
-
 module _ (v : Version) (limit max : ℕ) (past : Past) (all : List ℕ) (c : Compared) (told : List Told)
     (i : IsCompared v limit max past all c told) where
   -- the frames couldn't be told apart before
@@ -106,6 +102,7 @@ module _ (v : Version) (limit max : ℕ) (past : Past) (all : List ℕ) (c : Com
         steps = i.steps;
         leads = i.leads;
         max_is = i.max_is;
+        limit_is = i.limit_is;
         stands =
             subst (StandsBehind max (all ++ part) i.steps c (told ++ [])) (sym deaf) (record {
               front = d.front;
@@ -132,6 +129,7 @@ module _ (v : Version) (limit max : ℕ) (past : Past) (all : List ℕ) (c : Com
         steps = i.steps;
         leads = i.leads;
         max_is = max_is;
+        limit_is = i.limit_is;
         stands = record {
           front = c.deframer.held ++ part;
           rest = [];
@@ -204,6 +202,7 @@ module _ (v : Version) (limit max : ℕ) (past : Past) (all : List ℕ) (c : Com
           steps = i.steps;
           leads = i.leads;
           max_is = mid_max;
+          limit_is = i.limit_is;
           stands =
               subst (StandsBehind max (all ++ take n piece) i.steps (record c { deframer = mid; came = came }) (told ++ spoken now))
               (sym whole) (
@@ -239,6 +238,7 @@ module _ (v : Version) (limit max : ℕ) (past : Past) (all : List ℕ) (c : Com
             steps = next ∷ i.steps;
             leads = leads_to;
             max_is = max_is;
+            limit_is = i.limit_is;
             stands =
                 subst (StandsBehind max (all ++ take n piece) (next ∷ i.steps) (record c { deframer = d; hearing = h; came = came' })
                 (told ++ spoken now)) (sym whole) (
@@ -286,3 +286,65 @@ module _ (v : Version) (limit max : ℕ) (past : Past) (all : List ℕ) (c : Com
         → IsCompared v limit max past (all ++ take n piece) new (told ++ spoken now)
     path_next new now (inl (w, new_is, now_is)) = waits new now w new_is now_is
     path_next new now (inr (frame, stands, (h, d, takes, rel, new_is))) = stood frame stands h now d new takes rel new_is
+
+  -- a frame that lies whole in a piece is heard in its place
+  module _ (payload : List ℕ) (whole : c.deaf ≡ false) (none : c.came ≡ c.hearing.at)
+      (allowed : wire.IsAllowed c.max_frame (wire.CopyData payload)) where
+    abbrev copy_data : wire.Frame
+    copy_data = wire.CopyData payload
+
+    was : IsGoing max all i.steps c.deframer c.hearing.at c.came
+    was = (going whole).0
+
+    held_none : c.deframer.held ≡ []
+    held_none = nothing_long c.deframer.held (omega (arith, was.came_is, none))
+
+    all_is : all ≡ bytes_of i.steps
+    all_is = was.whole ∙ ap (λ (xs : List ℕ). bytes_of i.steps ++ xs) held_none ∙ append-nil (bytes_of i.steps)
+
+    module _ (h : Hearing) (came : ℕ) (now : Told) (count : came ≡ c.came + (length payload + 5))
+        (takes : Takes c.hearing copy_data came h now) where
+      abbrev heard_next : Step
+      heard_next = record { frame = copy_data; told = now }
+
+      heard_leads : Leads v limit max past (heard_next ∷ i.steps) h
+      heard_leads = (
+        c.hearing,
+        i.leads,
+        subst (λ m. wire.IsAllowed m copy_data) i.limit_is allowed,
+        subst (λ k. Takes c.hearing copy_data k h now) (omega (arith, count, none)) takes,
+      )
+
+      heard_goes : IsGoing max (all ++ wire.frame copy_data) (heard_next ∷ i.steps) c.deframer h.at came
+      heard_goes = record {
+        whole = ap (λ xs. xs ++ wire.frame copy_data) all_is ∙ sym (append-nil (bytes_of i.steps ++ wire.frame copy_data))
+            ∙ ap (λ (xs : List ℕ). (bytes_of i.steps ++ wire.frame copy_data) ++ xs) (sym held_none);
+        partial = nothing_partial max c.deframer.held held_none;
+        first = was.first;
+        sound = was.sound;
+        came_is = omega (arith, takes.0.1, ap (λ (xs : List ℕ). length xs) held_none);
+      }
+
+      heard_whole : (new : Compared) → new ≡ record c { hearing = h; came = came }
+          → IsCompared v limit max past (all ++ wire.frame copy_data) new (told ++ spoken now)
+      heard_whole new new_is =
+          subst (λ x. IsCompared v limit max past (all ++ wire.frame copy_data) x (told ++ spoken now)) (sym new_is) (record {
+            steps = heard_next ∷ i.steps;
+            leads = heard_leads;
+            max_is = i.max_is;
+            limit_is = i.limit_is;
+            stands =
+                subst (StandsBehind max (all ++ wire.frame copy_data) (heard_next ∷ i.steps) (record c { hearing = h; came = came })
+                (told ++ spoken now)) (sym whole)
+                (heard_goes, ap (λ xs. xs ++ spoken now) (going whole).1);
+          })
+
+    pub path_whole : (piece : List ℕ) → take (length payload + 5) piece ≡ wire.frame copy_data → (new : Compared) (now : Told)
+        → HearsWhole c payload new now
+        → IsCompared v limit max past (all ++ take (length payload + 5) piece) new (told ++ spoken now)
+    path_whole piece is new now (inl (h, came, count, takes, new_is)) =
+        subst (λ (xs : List ℕ). IsCompared v limit max past (all ++ xs) new (told ++ spoken now)) (sym is)
+        (heard_whole h came now count takes new new_is)
+    path_whole piece is new now (inr (new_is, now_is)) =
+        subst (λ (t : Told). IsCompared v limit max past (all ++ take (length payload + 5) piece) new (told ++ spoken t)) (sym now_is)
+        (path_lose (take (length payload + 5) piece) c.deframer wire_fault.Memory new i.max_is (λ other. absurd (other refl)) whole new_is)

@@ -1,7 +1,7 @@
 -- PostgreSQL documentation, Streaming Replication Protocol, START_REPLICATION: what is answered to
 -- sessions that come one after the other, in any pieces.
 use Rattle.std.specs.Prelude.{◌≡◌, ◌≢◌, ◌+◌, ◌⊎◌, ℕ, List, [], ◌∷◌, ◌++◌, length, Bool, true, false}
-use Rattle.std.specs.Prelude.{Option, Some, None}
+use Rattle.std.specs.Prelude.{Option, None}
 use Rattle.pgwire.specs.declared.fault.WireFault.{WireFault}
 use Rattle.pgwire.specs.declared.fault.WireFault.TheVariants as wire_fault
 use Rattle.pgwire.specs.Deframed.{Deframed, Stands, Waits, IsReleased, fresh}
@@ -89,6 +89,7 @@ pub record IsCompared (v : Version) (limit max : ℕ) (past : Past) (all : List 
   pub steps : List Step
   pub leads : Leads v limit max past steps c.hearing
   pub max_is : c.deframer.max ≡ max
+  pub limit_is : c.max_frame ≡ max
   pub stands : StandsBehind max all steps c told c.deaf
 
 -- ---- what the calls do
@@ -105,3 +106,10 @@ HearsNext old came new told =
     ⊎ ((frame : wire.Frame) × Stands old.deframer frame
     × ((h : Hearing) × (d : Deframed) × Takes old.hearing frame came h told × IsReleased old.deframer d
     × (new ≡ passed_over d.done old d h came)))
+
+-- what becomes of a payload of CopyData that is heard in its place, where nothing is held
+abbrev pub HearsWhole : Compared → List ℕ → Compared → Told → Type 0
+HearsWhole old payload new told =
+    ((h : Hearing) × (came : ℕ) × (came ≡ old.came + (length payload + 5)) × Takes old.hearing (wire.CopyData payload) came h told
+    × (new ≡ record old { hearing = h; came = came }))
+    ⊎ ((new ≡ record old { deaf = true }) × (told ≡ told_deaf old.hearing.lost old.hearing.at wire_fault.Memory))

@@ -2,14 +2,12 @@
 use Rattle.std.specs.Prelude.{◌≡◌, ◌+◌, ◌-◌, ◌^◌, ℕ, min, Bool, true, false, Option, Some, None, Ok}
 use Rattle.std.specs.Prelude.{not, nat_lt, ◌&&◌}
 use Rattle.pgrepeats.specs.declared.commit.Commit.{Commit}
-use Rattle.pgrepeats.specs.declared.fault.Contradiction.{Contradiction}
 use Rattle.pgrepeats.specs.declared.past.Answer.{Answer}
 use Rattle.pgrepeats.specs.declared.past.Answer.TheVariants as answer
 use Rattle.pgrepeats.specs.declared.past.Past.{Past}
 use Rattle.pgrepeats.specs.Past.{Answers, Contradicts, IsFirst, IsForgotten}
 use Rattle.pgcompared.specs.declared.finding.Finding.{Finding}
 use Rattle.pgcompared.specs.declared.finding.Finding.TheVariants as finding
-use Rattle.pgcompared.specs.declared.finding.Lost.{Lost}
 use Rattle.pgcompared.specs.declared.finding.Lost.TheVariants as lost
 use Rattle.pgcompared.specs.declared.noting.Noting.{Noting}
 use Rattle.pgcompared.specs.declared.noting.Told.{Told}

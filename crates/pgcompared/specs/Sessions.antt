@@ -13,7 +13,6 @@ use Rattle.pgorder.specs.declared.Event.TheVariants as event
 use Rattle.pgorder.specs.declared.fault.OrderFault.{OrderFault}
 use Rattle.pgorder.specs.Steps.{StepResult, initial_order, order_step}
 use Rattle.pgorder.specs.States.{is_in_block}
-use Rattle.pgrepeats.specs.declared.commit.Commit.{Commit}
 use Rattle.pgrepeats.specs.declared.digest.Change.{Change}
 use Rattle.pgrepeats.specs.declared.digest.Digest.{Digest}
 use Rattle.pgrepeats.specs.Digests.{change_of}

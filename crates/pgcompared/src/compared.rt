@@ -2,18 +2,23 @@
 //!
 //! PostgreSQL documentation, Streaming Replication Protocol, START_REPLICATION.
 
-ghost use Rattle.std.specs.Prelude.{◌≡◌, ◌≤◌, ◌<◌, ◌++◌, ℕ, List, [], length, take, true, false};
+ghost use Rattle.std.specs.Prelude.{◌≡◌, ◌≤◌, ◌<◌, ◌+◌, ◌++◌, ℕ, List, [], length, take, true};
+ghost use Rattle.std.specs.Prelude.{false, IfSome};
+ghost use Rattle.pgwire.specs.Frames.{CopyData, IsAllowed, frame};
 ghost use Rattle.pgorder.specs.declared.Version.{Version as OfVersion};
 ghost use Rattle.pgrepeats.specs.declared.past.Past.{Past as PastCommits};
 ghost use Rattle.pgcompared.specs.declared.noting.Told.{Told as Answered};
-ghost use Rattle.pgcompared.specs.Live.{HearsNext, IsCompared, speaking, told_deaf};
+ghost use Rattle.pgcompared.specs.Live.{HearsNext, HearsWhole, IsCompared, spoken};
+ghost use Rattle.pgcompared.specs.Live.{told_deaf};
+ghost use Rattle.pgcompared.specs.Noting.{told_nothing};
 
-use crate::finding::{Finding, Lost};
+use crate::finding::Lost;
+use crate::front::{HEADER_LEN, front_payload};
 use crate::hearing::Hearing;
 use crate::noting::Told;
 use pgorder::Version;
-use pgrepeats::{Commit, Past};
-use pgwire::{Deframer, WireFault};
+use pgrepeats::Past;
+use pgwire::{Deframer, Frame, WireFault};
 use std::alloc::Global;
 
 /// Sessions that come one after the other, whose commits are compared with those that came before.
@@ -23,44 +28,13 @@ use std::alloc::Global;
 /// all is forgotten. Where its frames can't be told apart, nothing that comes later is compared.
 #[derive(Drop)]
 pub struct Compared {
+    max_frame: u32,
     deframer: Deframer,
     hearing: Hearing,
     // how many bytes of the session have come
     came: u64,
     // the frames can't be told apart any more
     deaf: bool,
-}
-
-/// What the front of a piece gives.
-#[derive(Clone, Copy, Debug)]
-pub struct Heard {
-    /// How many bytes it has.
-    pub count: usize,
-    /// All that was noted before is forgotten: a file of it is to be emptied, before `noted` is
-    /// written to it.
-    pub forgot: bool,
-    /// The commit that is noted.
-    pub noted: Option<Commit>,
-    /// What is found.
-    pub found: Option<Finding>,
-}
-
-impl Heard {
-    fn of(count: usize, told: Told) -> Heard
-        ensures { result ≡ record {
-          count = count;
-          forgot = told.forgot;
-          noted = told.noted;
-          found = told.found;
-        } }
-    {
-        Heard {
-            count,
-            forgot: told.forgot,
-            noted: told.noted,
-            found: told.found,
-        }
-    }
 }
 
 impl Compared {
@@ -72,6 +46,7 @@ impl Compared {
         ensures { IsCompared version limit max_frame past [] result [] }
     {
         Compared {
+            max_frame,
             deframer: Deframer::new(alloc, max_frame),
             hearing: Hearing::new(alloc, version, limit, past),
             came: 0,
@@ -93,56 +68,116 @@ impl Compared {
         self.hearing.noting.equal()
     }
 
-    /// Hears the front of a piece, up to the end of one frame.
-    pub fn hear_front(&mut self, piece: &[u8]) -> Heard
-        requires { 0 < length piece.now }
-        ensures count { (result.count ≤ length piece.now) × (0 < result.count) }
+    /// Hears the front of a piece, up to the end of one frame, and tells what comes of it. Returns
+    /// how many bytes that is.
+    pub fn hear_front(&mut self, piece: &[u8], told: &mut Told) -> usize
+        requires some { 0 < length piece.now }
+        requires untold { told.old ≡ told_nothing false }
+        ensures count { (result ≤ length piece.now) × (0 < result) }
         ensures compared { (v : OfVersion) (limit max : ℕ) (past : PastCommits) (all : List ℕ)
-            (told : List Answered) → IsCompared v limit max past all self.old told →
-            IsCompared v limit max past (all ++ take result.count piece.now) self.new
-            (told ++ speaking result.forgot result.noted result.found) }
+            (before : List Answered) → IsCompared v limit max past all self.old before →
+            IsCompared v limit max past (all ++ take result piece.now) self.new
+            (before ++ spoken told.new) }
     {
         if self.deaf {
-            return Heard::of(piece.len(), Told::nothing(false));
+            return piece.len();
         }
+        match self.whole_front(piece) {
+            Some(payload) => {
+                self.hear_whole(payload, told);
+                payload.len() + HEADER_LEN
+            }
+            None => self.hear_part(piece, told),
+        }
+    }
+
+    // The payload of the CopyData with which a piece begins, where that is whole and nothing is
+    // held. It's heard in its place then.
+    fn whole_front<'p>(&self, piece: &'p [u8]) -> Option<&'p [u8]>
+        ensures held { IfSome result (λ _. self.now.came ≡ self.now.hearing.at) }
+        ensures allowed { IfSome result (λ p. IsAllowed self.now.max_frame (CopyData p.now)) }
+        ensures front { IfSome result (λ p. take (length p.now + 5) piece.now
+            ≡ frame (CopyData p.now)) }
+        ensures bound { IfSome result (λ p. length p.now + 5 ≤ length piece.now) }
+    {
+        if self.came == self.hearing.at {
+            front_payload(piece, self.max_frame)
+        } else {
+            None
+        }
+    }
+
+    // Hears a payload of CopyData, where nothing is held.
+    fn hear_whole(&mut self, payload: &[u8], told: &mut Told)
+        requires { told.old ≡ told_nothing false }
+        ensures { HearsWhole self.old payload.now self.new told.new }
+    {
+        let len = (payload.len() + HEADER_LEN) as u64;
+        match self.came.checked_add(len) {
+            Some(came) => {
+                self.came = came;
+                self.hearing.hear(&Frame::Data(payload), came, told);
+            }
+            None => self.stop_hearing(WireFault::Memory, told),
+        }
+    }
+
+    // Hears the front of a piece that goes into the deframer.
+    fn hear_part(&mut self, piece: &[u8], told: &mut Told) -> usize
+        requires some { 0 < length piece.now }
+        requires whole { self.old.deaf ≡ false }
+        requires untold { told.old ≡ told_nothing false }
+        ensures count { (result ≤ length piece.now) × (0 < result) }
+        ensures compared { (v : OfVersion) (limit max : ℕ) (past : PastCommits) (all : List ℕ)
+            (before : List Answered) → IsCompared v limit max past all self.old before →
+            IsCompared v limit max past (all ++ take result piece.now) self.new
+            (before ++ spoken told.new) }
+    {
         let count = match self.deframer.feed(piece) {
             Ok(count) if count > 0 => count,
             // (a deframer that waits takes some)
-            Ok(_) => return Heard::of(piece.len(), self.stop_hearing(WireFault::Memory)),
-            Err(fault) => return Heard::of(piece.len(), self.stop_hearing(fault)),
+            Ok(_) => {
+                self.stop_hearing(WireFault::Memory, told);
+                return piece.len();
+            }
+            Err(fault) => {
+                self.stop_hearing(fault, told);
+                return piece.len();
+            }
         };
-        let Some(came) = self.came.checked_add(count as u64) else {
-            return Heard::of(count, self.stop_hearing(WireFault::Memory));
-        };
-        Heard::of(count, self.hear_next(came))
+        match self.came.checked_add(count as u64) {
+            Some(came) => self.hear_next(came, told),
+            None => self.stop_hearing(WireFault::Memory, told),
+        }
+        count
     }
 
     // Hears the frame that is whole, if one is. So many bytes of the session have come.
-    fn hear_next(&mut self, came: u64) -> Told
-        ensures { HearsNext self.old came self.new result }
+    fn hear_next(&mut self, came: u64, told: &mut Told)
+        requires { told.old ≡ told_nothing false }
+        ensures { HearsNext self.old came self.new told.new }
     {
         self.came = came;
         let Some(frame) = self.deframer.whole() else {
-            return Told::nothing(false);
+            return;
         };
-        let told = self.hearing.hear(&frame, came);
+        self.hearing.hear(&frame, came, told);
         self.deframer.release();
         if self.deframer.is_done() {
             self.deframer.reset();
             self.came = 0;
         }
-        told
     }
 
     // The frames can't be told apart any more, or there is no memory for them.
-    fn stop_hearing(&mut self, fault: WireFault) -> Told
+    fn stop_hearing(&mut self, fault: WireFault, told: &mut Told)
+        requires { told.old ≡ told_nothing false }
         ensures new { self.new ≡ record self.old { deaf = true } }
-        ensures told { result ≡ told_deaf self.old.hearing.lost self.old.hearing.at fault }
+        ensures told { told.new ≡ told_deaf self.old.hearing.lost self.old.hearing.at fault }
     {
         self.deaf = true;
-        if self.hearing.lost {
-            return Told::nothing(false);
+        if !self.hearing.lost {
+            *told = Told::lost(self.hearing.at, Lost::Unframed(fault));
         }
-        Told::lost(self.hearing.at, Lost::Unframed(fault))
     }
 }

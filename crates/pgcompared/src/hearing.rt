@@ -7,6 +7,7 @@ ghost use Rattle.pgwire.specs.Borrowed.{frame_value};
 ghost use Rattle.pgwire.specs.Frames.{CopyData, CopyDone};
 ghost use Rattle.pgcompared.specs.Frames.{HearsBody, HearsFrame, HearsOrPasses, Takes};
 ghost use Rattle.pgcompared.specs.Live.{first_hearing};
+ghost use Rattle.pgcompared.specs.Noting.{told_nothing};
 
 use crate::finding::{Finding, Lost};
 use crate::noting::{Noting, Told};
@@ -45,36 +46,37 @@ impl Hearing {
         }
     }
 
-    /// Hears a frame, behind which the next one has this offset.
-    pub(crate) fn hear(&mut self, frame: &Frame<'_>, next: u64) -> Told
-        ensures { Takes self.old (frame_value frame.now) next self.new result }
+    /// Hears a frame, behind which the next one has this offset, and tells what comes of it.
+    pub(crate) fn hear(&mut self, frame: &Frame<'_>, next: u64, told: &mut Told)
+        requires { told.old ≡ told_nothing false }
+        ensures { Takes self.old (frame_value frame.now) next self.new told.new }
     {
         match frame {
             Frame::Data(payload) => {
-                let told = self.hear_or_pass(payload);
+                self.hear_or_pass(payload, told);
                 self.at = next;
-                told
             }
-            Frame::Done => self.begin_session(),
+            Frame::Done => self.begin_session(told),
         }
     }
 
     // The next session begins.
-    fn begin_session(&mut self) -> Told
-        ensures { Takes self.old CopyDone 0 self.new result }
+    fn begin_session(&mut self, told: &mut Told)
+        requires { told.old ≡ told_nothing false }
+        ensures { Takes self.old CopyDone 0 self.new told.new }
     {
-        let lost = self.lost;
-        self.noting.begin_session(lost);
+        told.forgot = self.lost;
+        self.noting.begin_session(self.lost);
         self.session.begin(self.version, self.limit);
         self.at = 0;
         self.lost = false;
-        Told::nothing(lost)
     }
 
     // Hears a payload of CopyData, or passes it over.
-    fn hear_or_pass(&mut self, payload: &[u8]) -> Told
+    fn hear_or_pass(&mut self, payload: &[u8], told: &mut Told)
+        requires { told.old ≡ told_nothing false }
         ensures heard { HearsOrPasses self.old.lost self.old (CopyData payload.now) self.new
-            result }
+            told.new }
         ensures same { self.new ≡ record self.old {
           session = self.new.session;
           noting = self.new.noting;
@@ -82,37 +84,47 @@ impl Hearing {
         } }
     {
         if self.lost {
-            return Told::nothing(false);
+            return;
         }
-        let told = hear_payload(&mut self.session, &mut self.noting, self.at, payload);
+        hear_payload(&mut self.session, &mut self.noting, self.at, payload, told);
         self.lost = matches!(told.found, Some(Finding::Lost { .. }));
-        told
     }
 }
 
 // Hears a payload of CopyData.
-fn hear_payload(session: &mut Session, noting: &mut Noting, at: u64, payload: &[u8]) -> Told
+fn hear_payload(
+    session: &mut Session,
+    noting: &mut Noting,
+    at: u64,
+    payload: &[u8],
+    told: &mut Told,
+)
+    requires { told.old ≡ told_nothing false }
     ensures { HearsFrame session.old noting.old at (CopyData payload.now) session.new noting.new
-        result }
+        told.new }
 {
     match decode_server(payload) {
-        Ok(ServerMsg::Data { body, .. }) => hear_body(session, noting, at, body),
-        Ok(ServerMsg::Keepalive { .. }) => Told::nothing(false),
-        Err(fault) => Told::lost(at, Lost::Unsaid(fault)),
+        Ok(ServerMsg::Data { body, .. }) => hear_body(session, noting, at, body, told),
+        Ok(ServerMsg::Keepalive { .. }) => {}
+        Err(fault) => *told = Told::lost(at, Lost::Unsaid(fault)),
     }
 }
 
 // Hears the data of XLogData.
-fn hear_body(session: &mut Session, noting: &mut Noting, at: u64, body: &[u8]) -> Told
-    ensures { HearsBody session.old noting.old at body.now session.new noting.new result }
+fn hear_body(session: &mut Session, noting: &mut Noting, at: u64, body: &[u8], told: &mut Told)
+    requires { told.old ≡ told_nothing false }
+    ensures { HearsBody session.old noting.old at body.now session.new noting.new told.new }
 {
     let message = match decode_ref(body, session.in_block()) {
         Ok(message) => message,
-        Err(fault) => return Told::lost(at, Lost::Undecoded(fault)),
+        Err(fault) => {
+            *told = Told::lost(at, Lost::Undecoded(fault));
+            return;
+        }
     };
     match session.hear(&message, body) {
-        Ok(Some(ended)) => noting.hear(at, ended),
-        Ok(None) => Told::nothing(false),
-        Err(why) => Told::lost(at, why),
+        Ok(Some(ended)) => *told = noting.hear(at, ended),
+        Ok(None) => {}
+        Err(why) => *told = Told::lost(at, why),
     }
 }

@@ -5,8 +5,9 @@
 //!
 //! ```text
 //! let mut compared = Compared::new(alloc, Version::Two, MAX_FRAME, 65_536, past);
-//! let heard = compared.hear_front(piece);       // up to the end of one frame
-//! match heard.found {
+//! let mut told = Told::nothing(false);
+//! let count = compared.hear_front(piece, &mut told);      // up to the end of one frame
+//! match told.found {
 //!     Some(Finding::Contradicted { at, contradiction }) => ..,
 //!     Some(Finding::Lost { at, why }) => ..,    // the session isn't compared from there on
 //!     None => ..,
@@ -19,6 +20,7 @@
 
 mod compared;
 mod finding;
+mod front;
 mod hearing;
 mod laws;
 mod noting;
@@ -26,7 +28,7 @@ mod opened;
 mod session;
 mod stream;
 
-pub use compared::{Compared, Heard};
+pub use compared::Compared;
 pub use finding::{Finding, Lost};
 pub use laws::{ended_are_commits, sessions_are_heard, sessions_are_not_contradicted};
 pub use noting::Told;

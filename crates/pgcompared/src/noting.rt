@@ -23,7 +23,8 @@ pub(crate) struct Noting {
 /// What is told of a frame.
 #[derive(Clone, Copy, Debug)]
 pub struct Told {
-    /// All that was noted before is forgotten.
+    /// All that was noted before is forgotten: a file of it is to be emptied, before `noted` is
+    /// written to it.
     pub forgot: bool,
     /// The commit that is noted.
     pub noted: Option<Commit>,
@@ -33,7 +34,7 @@ pub struct Told {
 
 impl Told {
     /// Nothing, but whether all is forgotten.
-    pub(crate) fn nothing(forgot: bool) -> Told
+    pub fn nothing(forgot: bool) -> Told
         ensures { result ≡ told_nothing forgot }
     {
         Told {

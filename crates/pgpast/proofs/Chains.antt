@@ -6,7 +6,7 @@ use Rattle.std.proofs.lemmas.List.{map-append, take_more}
 use Rattle.pgrepeats.specs.declared.commit.Commit.{Commit}
 use Rattle.pgrepeats.specs.declared.past.Answer.{Answer}
 use Rattle.pgrepeats.specs.declared.past.Past.{Past}
-use Rattle.std.specs.Prelude.{Ok, Some, None, slice_get, unwrap_or, Option}
+use Rattle.std.specs.Prelude.{Ok, Some, slice_get, unwrap_or, Option}
 use Rattle.pgrepeats.specs.Past.{Answers}
 use Rattle.pgpast.specs.declared.record.Record.{Record}
 use Rattle.pgpast.specs.Loaded.{AreLinked, Follows, HearsAll, IsAt, IsChain, MayFollow}

@@ -1,33 +1,33 @@
 -- What a reader hands on that compares, one front of a piece more.
 use Rattle.std.proofs.Common.{◌≡◌, ◌≤◌, ◌<◌, ◌+◌, ◌-◌, ◌⊎◌, ◌∙◌, inl}
 use Rattle.std.proofs.Common.{inr, ℕ, List, [], ◌∷◌, ◌++◌, Bool}
-use Rattle.std.proofs.Common.{true, false, Option, None, Some, refl, sym, ap, subst, arith, length}
-use Rattle.std.proofs.Common.{take, drop, append_assoc, append-nil, cond, ◌&&◌, true≢false}
+use Rattle.std.proofs.Common.{true, false, refl, sym, ap, subst, arith, length}
+use Rattle.std.proofs.Common.{take, drop, append_assoc, cond, ◌&&◌, true≢false}
 use Rattle.std.specs.List.{AllByRecursion, flat_map}
 use Rattle.std.proofs.lemmas.List.{length-append, take-append-drop, take-take, drop-drop, drop-take}
 use Rattle.std.proofs.lemmas.List.{length-take, length-take-le, take_at, flat_map_more}
 use Rattle.std.proofs.lemmas.Bool.Decides.{nat_tests}
-use Rattle.std.specs.Prelude.{nat_le, ◌==◌}
+use Rattle.std.specs.Prelude.{nat_le}
 use Rattle.pgorder.specs.declared.Version.{Version}
 use Rattle.pgrepeats.specs.declared.past.Past.{Past}
 use Rattle.pgcompared.specs.declared.compared.Compared.{Compared}
-use Rattle.pgcompared.specs.declared.compared.Heard.{Heard}
-use Rattle.pgcompared.specs.Live.{IsCompared, speaking}
+use Rattle.pgcompared.specs.declared.noting.Told.{Told}
+use Rattle.pgcompared.specs.Live.{IsCompared, spoken}
 use Rattle.pgpast.specs.Handing.{HasHeard, HasStopped, IsAgreed, IsHanded, IsOpen}
 use Rattle.pgpast.specs.Handing.{ahead_of, behind_of, contradicts, part_of}
 
 -- ---- what a front gives
 
-all_push : (hs : List Heard) (h : Heard) → AllByRecursion IsAgreed hs → IsAgreed h → AllByRecursion IsAgreed (hs ++ h ∷ [])
+all_push : (hs : List Told) (h : Told) → AllByRecursion IsAgreed hs → IsAgreed h → AllByRecursion IsAgreed (hs ++ h ∷ [])
 all_push [] h all is = (is, tt)
 all_push (g ∷ hs) h all is = (all.0, all_push hs h all.1 is)
 
-heard_push : (v : Version) (limit max : ℕ) (past : Past) (bytes : List ℕ) (c : Compared) (hs : List Heard) (h : Heard)
+heard_push : (v : Version) (limit max : ℕ) (past : Past) (bytes : List ℕ) (c : Compared) (hs : List Told) (h : Told)
     → IsCompared v limit max past bytes c
-    (flat_map (λ (g : Heard). speaking g.forgot g.noted g.found) hs ++ speaking h.forgot h.noted h.found)
+    (flat_map spoken hs ++ spoken h)
     → HasHeard v limit max past bytes c (hs ++ h ∷ [])
 heard_push v limit max past bytes c hs h is =
-    subst (IsCompared v limit max past bytes c) (flat_map_more (λ (g : Heard). speaking g.forgot g.noted g.found) [] hs h) is
+    subst (IsCompared v limit max past bytes c) (flat_map_more spoken [] hs h) is
 
 none_before : (part rest : List ℕ) → 1 ≤ length part → [] ≡ part ++ rest → ⊥
 none_before part rest some e = omega (arith, some, ap (λ (xs : List ℕ). length xs) e, length-append part rest)
@@ -68,8 +68,8 @@ module _ (v : Version) (limit max : ℕ) (past : Past) (stops : Bool) (given : L
     compared_now = subst (λ x. HasHeard v limit max past (given ++ ahead) x g.well) (sym open_is.1) g.compared
 
     -- it goes on
-    pub goes_on : (part : List ℕ) (next : Compared) (h : Heard) → IsCompared v limit max past ((given ++ ahead) ++ part) next
-        (flat_map (λ (x : Heard). speaking x.forgot x.noted x.found) g.well ++ speaking h.forgot h.noted h.found)
+    pub goes_on : (part : List ℕ) (next : Compared) (h : Told) → IsCompared v limit max past ((given ++ ahead) ++ part) next
+        (flat_map spoken g.well ++ spoken h)
         → (stops ≡ true → contradicts h.found ≡ false) → IsHanded v limit max past stops given (ahead ++ part) [] next
     goes_on part next h is whole = record {
       before = next;
@@ -81,9 +81,9 @@ module _ (v : Version) (limit max : ℕ) (past : Past) (stops : Bool) (given : L
     }
 
     -- a commit contradicts those before it, and it stops
-    pub stops_here : (part rest : List ℕ) (next : Compared) (h : Heard) → 1 ≤ length part
+    pub stops_here : (part rest : List ℕ) (next : Compared) (h : Told) → 1 ≤ length part
         → IsCompared v limit max past ((given ++ ahead) ++ part) next
-        (flat_map (λ (x : Heard). speaking x.forgot x.noted x.found) g.well ++ speaking h.forgot h.noted h.found) → stops ≡ true
+        (flat_map spoken g.well ++ spoken h) → stops ≡ true
         → contradicts h.found ≡ true → IsHanded v limit max past stops given ahead (part ++ rest) next
     stops_here part rest next h some is asked breaks = record {
       before = now;

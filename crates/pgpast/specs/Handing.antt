@@ -5,10 +5,10 @@ use Rattle.std.specs.List.{AllByRecursion, flat_map}
 use Rattle.pgorder.specs.declared.Version.{Version}
 use Rattle.pgrepeats.specs.declared.past.Past.{Past}
 use Rattle.pgcompared.specs.declared.compared.Compared.{Compared}
-use Rattle.pgcompared.specs.declared.compared.Heard.{Heard}
+use Rattle.pgcompared.specs.declared.noting.Told.{Told}
 use Rattle.pgcompared.specs.declared.finding.Finding.{Finding}
 use Rattle.pgcompared.specs.declared.finding.Finding.TheVariants as finding
-use Rattle.pgcompared.specs.Live.{IsCompared, speaking}
+use Rattle.pgcompared.specs.Live.{IsCompared, spoken}
 
 -- the bytes from one place to another, where there are such
 abbrev pub part_of : List ℕ → ℕ → ℕ → List ℕ
@@ -27,13 +27,12 @@ contradicts None = false
 contradicts (Some (finding.Contradicted at contradiction)) = true
 contradicts (Some (finding.Lost at why)) = false
 
-abbrev pub IsAgreed : Heard → Type 0
-IsAgreed h = contradicts h.found ≡ false
+abbrev pub IsAgreed : Told → Type 0
+IsAgreed t = contradicts t.found ≡ false
 
 -- these bytes came, in pieces of which the fronts gave this
-abbrev pub HasHeard : Version → ℕ → ℕ → Past → List ℕ → Compared → List Heard → Type 0
-HasHeard v limit max past all c heard =
-    IsCompared v limit max past all c (flat_map (λ (h : Heard). speaking h.forgot h.noted h.found) heard)
+abbrev pub HasHeard : Version → ℕ → ℕ → Past → List ℕ → Compared → List Told → Type 0
+HasHeard v limit max past all c told = IsCompared v limit max past all c (flat_map spoken told)
 
 -- All that was read is compared, and may be handed on.
 abbrev pub IsOpen : List ℕ → Compared → Compared → Type 0
@@ -41,10 +40,10 @@ IsOpen behind before now = (behind ≡ []) × (now ≡ before)
 
 -- It has stopped: what is kept back begins with the bytes that complete the frame of a commit that
 -- contradicts those before it.
-pub record HasStopped (v : Version) (limit max : ℕ) (past : Past) (stops : Bool) (safe behind : List ℕ) (now : Compared) (well : List Heard)
+pub record HasStopped (v : Version) (limit max : ℕ) (past : Past) (stops : Bool) (safe behind : List ℕ) (now : Compared) (well : List Told)
     : Type 0 where
   pub asked : stops ≡ true
-  pub last : Heard
+  pub last : Told
   pub part : List ℕ
   pub rest : List ℕ
   pub some : 1 ≤ length part
@@ -57,7 +56,7 @@ pub record HasStopped (v : Version) (limit max : ℕ) (past : Past) (stops : Boo
 -- them contradicts those before it.
 pub record IsHanded (v : Version) (limit max : ℕ) (past : Past) (stops : Bool) (given ahead behind : List ℕ) (now : Compared) : Type 0 where
   pub before : Compared
-  pub well : List Heard
+  pub well : List Told
   pub compared : HasHeard v limit max past (given ++ ahead) before well
   pub agreed : stops ≡ true → AllByRecursion IsAgreed well
   pub state : IsOpen behind before now ⊎ HasStopped v limit max past stops (given ++ ahead) behind now well

@@ -15,7 +15,7 @@ ghost use Rattle.pgpast.specs.Handing.{IsHanded, ahead_of, behind_of, contradict
 use crate::file::NotesFile;
 use crate::lines::Counts;
 use crate::notes::Notes;
-use pgcompared::{Compared, Finding, Heard};
+use pgcompared::{Compared, Finding, Told};
 use std::alloc::{AllocError, Global};
 use std::io;
 use std::io::{ErrorKind, Read};
@@ -67,8 +67,8 @@ fn stops_at(stops: bool, found: &Option<Finding>) -> bool
 }
 
 // Tells what was found.
-fn tell<L: RepeatListener>(listener: &mut L, heard: &Heard) {
-    if let Some(found) = &heard.found {
+fn tell<L: RepeatListener>(listener: &mut L, told: &Told) {
+    if let Some(found) = &told.found {
         listener.hear(found);
     }
 }
@@ -77,9 +77,9 @@ fn tell<L: RepeatListener>(listener: &mut L, heard: &Heard) {
 fn keep<F: NotesFile + Drop, L: RepeatListener>(
     notes: &mut Notes<F>,
     listener: &mut L,
-    heard: &Heard,
+    told: &Told,
 ) {
-    if notes.keep(heard.forgot, heard.noted).is_err() {
+    if notes.keep(told.forgot, told.noted).is_err() {
         listener.hear_unkept();
     }
 }
@@ -163,13 +163,14 @@ impl<R: Read + Drop, F: NotesFile + Drop, L: RepeatListener + Drop> Comparing<R,
             IsHanded v limit max past self.old.stops given (take taken self.old.room.items)
             (drop taken (take len self.old.room.items)) self.new.compared }
     {
-        let heard = self.compared.hear_front(&self.room[taken..len]);
-        tell(&mut self.listener, &heard);
-        if stops_at(self.stops, &heard.found) {
+        let mut told = Told::nothing(false);
+        let count = self.compared.hear_front(&self.room[taken..len], &mut told);
+        tell(&mut self.listener, &told);
+        if stops_at(self.stops, &told.found) {
             return None;
         }
-        keep(&mut self.notes, &mut self.listener, &heard);
-        Some(heard.count)
+        keep(&mut self.notes, &mut self.listener, &told);
+        Some(count)
     }
 
     // Hears what was read, and returns how much of it may be handed on.

@@ -8,7 +8,7 @@ ghost use Rattle.pgpast.specs.Records.{written};
 use crate::fault::NotesFault;
 use crate::file::NotesFile;
 use crate::loading::{HEAD, Loaded, is_noted, is_unmade, place_of, slot_behind};
-use crate::record::Record;
+use crate::record::{RECORD_LEN, Record};
 use pglsn::Lsn;
 use pgrepeats::{Commit, Past};
 use std::alloc::Global;
@@ -36,8 +36,9 @@ impl fmt::Display for Found {
 /// A file in which commits are noted, each behind the one before it.
 #[derive(Drop)]
 pub struct Notes<F: NotesFile + Drop> {
-    alloc: Global,
     file: F,
+    /// The bytes of the record that was written last.
+    bytes: Vec<u8>,
     /// The slot of the next record.
     next: usize,
     /// The CRC of the newest one, 0 of none.
@@ -103,8 +104,8 @@ impl<F: NotesFile + Drop> Notes<F> {
         }
         Ok(Opened {
             notes: Notes {
-                alloc,
                 file,
+                bytes: Vec::with_capacity(alloc, RECORD_LEN)?,
                 next: loaded.next,
                 newest: loaded.newest,
                 is_kept: true,
@@ -139,9 +140,9 @@ impl<F: NotesFile + Drop> Notes<F> {
             commit self.new.file self.new.next self.new.newest) }
         ensures kept { self.new.is_kept ≡ self.old.is_kept }
     {
-        let record = Record::new(self.alloc, commit, self.newest)?;
-        let bytes = record.to_bytes(self.alloc)?;
-        self.file.write_at(bytes.as_slice(), place_of(self.next))?;
+        let record = Record::write(&mut self.bytes, commit, self.newest)?;
+        self.file
+            .write_at(self.bytes.as_slice(), place_of(self.next))?;
         self.next = slot_behind(self.next);
         self.newest = record.crc;
         Ok(())

@@ -1,14 +1,14 @@
 //! A noted commit, as a file has it.
 
-ghost use Rattle.std.specs.Prelude.{◌≡◌, ◌≢◌, ◌++◌, ◌<◌, ℕ, length, IfOk, IfSome, MatchOption};
-ghost use Rattle.std.specs.Prelude.{None};
+ghost use Rattle.std.specs.Prelude.{◌≡◌, ◌≢◌, ◌++◌, ◌<◌, ℕ, [], length, IfOk, IfSome, OnOk};
+ghost use Rattle.std.specs.Prelude.{MatchOption, None};
 ghost use Rattle.std.specs.Int.{to_be_bytes, w32, w64};
 ghost use Rattle.pgcrc.specs.Crc.{crc32};
 ghost use Rattle.pgpast.specs.Records.{IsRecord, body, encoded};
 
 use pgcrc::Crc32;
 use pgrepeats::{Commit, Digest};
-use std::alloc::{AllocError, Global};
+use std::alloc::AllocError;
 
 /// How many bytes a record has.
 pub(crate) const RECORD_LEN: usize = 48;
@@ -56,44 +56,41 @@ fn short(bytes: &[u8]) -> Option<(u32, &[u8])>
 }
 
 impl Record {
-    /// The record of a commit, behind the one with this CRC.
-    pub(crate) fn new(alloc: Global, commit: Commit, before: u32) -> Result<Record, AllocError>
+    /// Writes the record of a commit, behind the one with this CRC, in place of all bytes.
+    pub(crate) fn write(
+        bytes: &mut Vec<u8>,
+        commit: Commit,
+        before: u32,
+    ) -> Result<Record, AllocError>
         ensures commit { IfOk result (λ it. (it.commit ≡ commit) × (it.before ≡ before)) }
         ensures is { IfOk result IsRecord }
+        ensures bytes { IfOk result (λ it. bytes.new.items ≡ encoded it) }
     {
         let mut record = Record {
             commit,
             before,
             crc: 0,
         };
-        let body = record.body(alloc)?;
-        record.crc = crc_of(body.as_slice());
+        bytes.clear();
+        record.write_body(bytes)?;
+        record.crc = crc_of(bytes.as_slice());
+        bytes.extend_from_slice(&record.crc.to_be_bytes())?;
         Ok(record)
     }
 
-    // What the CRC is of.
-    fn body(&self, alloc: Global) -> Result<Vec<u8>, AllocError>
-        ensures { IfOk result (λ bytes. bytes.items ≡ body self.now) }
+    // Writes what the CRC is of.
+    fn write_body(&self, bytes: &mut Vec<u8>) -> Result<(), AllocError>
+        requires { bytes.old.items ≡ [] }
+        ensures { OnOk result (bytes.new.items ≡ body self.now) }
     {
         let (commit, digest) = (self.commit, self.commit.digest);
-        let mut bytes = Vec::with_capacity(alloc, RECORD_LEN)?;
         bytes.extend_from_slice(&commit.end.to_be_bytes())?;
         bytes.extend_from_slice(&commit.lsn.to_be_bytes())?;
         bytes.extend_from_slice(&commit.xid.to_be_bytes())?;
         bytes.extend_from_slice(&commit.time.cast_unsigned().to_be_bytes())?;
         bytes.extend_from_slice(&digest.changes.to_be_bytes())?;
         bytes.extend_from_slice(&digest.crc.to_be_bytes())?;
-        bytes.extend_from_slice(&self.before.to_be_bytes())?;
-        Ok(bytes)
-    }
-
-    /// Its bytes in a file.
-    pub(crate) fn to_bytes(&self, alloc: Global) -> Result<Vec<u8>, AllocError>
-        ensures { IfOk result (λ bytes. bytes.items ≡ encoded self.now) }
-    {
-        let mut bytes = self.body(alloc)?;
-        bytes.extend_from_slice(&self.crc.to_be_bytes())?;
-        Ok(bytes)
+        bytes.extend_from_slice(&self.before.to_be_bytes())
     }
 
     /// The record with these bytes, if they are one's.

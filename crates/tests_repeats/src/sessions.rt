@@ -1,7 +1,7 @@
 //! What is found of sessions.
 
 use crate::wire::Wire;
-use pgcompared::{Compared, Finding, Heard, Lost};
+use pgcompared::{Compared, Finding, Lost, Told};
 use pglsn::Lsn;
 use pgorder::Version;
 use pgrepeats::{Change, Commit, Contradiction, Digest, Part, Past};
@@ -26,14 +26,12 @@ impl Sum {
         last: None,
     };
 
-    fn add(&mut self, heard: &Heard) {
-        self.noted = self
-            .noted
-            .saturating_add(usize::from(heard.noted.is_some()));
-        self.forgot = self.forgot.saturating_add(usize::from(heard.forgot));
-        if heard.found.is_some() {
+    fn add(&mut self, told: &Told) {
+        self.noted = self.noted.saturating_add(usize::from(told.noted.is_some()));
+        self.forgot = self.forgot.saturating_add(usize::from(told.forgot));
+        if told.found.is_some() {
             self.found = self.found.saturating_add(1);
-            self.last = heard.found;
+            self.last = told.found;
         }
     }
 }
@@ -49,10 +47,11 @@ fn hear(rt: &impl Abort, compared: &mut Compared, sum: &mut Sum, piece: &[u8]) {
         if rest.is_empty() {
             return;
         }
-        let heard = compared.hear_front(rest);
-        assert!(rt; heard.count > 0 && heard.count <= rest.len());
-        sum.add(&heard);
-        rest = &rest[heard.count..];
+        let mut told = Told::nothing(false);
+        let count = compared.hear_front(rest, &mut told);
+        assert!(rt; count > 0 && count <= rest.len());
+        sum.add(&told);
+        rest = &rest[count..];
     }
     assert!(rt; rest.is_empty());
 }

@@ -1,4 +1,4 @@
-use Rattle.std.proofs.Common.{◌≡◌, ◌≤◌, ◌∙◌, ◌++◌, ℕ, List, None, Some, Option, ap, sym, subst}
+use Rattle.std.proofs.Common.{◌≡◌, ◌≤◌, ◌∙◌, ◌++◌, ℕ, List, None, Option, ap, sym, subst}
 use Rattle.std.proofs.Common.{length, take, drop}
 use Rattle.pglogical.specs.Spelling.{item_spelling}
 use Rattle.pgcompared.proofs.Spellings.{is_long, without_xid}

@@ -1,4 +1,4 @@
-use Rattle.std.proofs.Common.{◌∙◌, Bool, inr, refl, sym, ap}
+use Rattle.std.proofs.Common.{◌∙◌, Bool, inr, sym, ap}
 use Rattle.pgwire.specs.Deframed.{Deframed}
 use Rattle.pgcompared.specs.Live.{passed_over}
 use Rattle.pgcompared.proofs.compared.Compared.hear_next.Goals as goal
@@ -9,12 +9,12 @@ returns-then-is_done c =
       _,
       c.in-Some.ensures,
       (
-        c.hear-told.new.self,
+        c.hear.new.self,
         c.release.new.self,
-        c.hear-told.ensures,
+        c.hear.ensures,
         c.release.ensures,
-        ap (λ (d : Deframed). record c.args.self.now { deframer = d; hearing = c.hear-told.new.self; came = 0 }) c.reset.ensures
-            ∙ ap (λ (b : Bool). passed_over b c.args.self.now c.release.new.self c.hear-told.new.self c.args.came)
+        ap (λ (d : Deframed). record c.args.self.now { deframer = d; hearing = c.hear.new.self; came = 0 }) c.reset.ensures
+            ∙ ap (λ (b : Bool). passed_over b c.args.self.now c.release.new.self c.hear.new.self c.args.came)
             (sym (sym c.is_done.ensures ∙ c.if-is_done.true)),
       ),
     )
@@ -25,11 +25,11 @@ returns-else-is_done c =
       _,
       c.in-Some.ensures,
       (
-        c.hear-told.new.self,
+        c.hear.new.self,
         c.release.new.self,
-        c.hear-told.ensures,
+        c.hear.ensures,
         c.release.ensures,
-        ap (λ (b : Bool). passed_over b c.args.self.now c.release.new.self c.hear-told.new.self c.args.came)
+        ap (λ (b : Bool). passed_over b c.args.self.now c.release.new.self c.hear.new.self c.args.came)
             (sym (sym c.is_done.ensures ∙ c.if-is_done.false)),
       ),
     )

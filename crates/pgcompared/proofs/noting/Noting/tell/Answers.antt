@@ -1,4 +1,4 @@
-use Rattle.std.proofs.Common.{◌≡◌, Ok, Err, refl, sym, ap, subst}
+use Rattle.std.proofs.Common.{Ok, Err, refl, sym, ap, subst}
 use Rattle.pgrepeats.specs.declared.fault.Trouble.{Trouble}
 use Rattle.pgrepeats.specs.Past.{Answers}
 use Rattle.pgcompared.specs.declared.noting.Noting.{Noting}
