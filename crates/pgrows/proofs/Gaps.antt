@@ -49,7 +49,7 @@ follows : (a b c : List ℕ) → is_lt (R a b) ≡ true → is_lt (R b c) ≡ tr
 follows a b c p q = ap is_lt (nat_list_cmp_total.trans a b c (less (R a b) p) (less (R b c) q))
 
 -- keys of one relation are ordered as their identities
-inside : (o : ℕ) (a b : List ℕ) → R (o ∷ a) (o ∷ b) ≡ R a b
+pub inside : (o : ℕ) (a b : List ℕ) → R (o ∷ a) (o ∷ b) ≡ R a b
 inside o a b = ap (λ c. ordering_then c (R a b)) (tied_itself nat_cmp_total o)
 
 -- a key from this one on and below one of the same relation is of that relation
@@ -74,7 +74,7 @@ module _ (db : Trees) (held : AreHeld (db 1)) (indexed : IsIndexOf (1 ∷ 2 ∷ 
       (has_kept (passes o i (db 1) (db 2) held indexed up) (db 2) (entry r) (row_entry db held indexed up r h)
       (ap not (ap is_lt (compared o i (db 1) (db 2) held indexed up r h) ∙ over)))
 
-  some_row : (j : List ℕ) → IsSome (get (the_map (db 1)) (o ∷ j)) → (r : Row) × Has (db 1) r × (key_in r ≡ o ∷ j)
+  pub some_row : (j : List ℕ) → IsSome (get (the_map (db 1)) (o ∷ j)) → (r : Row) × Has (db 1) r × (key_in r ≡ o ∷ j)
   some_row j some = elim (cases_Option (get (the_map (db 1)) (o ∷ j))) [
     | inl none ↦ absurd (true≢false (sym (subst IsSome none some)))
     | inr there ↦ let r = got_row nat_list_cmp_total same_key key_in copies_in (db 1) (o ∷ j) there.0 there.1 in (r.0, r.1, r.2)
@@ -87,7 +87,7 @@ module _ (db : Trees) (held : AreHeld (db 1)) (indexed : IsIndexOf (1 ∷ 2 ∷ 
 
   module _ (first : Row) (more : List Row) (left : from_key plain (key_of o i) (db 2) ≡ first ∷ more) where
     -- the row that was asked for
-    itself : (r : Row) → Has (db 1) r → (j : List ℕ) → key_in r ≡ o ∷ j → first ≡ entry r → IsReached o j first
+    pub itself : (r : Row) → Has (db 1) r → (j : List ℕ) → key_in r ≡ o ∷ j → first ≡ entry r → IsReached o j first
     itself r h j is same =
         let oid : number_in (column r 1) ≡ o = cc in
         let ident : bytes (column r 2) ≡ j = cc in
@@ -99,7 +99,7 @@ module _ (db : Trees) (held : AreHeld (db 1)) (indexed : IsIndexOf (1 ∷ 2 ∷ 
         }
 
     -- one behind the first
-    later : (r : Row) → Has (db 1) r → (j : List ℕ) → key_in r ≡ o ∷ j → Has more (entry r) → IsReached o j first
+    pub later : (r : Row) → Has (db 1) r → (j : List ℕ) → key_in r ≡ o ∷ j → Has more (entry r) → IsReached o j first
     later r h j is behind =
         let there = first_in o i (db 1) (db 2) held indexed up first more left in
         let s = entry_row db held indexed up first there.0 in

@@ -16,3 +16,4 @@ pub mod Marked
 pub mod StoredRows
 pub mod Listed
 pub mod Reading
+pub mod Walked

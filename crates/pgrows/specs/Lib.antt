@@ -2,3 +2,4 @@ pub mod Gap
 pub mod Rows
 pub mod Dump
 pub mod Stored
+pub mod Walk

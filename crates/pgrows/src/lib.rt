@@ -14,6 +14,7 @@ mod relation;
 mod rows;
 mod sink;
 mod stored;
+mod walk;
 mod whole;
 
 pub use fault::ReadFault;

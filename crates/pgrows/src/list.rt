@@ -22,7 +22,7 @@ use sqlite_value::row::Row;
 use std::alloc::Global;
 
 /// The row of an entry of the index.
-fn read_entry<S: Alter>(
+pub(crate) fn read_entry<S: Alter>(
     store: &mut S,
     alloc: Global,
     entry: &Row,

@@ -1,7 +1,7 @@
 //! A store of trees that holds the three tables of a store.
 
 ghost use Rattle.std.specs.Prelude.{◌≡◌, ◌≢◌, ◌∷◌, [], None, true, false, IsSome, IsTrue, IfOk};
-ghost use Rattle.std.specs.Prelude.{IfErr, IfSome, OnOk, OnErr};
+ghost use Rattle.std.specs.Prelude.{IfErr, IfSome, MatchOption, OnOk, OnErr};
 ghost use Rattle.std.specs.FinMap.{get};
 ghost use Rattle.sqlite.specs.Held as connection;
 ghost use Rattle.sqlite.specs.State.{HasCleanDisk, Survives};
@@ -14,6 +14,7 @@ ghost use Rattle.pgrows.specs.declared.fault.ReadFault.TheVariants.{Malformed};
 ghost use Rattle.pgrows.specs.Dump.{GivesAll, GivesFront, LeavesAt};
 ghost use Rattle.pgrows.specs.Rows.{Drops, GoesBack, IfServing, IsNumbered, Keeps, Makes, Marks};
 ghost use Rattle.pgrows.specs.Rows.{Shows, database, state, tables_of, with_row_if_there};
+ghost use Rattle.pgrows.specs.Walk.{EachFits, EndsAt, IsNextRow};
 
 use crate::change::{put_place, remove, set};
 use crate::define::put_defined;
@@ -24,6 +25,7 @@ use crate::list::list;
 use crate::relation::clear;
 use crate::sink::RowSink;
 use crate::stored::{find_defined, find_stored};
+use crate::walk::next_row;
 use crate::whole::put;
 use pgtables::{StoredDefinition, StoredRow, see_committed};
 use sqlite::{Connection, Error, ErrorCode};
@@ -414,6 +416,47 @@ impl<S: Alter> Rows<S> {
             oid,
         ) {
             Ok(rows) => Ok(rows),
+            Err(fault) => {
+                self.failed = true;
+                Err(fault)
+            }
+        }
+    }
+
+    /// The relation's first row from this identity on, with its identity. So a table of any size is
+    /// walked in the memory of one row, while rows change.
+    pub fn next_row(
+        &mut self,
+        alloc: Global,
+        oid: u32,
+        from: &[u8],
+    ) -> Result<Option<(Vec<u8>, StoredRow)>, ReadFault>
+        ensures found { HasCleanDisk (state S.Store self.new) →
+            IfOk result (λ next. MatchOption next
+            (EndsAt oid from.now (tables_of S.Store self.old).rows)
+            (λ it. IsNextRow oid from.now (tables_of S.Store self.old).rows it.0.items it.1)) }
+        ensures formed { HasCleanDisk (state S.Store self.new) →
+            EachFits oid (tables_of S.Store self.old) → IfErr result (λ fault. fault ≢ Malformed) }
+        ensures made { HasCleanDisk (state S.Store self.new) → OnOk result
+            (Makes S.Store (λ t. t) self.old self.new) }
+        ensures keeps { HasCleanDisk (state S.Store self.new) →
+            Keeps S.Store self.old self.new }
+        ensures survives { Survives (state S.Store self.old) (state S.Store self.new) (λ _. ⊥) }
+    {
+        if self.failed {
+            return Err(ReadFault::Store(StoreError::Broken));
+        }
+        match next_row(
+            &mut self.store,
+            alloc,
+            &mut self.key,
+            &mut self.found,
+            &mut self.row,
+            self.last,
+            oid,
+            from,
+        ) {
+            Ok(next) => Ok(next),
             Err(fault) => {
                 self.failed = true;
                 Err(fault)
