@@ -5,6 +5,7 @@ use Rattle.pgstore.specs.Spelled.{IsChanging}
 use Rattle.pgstore.proofs.Acting.{on_ok, if_err}
 use Rattle.pgstore.proofs.Definitions.{found_shape, given}
 use Rattle.pgstore.proofs.Replacing.{emptied_finds, carried_finds, carried_refuses}
+use Rattle.pgstore.proofs.Rewritten.{rewritten_finds, rewritten_refuses}
 use Rattle.std.proofs.lemmas.Result.{err_from_is_err_and}
 use Rattle.pgstore.proofs.Formed.{spelled_there}
 use Rattle.pgstore.proofs.giving.replace_definition.Goals as goal
@@ -38,6 +39,26 @@ returns-then-is_truncate-clause-made g c clean = on_ok c.empty_table.result (c.e
       (sym c.is_truncate.ensures ∙ c.if-is_truncate.true)
       c.args.columns.now c.requires.columns (tables_of g.S.Store c.empty_table.new.rows) empties.made,
 ))
+
+pub returns-then-keeps_identity-clause-made : goal.returns-then-keeps_identity-clause-made
+returns-then-keeps_identity-clause-made g c clean = on_ok c.rewrite_table.result (c.rewrite_table.ensures.made clean) (λ rewrites. (
+  rewrites.0,
+  λ v h at. rewritten_finds v c.args.def.now (tables_of g.S.Store c.args.rows.now) h c.args.stored.now at
+      (λ old is e. sym c.if-has_shape.false ∙ c.has_shape.ensures old is e) c.args.op.now
+      (sym c.is_truncate.ensures ∙ c.if-is_truncate.false)
+      c.args.columns.now c.requires.columns c.in_ok-old.old c.in_ok-old.ensures.ok
+      (c.keeps_identity.ensures c.if-keeps_identity.true) (tables_of g.S.Store c.rewrite_table.new.rows)
+      (λ start. rewrites.1 v start),
+))
+
+pub returns-then-keeps_identity-clause-fault : goal.returns-then-keeps_identity-clause-fault
+returns-then-keeps_identity-clause-fault g c clean =
+    if_err c.rewrite_table.result (c.rewrite_table.ensures.fault clean) (λ e refuses v h at.
+    rewritten_refuses v c.args.def.now (tables_of g.S.Store c.args.rows.now) h c.args.stored.now at
+    (λ old is e. sym c.if-has_shape.false ∙ c.has_shape.ensures old is e) c.args.op.now
+    (sym c.is_truncate.ensures ∙ c.if-is_truncate.false)
+    c.args.columns.now c.requires.columns c.in_ok-old.old c.in_ok-old.ensures.ok
+    (c.keeps_identity.ensures c.if-keeps_identity.true) e (λ start. refuses v start))
 
 pub returns-clause-made : goal.returns-clause-made
 returns-clause-made g c clean = on_ok c.carry_table.result (c.carry_table.ensures.made clean) (λ carries. (
