@@ -141,10 +141,11 @@ module _ {F D : Type 0} (seen : D → List ℕ) (may_leave : D → List ℕ → 
     pub writes : Writes seen may_leave old.segment new.segment
     pub size_is : new.segment.size ≡ old.segment.size
     pub last_is : new.segment.last ≡ old.segment.last
+    pub told_is : new.segment.told.items ≡ old.segment.told.items
     pub clean : IsTrue (is_clean new.segment.disk) → IsTrue (is_clean old.segment.disk)
     pub rises : old.segment.base < old.segment.last
     pub finished : IsTrue (is_clean new.segment.disk) → (es : List Entry)
-        → KeepsEntries old.segment.base old.segment.last old.segment.size (seen old.segment.disk) es
+        → KeepsEntries old.segment.base old.segment.last old.segment.size old.segment.told.items (seen old.segment.disk) es
         → IsFinished old.segment.base old.segment.last es (seen new.segment.disk) (may_leave new.segment.disk)
     pub made : is_true new.folder → MakesAtMost has is_true places old.segment.last (HasHead old.segment.last) old.folder new.folder
     pub was : old.segment.is_stuck ≡ false
@@ -189,7 +190,7 @@ module _ {F D : Type 0} (seen : D → List ℕ) (may_leave : D → List ℕ → 
   ends_over above base last own outcomes e (inr one) = inr (one.0, e, one.1)
 
   ends_ended : (old new : Feed F D) (now : List Entry) → EndsOn old new → IsTrue (is_clean new.segment.disk)
-      → KeepsEntries old.segment.base old.segment.last old.segment.size (seen old.segment.disk) now
+      → KeepsEntries old.segment.base old.segment.last old.segment.size old.segment.told.items (seen old.segment.disk) now
       → IsEnded old.segment.base old.segment.last now (may_leave new.segment.disk)
   ends_ended old new now w clean kept = record { rises = w.rises; text = seen new.segment.disk; finished = w.finished clean now kept }
 
@@ -219,7 +220,8 @@ module _ {F D : Type 0} (seen : D → List ℕ) (may_leave : D → List ℕ → 
     is = k.is;
     entries = subst (λ b. AreEntries b k.before) (sym w.begins_is) k.entries;
     ends = ap (λ b. last_end b k.before) w.begins_is ∙ k.ends ∙ sym w.writes.base_is;
-    kept = segment_stays seen may_leave is_clean is_true places has old.segment new.segment w.writes w.size_is w.last_is k.now k.kept;
+    kept = segment_stays seen may_leave is_clean is_true places has old.segment new.segment w.writes w.size_is w.last_is w.told_is k.now
+        k.kept;
     whole = λ honest.
         let was = k.whole (ends_honest old new w honest) in
         let both = ends_both old new k.before k.now w honest.folder was in
@@ -301,7 +303,7 @@ module _ {F D : Type 0} (seen : D → List ℕ) (may_leave : D → List ℕ → 
     pub clean : IsTrue (is_clean done.disk) → IsTrue (is_clean old.segment.disk)
     pub rises : old.segment.base < old.segment.last
     pub finished : IsTrue (is_clean done.disk) → (es : List Entry)
-        → KeepsEntries old.segment.base old.segment.last old.segment.size (seen old.segment.disk) es
+        → KeepsEntries old.segment.base old.segment.last old.segment.size old.segment.told.items (seen old.segment.disk) es
         → IsFinished old.segment.base old.segment.last es (seen done.disk) (may_leave done.disk)
     pub fresh : IsFresh seen may_leave new.segment
     pub next : new.segment.base ≡ old.segment.last
@@ -359,7 +361,7 @@ module _ {F D : Type 0} (seen : D → List ℕ) (may_leave : D → List ℕ → 
       done_may old new text w low (subst (λ es. MayHave may_leave has es new.folder old.segment.base text) w.ended_is away.1)
 
   done_ended : (old new : Feed F D) (now : List Entry) → (w : BeginsOn old new) → IsTrue (is_clean w.done.disk)
-      → KeepsEntries old.segment.base old.segment.last old.segment.size (seen old.segment.disk) now
+      → KeepsEntries old.segment.base old.segment.last old.segment.size old.segment.told.items (seen old.segment.disk) now
       → IsEnded old.segment.base old.segment.last now (may_leave w.done.disk)
   done_ended old new now w clean kept = record { rises = w.rises; text = seen w.done.disk; finished = w.finished clean now kept }
 

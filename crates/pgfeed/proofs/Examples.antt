@@ -1,5 +1,6 @@
 -- A feed's text, of each kind of change.
-use Rattle.std.proofs.Common.{◌≡◌, pos, negsuc, [], ◌∷◌, ◌++◌, Some, None, true, false, refl}
+use Rattle.std.proofs.Common.{◌≡◌, ℕ, List, pos, negsuc, [], ◌∷◌, ◌++◌, Some, None, true, false}
+use Rattle.std.proofs.Common.{refl}
 use Rattle.std.specs.Prelude.{codes}
 use Rattle.std.specs.Fmt.{digits}
 use Rattle.json.specs.Print.{escape_byte}
@@ -12,8 +13,9 @@ use Rattle.pgledger.specs.declared.image.Image.TheVariants.{Inserted, Updated, D
 use Rattle.pgledger.specs.declared.image.Image.TheVariants.{Missed}
 use Rattle.pgledger.specs.Entries.{Entry}
 use Rattle.pgcrc.specs.Crc.{after_bit, after_bits, bits, crc32}
+use Rattle.pgfeed.specs.declared.told.Told.{Told}
 use Rattle.pgfeed.specs.Texts.{body_text, closing_object, crc_text, entry_crc, entry_text, key_data}
-use Rattle.pgfeed.specs.Texts.{padded, segment_head, table_front, table_rest}
+use Rattle.pgfeed.specs.Texts.{padded, place, segment_head, table_front, table_rest}
 
 abbrev stock : RelationDef
 stock = record {
@@ -52,6 +54,23 @@ notes = record {
       ∷ [];
 }
 
+-- an entry whose lines begin at an offset, where these definitions are told
+abbrev text_of : List Told → ℕ → ℕ → Entry → List ℕ
+text_of told at prev e = entry_text prev e (body_text told at 0 e.lines)
+
+abbrev crc_of : List Told → ℕ → ℕ → Entry → ℕ
+crc_of told at prev e = entry_crc prev e (body_text told at 0 e.lines)
+
+-- the newest definition of a relation stands where it is told, an older one nowhere
+newest_place : place (record { definition = stock; offset = 1280 } ∷ record { definition = stock2; offset = 2000 } ∷ []) stock2 ≡ Some 2000
+newest_place = refl
+
+older_place : place (record { definition = stock; offset = 1280 } ∷ record { definition = stock2; offset = 2000 } ∷ []) stock ≡ None
+older_place = refl
+
+other_place : place (record { definition = stock; offset = 1280 } ∷ record { definition = notes; offset = 2000 } ∷ []) stock ≡ Some 1280
+other_place = refl
+
 -- a row comes, changes and goes
 abbrev three : Entry
 three = record {
@@ -64,16 +83,16 @@ three = record {
       ∷ [];
 }
 
-three_text : entry_text 622870584 three ≡
-    padded 256 (codes "{\"end\":\"0/25204168\",\"prev\":\"0/25204038\",\"bytes\":333,\"changes\":3,\"lsn\":\"0/25204138\",\"xid\":739,\"ts_us\":1699684800123456" ++ crc_text (entry_crc 622870584 three))
+three_text : text_of [] 1280 622870584 three ≡
+    padded 256 (codes "{\"end\":\"0/25204168\",\"prev\":\"0/25204038\",\"bytes\":363,\"changes\":3,\"lsn\":\"0/25204138\",\"xid\":739,\"ts_us\":1699684800123456" ++ crc_text (crc_of [] 1280 622870584 three))
     ++ (codes "{\"op\":\"table\",\"oid\":16384,\"schema\":\"public\",\"table\":\"stock\",\"identity\":\"d\",\"key\":[\"sku\"],\"columns\":[[\"sku\",25,-1],[\"quantity\",23,-1]]}\n"
-    ++ (codes "{\"op\":\"c\",\"oid\":16384,\"n\":0,\"before\":null,\"after\":[\"A-1\",\"5\"]}\n"
-    ++ (codes "{\"op\":\"u\",\"oid\":16384,\"n\":1,\"before\":[\"A-1\",\"5\"],\"after\":[\"A-1\",null]}\n"
-    ++ (codes "{\"op\":\"d\",\"oid\":16384,\"n\":2,\"before\":[\"A-1\",null],\"after\":null}\n"))))
+    ++ (codes "{\"op\":\"c\",\"oid\":16384,\"at\":1280,\"n\":0,\"before\":null,\"after\":[\"A-1\",\"5\"]}\n"
+    ++ (codes "{\"op\":\"u\",\"oid\":16384,\"at\":1280,\"n\":1,\"before\":[\"A-1\",\"5\"],\"after\":[\"A-1\",null]}\n"
+    ++ (codes "{\"op\":\"d\",\"oid\":16384,\"at\":1280,\"n\":2,\"before\":[\"A-1\",null],\"after\":null}\n"))))
 unfolding entry_text body_text lsn_text half_text digits escape_byte table_front table_rest key_data lib.Utf8.encode
 three_text = refl
 
--- two relations, of which one is defined anew
+-- two relations, of which one is told already, and defined anew
 abbrev interleaved : Entry
 interleaved = record {
   end = 622871000;
@@ -92,18 +111,17 @@ interleaved = record {
       ∷ [];
 }
 
-interleaved_text : entry_text 622870888 interleaved ≡
-    padded 256 (codes "{\"end\":\"0/252041D8\",\"prev\":\"0/25204168\",\"bytes\":839,\"changes\":6,\"lsn\":\"0/25204138\",\"xid\":739,\"ts_us\":1699684800123456" ++ crc_text (entry_crc 622870888 interleaved))
-    ++ (codes "{\"op\":\"table\",\"oid\":16384,\"schema\":\"public\",\"table\":\"stock\",\"identity\":\"d\",\"key\":[\"sku\"],\"columns\":[[\"sku\",25,-1],[\"quantity\",23,-1]]}\n"
-    ++ (codes "{\"op\":\"c\",\"oid\":16384,\"n\":0,\"before\":null,\"after\":[\"A\",\"1\"]}\n"
+interleaved_text : text_of (record { definition = stock; offset = 1280 } ∷ []) 1899 622870888 interleaved ≡
+    padded 256 (codes "{\"end\":\"0/252041D8\",\"prev\":\"0/25204168\",\"bytes\":764,\"changes\":6,\"lsn\":\"0/25204138\",\"xid\":739,\"ts_us\":1699684800123456" ++ crc_text (crc_of (record { definition = stock; offset = 1280 } ∷ []) 1899 622870888 interleaved))
+    ++ (codes "{\"op\":\"c\",\"oid\":16384,\"at\":1280,\"n\":0,\"before\":null,\"after\":[\"A\",\"1\"]}\n"
     ++ (codes "{\"op\":\"table\",\"oid\":16390,\"schema\":\"pg_catalog\",\"table\":\"no\\\"tes\",\"identity\":\"f\",\"key\":null,\"columns\":[[\"text\",25,-1],[\"data\",17,-1]]}\n"
-    ++ ((codes "{\"op\":\"c\",\"oid\":16390,\"n\":1,\"before\":null,\"after\":[\"" ++ 195 ∷ 169
+    ++ ((codes "{\"op\":\"c\",\"oid\":16390,\"at\":1970,\"n\":1,\"before\":null,\"after\":[\"" ++ 195 ∷ 169
     ∷ codes " \\\"x\\\"\\n\",{\"hex\":\"00ff\"}]}\n")
-    ++ (codes "{\"op\":\"d\",\"oid\":16384,\"n\":2,\"before\":[\"A\",\"1\"],\"after\":null}\n"
+    ++ (codes "{\"op\":\"d\",\"oid\":16384,\"at\":1280,\"n\":2,\"before\":[\"A\",\"1\"],\"after\":null}\n"
     ++ (codes "{\"op\":\"table\",\"oid\":16384,\"schema\":\"public\",\"table\":\"stock\",\"identity\":\"d\",\"key\":[\"sku\"],\"columns\":[[\"sku\",25,-1],[\"quantity\",23,-1],[\"price\",1700,655366]]}\n"
-    ++ (codes "{\"op\":\"c\",\"oid\":16384,\"n\":3,\"before\":null,\"after\":[\"A\",\"1\",\"0.50\"]}\n"
-    ++ (codes "{\"op\":\"c\",\"oid\":16390,\"n\":4,\"before\":null,\"after\":[\"\",null]}\n"
-    ++ (codes "{\"op\":\"u\",\"oid\":16384,\"n\":5,\"before\":[\"A\",\"1\",\"0.50\"],\"after\":[\"B\",\"1\",\"0.50\"]}\n")))))))))
+    ++ (codes "{\"op\":\"c\",\"oid\":16384,\"at\":2267,\"n\":3,\"before\":null,\"after\":[\"A\",\"1\",\"0.50\"]}\n"
+    ++ (codes "{\"op\":\"c\",\"oid\":16390,\"at\":1970,\"n\":4,\"before\":null,\"after\":[\"\",null]}\n"
+    ++ (codes "{\"op\":\"u\",\"oid\":16384,\"at\":2267,\"n\":5,\"before\":[\"A\",\"1\",\"0.50\"],\"after\":[\"B\",\"1\",\"0.50\"]}\n"))))))))
 unfolding entry_text body_text lsn_text half_text digits escape_byte table_front table_rest key_data lib.Utf8.encode encode_with
 interleaved_text = refl
 
@@ -117,15 +135,15 @@ truncated = record {
       ∷ [];
 }
 
-truncated_text : entry_text 622871000 truncated ≡
-    padded 256 (codes "{\"end\":\"0/252045C0\",\"prev\":\"0/252041D8\",\"bytes\":191,\"changes\":1,\"lsn\":\"0/25204138\",\"xid\":739,\"ts_us\":1699684800123456" ++ crc_text (entry_crc 622871000 truncated))
+truncated_text : text_of [] 1280 622871000 truncated ≡
+    padded 256 (codes "{\"end\":\"0/252045C0\",\"prev\":\"0/252041D8\",\"bytes\":201,\"changes\":1,\"lsn\":\"0/25204138\",\"xid\":739,\"ts_us\":1699684800123456" ++ crc_text (crc_of [] 1280 622871000 truncated))
     ++ (codes "{\"op\":\"table\",\"oid\":16390,\"schema\":\"pg_catalog\",\"table\":\"no\\\"tes\",\"identity\":\"f\",\"key\":null,\"columns\":[[\"text\",25,-1],[\"data\",17,-1]]}\n"
-    ++ (codes "{\"op\":\"t\",\"oid\":16390,\"n\":0,\"before\":null,\"after\":null}\n"))
+    ++ (codes "{\"op\":\"t\",\"oid\":16390,\"at\":1280,\"n\":0,\"before\":null,\"after\":null}\n"))
 unfolding entry_text body_text lsn_text half_text digits escape_byte table_front table_rest key_data lib.Utf8.encode
 truncated_text = refl
 
 -- the checksum is of what its line tells before it, and of the lines that follow
-truncated_crc : entry_crc 622871000 truncated ≡ 3568646337
+truncated_crc : crc_of [] 1280 622871000 truncated ≡ 2556069404
 unfolding entry_crc body_text lsn_text half_text digits escape_byte table_front table_rest key_data lib.Utf8.encode
     crc32 after_bits after_bit bits
 truncated_crc = refl
@@ -146,14 +164,14 @@ missed = record {
       ∷ [];
 }
 
-missed_text : entry_text 622872000 missed ≡
-    padded 256 (codes "{\"end\":\"0/252049A8\",\"prev\":\"0/252045C0\",\"bytes\":587,\"changes\":4,\"lsn\":\"0/25204138\",\"xid\":739,\"ts_us\":1699684800123456" ++ crc_text (entry_crc 622872000 missed))
+missed_text : text_of [] 1280 622872000 missed ≡
+    padded 256 (codes "{\"end\":\"0/252049A8\",\"prev\":\"0/252045C0\",\"bytes\":627,\"changes\":4,\"lsn\":\"0/25204138\",\"xid\":739,\"ts_us\":1699684800123456" ++ crc_text (crc_of [] 1280 622872000 missed))
     ++ (codes "{\"op\":\"table\",\"oid\":16384,\"schema\":\"public\",\"table\":\"stock\",\"identity\":\"d\",\"key\":[\"sku\"],\"columns\":[[\"sku\",25,-1],[\"quantity\",23,-1]]}\n"
-    ++ (codes "{\"op\":\"x\",\"oid\":16384,\"n\":0,\"sent\":\"u\",\"old\":null,\"new\":[\"A\",{\"unchanged\":true}]}\n"
-    ++ (codes "{\"op\":\"x\",\"oid\":16384,\"n\":1,\"sent\":\"u\",\"old\":[\"K\",[\"A\",null]],\"new\":[\"B\",\"1\"]}\n"
-    ++ (codes "{\"op\":\"x\",\"oid\":16384,\"n\":2,\"sent\":\"d\",\"old\":[\"K\",[\"A\",null]],\"new\":null}\n"
+    ++ (codes "{\"op\":\"x\",\"oid\":16384,\"at\":1280,\"n\":0,\"sent\":\"u\",\"old\":null,\"new\":[\"A\",{\"unchanged\":true}]}\n"
+    ++ (codes "{\"op\":\"x\",\"oid\":16384,\"at\":1280,\"n\":1,\"sent\":\"u\",\"old\":[\"K\",[\"A\",null]],\"new\":[\"B\",\"1\"]}\n"
+    ++ (codes "{\"op\":\"x\",\"oid\":16384,\"at\":1280,\"n\":2,\"sent\":\"d\",\"old\":[\"K\",[\"A\",null]],\"new\":null}\n"
     ++ (codes "{\"op\":\"table\",\"oid\":16390,\"schema\":\"pg_catalog\",\"table\":\"no\\\"tes\",\"identity\":\"f\",\"key\":null,\"columns\":[[\"text\",25,-1],[\"data\",17,-1]]}\n"
-    ++ (codes "{\"op\":\"x\",\"oid\":16390,\"n\":3,\"sent\":\"d\",\"old\":[\"O\",[\"a\",{\"hex\":\"10\"}]],\"new\":null}\n"))))))
+    ++ (codes "{\"op\":\"x\",\"oid\":16390,\"at\":1680,\"n\":3,\"sent\":\"d\",\"old\":[\"O\",[\"a\",{\"hex\":\"10\"}]],\"new\":null}\n"))))))
 unfolding entry_text body_text lsn_text half_text digits escape_byte table_front table_rest key_data lib.Utf8.encode encode_with
 missed_text = refl
 
@@ -161,8 +179,9 @@ missed_text = refl
 abbrev nothing : Entry
 nothing = record { end = 4294967312; about = Some (record { final_lsn = 622870840; xid = 739; time = pos 753000000123456 }); lines = [] }
 
-nothing_text : entry_text 622873000 nothing ≡
-    padded 256 (codes "{\"end\":\"1/10\",\"prev\":\"0/252049A8\",\"bytes\":0,\"changes\":0,\"lsn\":\"0/25204138\",\"xid\":739,\"ts_us\":1699684800123456" ++ crc_text (entry_crc 622873000 nothing)) ++ []
+nothing_text : text_of [] 1280 622873000 nothing ≡
+    padded 256 (codes "{\"end\":\"1/10\",\"prev\":\"0/252049A8\",\"bytes\":0,\"changes\":0,\"lsn\":\"0/25204138\",\"xid\":739,\"ts_us\":1699684800123456" ++ crc_text (crc_of [] 1280 622873000 nothing))
+    ++ []
 unfolding entry_text body_text lsn_text half_text digits escape_byte
 nothing_text = refl
 
@@ -170,13 +189,13 @@ nothing_text = refl
 abbrev untold : Entry
 untold = record { end = 622874000; about = None; lines = [] }
 
-untold_text : entry_text 622873000 untold ≡
-    padded 256 (codes "{\"end\":\"0/25204D90\",\"prev\":\"0/252049A8\",\"bytes\":0,\"changes\":0,\"lsn\":null,\"xid\":null,\"ts_us\":null" ++ crc_text (entry_crc 622873000 untold)) ++ []
+untold_text : text_of [] 1280 622873000 untold ≡
+    padded 256 (codes "{\"end\":\"0/25204D90\",\"prev\":\"0/252049A8\",\"bytes\":0,\"changes\":0,\"lsn\":null,\"xid\":null,\"ts_us\":null" ++ crc_text (crc_of [] 1280 622873000 untold)) ++ []
 unfolding entry_text body_text lsn_text half_text digits escape_byte
 untold_text = refl
 
 -- the checksum is of what its line tells before it
-untold_crc : entry_crc 622873000 untold ≡ 1985452095
+untold_crc : crc_of [] 1280 622873000 untold ≡ 1985452095
 unfolding entry_crc body_text lsn_text half_text digits escape_byte crc32 after_bits after_bit bits
 untold_crc = refl
 
@@ -188,8 +207,8 @@ early = record {
   lines = [];
 }
 
-early_text : entry_text 0 early ≡
-    padded 256 (codes "{\"end\":\"FFFFFFFF/FFFFFFFF\",\"prev\":\"0/0\",\"bytes\":0,\"changes\":0,\"lsn\":\"FFFFFFFF/FFFFFFFF\",\"xid\":4294967295,\"ts_us\":-9222425352054775808" ++ crc_text (entry_crc 0 early)) ++ []
+early_text : text_of [] 1280 0 early ≡
+    padded 256 (codes "{\"end\":\"FFFFFFFF/FFFFFFFF\",\"prev\":\"0/0\",\"bytes\":0,\"changes\":0,\"lsn\":\"FFFFFFFF/FFFFFFFF\",\"xid\":4294967295,\"ts_us\":-9222425352054775808" ++ crc_text (crc_of [] 1280 0 early)) ++ []
 unfolding entry_text body_text lsn_text half_text digits escape_byte
 early_text = refl
 
@@ -201,13 +220,13 @@ late = record {
   lines = [];
 }
 
-late_text : entry_text 18446744073709551614 late ≡
-    padded 256 (codes "{\"end\":\"FFFFFFFF/FFFFFFFF\",\"prev\":\"FFFFFFFF/FFFFFFFE\",\"bytes\":0,\"changes\":0,\"lsn\":\"FFFFFFFF/FFFFFFFF\",\"xid\":4294967295,\"ts_us\":9224318721654775807" ++ crc_text (entry_crc 18446744073709551614 late)) ++ []
+late_text : text_of [] 1280 18446744073709551614 late ≡
+    padded 256 (codes "{\"end\":\"FFFFFFFF/FFFFFFFF\",\"prev\":\"FFFFFFFF/FFFFFFFE\",\"bytes\":0,\"changes\":0,\"lsn\":\"FFFFFFFF/FFFFFFFF\",\"xid\":4294967295,\"ts_us\":9224318721654775807" ++ crc_text (crc_of [] 1280 18446744073709551614 late)) ++ []
 unfolding entry_text body_text lsn_text half_text digits escape_byte
 late_text = refl
 
 head : segment_head 622870584 (codes "7231") (codes "pu\"b") (codes "copy")
-    ≡ codes "{\"feed\":2,\"base\":\"0/25204038\",\"system\":\"7231\",\"database\":\"pu\\\"b\",\"slot\":\"copy\"}                                                                                                                                                                                                                                                                                                                                                                                                                                                                                                                                                                                                                                                                                                                                                                                                                                                                                                                                                                                \n"
+    ≡ codes "{\"feed\":3,\"base\":\"0/25204038\",\"system\":\"7231\",\"database\":\"pu\\\"b\",\"slot\":\"copy\"}                                                                                                                                                                                                                                                                                                                                                                                                                                                                                                                                                                                                                                                                                                                                                                                                                                                                                                                                                                                \n"
 unfolding lsn_text half_text digits escape_byte
 head = refl
 

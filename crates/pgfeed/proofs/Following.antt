@@ -3,18 +3,20 @@ use Rattle.std.proofs.Common.{◌≡◌, ◌≢◌, ◌⊎◌, inl, inr, ◌<◌
 use Rattle.std.proofs.Common.{length, append-nil, append_assoc, ap, refl, sym, ◌∙◌, subst, arith}
 use Rattle.std.proofs.Common.{Result, Ok, Err, true, false, Option, ℤ}
 use Rattle.pgapply.specs.declared.commit.About.{About}
-use Rattle.std.specs.Prelude.{Bool, IsTrue, OnErr}
+use Rattle.std.specs.Prelude.{Bool, IsTrue, OnErr, string_bytes}
 use Rattle.std.specs.List.{AllByRecursion}
 use Rattle.sqlite_disk.specs.Disk.{Holds, Only}
 use Rattle.pgledger.specs.Entries.{Entry, last_end}
 use Rattle.pgfeed.specs.declared.feed.Feed.{Feed}
 use Rattle.pgfeed.specs.declared.segment.Segment.{Segment}
-use Rattle.pgfeed.specs.Fits.{FitsEntry}
 use Rattle.pgfeed.specs.Folders.{AreBelow, HasNoMoreElse, MakesAtMost}
 use Rattle.pgfeed.specs.Reading.{AreEntries}
 use Rattle.pgfeed.specs.Segments.{IsEnded, IsFinished, KeepsEntries, Lasts, LastsAs}
 use Rattle.pgfeed.specs.Segments.{HasWhatLasts, WritesBehind}
-use Rattle.pgfeed.specs.Texts.{entry_text}
+use Rattle.pgfeed.specs.declared.told.Told.{Told}
+use Rattle.pgfeed.specs.Next.{FitsNext, IsNext, Remembers, next_body, next_text, next_told}
+use Rattle.pgfeed.specs.declared.entries.Piece.{Piece}
+use Rattle.pgfeed.specs.Cutting.Walking.{entry_length}
 use Rattle.pgfeed.specs.Feeds.{AreEnded, BeginAt, BeginBelow, Ends, Follow, Goes, HasHeadAt}
 use Rattle.pgfeed.specs.Feeds.{IsFresh}
 use Rattle.pgfeed.specs.Feeds.{IsHonestFeed, IsLeftIn, IsWhole, KeepsAll, LastsUpTo, LeavesAt}
@@ -58,6 +60,35 @@ module _ {D : Type 0} (seen : D → List ℕ) (may_leave : D → List ℕ → Ty
       writes_nothing old new (ap (λ (s : Segment D). s.base) is) (ap (λ (s : Segment D). s.last) is) (ap (λ (s : Segment D). s.size) is)
       (ap (λ (s : Segment D). seen s.disk) is)
       (λ c left. subst (λ (s : Segment D). may_leave s.disk c) is left)
+
+-- a commit is written, and what it tells is remembered
+pub record Adds {D : Type 0} (seen : D → List ℕ) (old new : Segment D) (e : Entry) : Type 0 where
+  pub above : old.last < e.end
+  pub fits : FitsNext old e
+  pub holds : Holds (seen new.disk) old.size (next_text old e)
+  pub size_is : new.size ≡ old.size + length (next_text old e)
+  pub last_is : new.last ≡ e.end
+  pub told_is : Remembers (next_told old e) new.told.items
+
+pub remembers_as : (told other now : List Told) → told ≡ other → Remembers told now → Remembers other now
+remembers_as told other now same (inl all) = inl (all ∙ same)
+remembers_as told other now same (inr none) = inr none
+
+pub adds_piece : {D : Type 0} (seen : D → List ℕ) (old new : Segment D) (e : Entry) (piece : Piece) → IsNext old e piece
+    → (0 < length (string_bytes piece.text) → Holds (seen new.disk) old.size (string_bytes piece.text))
+    → new.size ≡ old.size + length (string_bytes piece.text) → new.last ≡ e.end
+    → Remembers (old.told.items ++ piece.told.items) new.told.items → Adds seen old new e
+adds_piece seen old new e piece next written size last told =
+    let long = entry_length old.last e (next_body old e) next.fits in
+    let some : 0 < length (string_bytes piece.text) = omega (arith, ap length next.text, long) in
+    record {
+      above = next.above;
+      fits = next.fits;
+      holds = subst (λ bytes. Holds (seen new.disk) old.size bytes) next.text (written some);
+      size_is = size ∙ ap (λ bytes. old.size + length bytes) next.text;
+      last_is = last;
+      told_is = remembers_as (old.told.items ++ piece.told.items) (next_told old e) new.told.items next.told told;
+    }
 
 -- ---- LSNs and lists
 
@@ -182,8 +213,9 @@ module _ {F D : Type 0} (seen : D → List ℕ) (may_leave : D → List ℕ → 
 
   -- nothing follows it
   pub all_written : (old new : Feed F D) (more : List Entry) → WritesOn old new → old.segment.is_stuck ≡ false
-      → ((es : List Entry) → KeepsEntries old.segment.base old.segment.last old.segment.size (seen old.segment.disk) es
-      → KeepsEntries new.segment.base new.segment.last new.segment.size (seen new.segment.disk) (es ++ more))
+      → ((es : List Entry)
+      → KeepsEntries old.segment.base old.segment.last old.segment.size old.segment.told.items (seen old.segment.disk) es
+      → KeepsEntries new.segment.base new.segment.last new.segment.size new.segment.told.items (seen new.segment.disk) (es ++ more))
       → (es : List Entry) → Keeps old es → Keeps new (es ++ more)
   all_written old new more w was each es k = record {
     before = k.before;
@@ -213,20 +245,22 @@ module _ {F D : Type 0} (seen : D → List ℕ) (may_leave : D → List ℕ → 
     pub on : WritesOn old new
     pub size_is : new.segment.size ≡ old.segment.size
     pub last_is : new.segment.last ≡ old.segment.last
+    pub told_is : new.segment.told.items ≡ old.segment.told.items
     pub less : (c : List ℕ) → may_leave new.segment.disk c → may_leave old.segment.disk c
     pub stuck : new.segment.is_stuck ≡ false → old.segment.is_stuck ≡ false
 
   pub segment_stays : (old new : Segment D) → Writes seen may_leave old new → new.size ≡ old.size → new.last ≡ old.last
-      → (es : List Entry) → KeepsEntries old.base old.last old.size (seen old.disk) es
-      → KeepsEntries new.base new.last new.size (seen new.disk) es
-  segment_stays old new w stays ends es k =
-      untold _ _ _ _ _ _ _ _ (may_leave old.disk) (may_leave new.disk) w.base_is stays ends w.behind es k
+      → new.told.items ≡ old.told.items → (es : List Entry) → KeepsEntries old.base old.last old.size old.told.items (seen old.disk) es
+      → KeepsEntries new.base new.last new.size new.told.items (seen new.disk) es
+  segment_stays old new w stays ends tells es k =
+      untold _ _ _ _ _ _ _ _ _ _ (may_leave old.disk) (may_leave new.disk) w.base_is stays ends tells w.behind es k
 
   pub segment_more : (old new : Segment D) → Writes seen may_leave old new → new.size ≡ old.size → new.last ≡ old.last
-      → (es : List Entry) → KeepsEntries old.base old.last old.size (seen old.disk) es
-      → KeepsEntries new.base new.last new.size (seen new.disk) (es ++ [])
-  segment_more old new w stays ends es k =
-      subst (KeepsEntries new.base new.last new.size (seen new.disk)) (sym (append-nil es)) (segment_stays old new w stays ends es k)
+      → new.told.items ≡ old.told.items → (es : List Entry) → KeepsEntries old.base old.last old.size old.told.items (seen old.disk) es
+      → KeepsEntries new.base new.last new.size new.told.items (seen new.disk) (es ++ [])
+  segment_more old new w stays ends tells es k =
+      subst (KeepsEntries new.base new.last new.size new.told.items (seen new.disk)) (sym (append-nil es))
+      (segment_stays old new w stays ends tells es k)
 
   over_stays : (old new : Feed F D) (above : List ℕ) (now : List Entry) → StaysOn old new
       → (above ≡ []) ⊎ ((above ≡ old.segment.last ∷ []) × IsEnded old.segment.base old.segment.last now (may_leave old.segment.disk)
@@ -250,7 +284,7 @@ module _ {F D : Type 0} (seen : D → List ℕ) (may_leave : D → List ℕ → 
     is = k.is;
     entries = subst (λ b. AreEntries b k.before) (sym w.on.begins_is) k.entries;
     ends = ap (λ b. last_end b k.before) w.on.begins_is ∙ k.ends ∙ sym w.on.writes.base_is;
-    kept = segment_stays old.segment new.segment w.on.writes w.size_is w.last_is k.now k.kept;
+    kept = segment_stays old.segment new.segment w.on.writes w.size_is w.last_is w.told_is k.now k.kept;
     whole = λ honest.
         let was_whole = k.whole (honest_before old new w.on honest) in
         record {
@@ -323,8 +357,9 @@ module _ {F D : Type 0} (seen : D → List ℕ) (may_leave : D → List ℕ → 
 
   -- a commit is written, or a part of it, or the line that ends the segment
   pub goes_more : (old new : Feed F D) (more : List Entry) → WritesOn old new → old.segment.is_stuck ≡ false
-      → ((es : List Entry) → KeepsEntries old.segment.base old.segment.last old.segment.size (seen old.segment.disk) es
-      → KeepsEntries new.segment.base new.segment.last new.segment.size (seen new.segment.disk) (es ++ more))
+      → ((es : List Entry)
+      → KeepsEntries old.segment.base old.segment.last old.segment.size old.segment.told.items (seen old.segment.disk) es
+      → KeepsEntries new.segment.base new.segment.last new.segment.size new.segment.told.items (seen new.segment.disk) (es ++ more))
       → (new.segment.last ≡ old.segment.last → more ≡ []) → Goes seen may_leave is_clean is_true places has old new
   unfolding all_written
   goes_more old new more w was each none =
@@ -336,42 +371,34 @@ module _ {F D : Type 0} (seen : D → List ℕ) (may_leave : D → List ℕ → 
 
   -- a part of a commit is written, or the line that ends the segment
   pub goes_quiet : (old new : Feed F D) → WritesOn old new → old.segment.is_stuck ≡ false → new.segment.size ≡ old.segment.size
-      → new.segment.last ≡ old.segment.last → Goes seen may_leave is_clean is_true places has old new
-  goes_quiet old new w was stays ends =
-      goes_more old new [] w was (segment_more old.segment new.segment w.writes stays ends) (λ _. refl)
+      → new.segment.last ≡ old.segment.last → new.segment.told.items ≡ old.segment.told.items
+      → Goes seen may_leave is_clean is_true places has old new
+  goes_quiet old new w was stays ends tells =
+      goes_more old new [] w was (segment_more old.segment new.segment w.writes stays ends tells) (λ _. refl)
 
   pub all_quiet : (old new : Feed F D) → WritesOn old new → old.segment.is_stuck ≡ false → new.segment.size ≡ old.segment.size
-      → new.segment.last ≡ old.segment.last → (es : List Entry) → Keeps old es → Keeps new es
-  all_quiet old new w was stays ends es k =
+      → new.segment.last ≡ old.segment.last → new.segment.told.items ≡ old.segment.told.items → (es : List Entry) → Keeps old es
+      → Keeps new es
+  all_quiet old new w was stays ends tells es k =
       subst (Keeps new) (append-nil es)
-      (all_written old new [] w was (segment_more old.segment new.segment w.writes stays ends) es k)
+      (all_written old new [] w was (segment_more old.segment new.segment w.writes stays ends tells) es k)
 
-  -- a commit is written
-  entry_more : (old new : Feed F D) (e : Entry) → WritesOn old new
-      → new.segment.size ≡ old.segment.size + length (entry_text old.segment.last e)
-      → new.segment.last ≡ e.end → old.segment.last < e.end → FitsEntry old.segment.last e
-      → Holds (seen new.segment.disk) old.segment.size (entry_text old.segment.last e)
-      → (es : List Entry) → KeepsEntries old.segment.base old.segment.last old.segment.size (seen old.segment.disk) es
-      → KeepsEntries new.segment.base new.segment.last new.segment.size (seen new.segment.disk) (es ++ e ∷ [])
-  entry_more old new e w long ends above fits holds es kept =
-      appended _ _ _ _ _ _ _ _ (may_leave old.segment.disk) (may_leave new.segment.disk) e w.writes.base_is ends long above fits holds
-      w.writes.behind es kept
+  entry_more : (old new : Feed F D) (e : Entry) → WritesOn old new → Adds seen old.segment new.segment e
+      → (es : List Entry)
+      → KeepsEntries old.segment.base old.segment.last old.segment.size old.segment.told.items (seen old.segment.disk) es
+      → KeepsEntries new.segment.base new.segment.last new.segment.size new.segment.told.items (seen new.segment.disk) (es ++ e ∷ [])
+  entry_more old new e w adds es kept =
+      appended _ _ _ _ _ _ _ _ _ _ (may_leave old.segment.disk) (may_leave new.segment.disk) e w.writes.base_is adds.last_is adds.size_is
+      adds.told_is adds.above adds.fits adds.holds w.writes.behind es kept
 
-  pub all_more : (old new : Feed F D) (e : Entry) → WritesOn old new → old.segment.is_stuck ≡ false
-      → new.segment.size ≡ old.segment.size + length (entry_text old.segment.last e)
-      → new.segment.last ≡ e.end → old.segment.last < e.end → FitsEntry old.segment.last e
-      → Holds (seen new.segment.disk) old.segment.size (entry_text old.segment.last e)
+  pub all_more : (old new : Feed F D) (e : Entry) → WritesOn old new → old.segment.is_stuck ≡ false → Adds seen old.segment new.segment e
       → (es : List Entry) → Keeps old es → Keeps new (es ++ e ∷ [])
-  all_more old new e w was long ends above fits holds =
-      all_written old new (e ∷ []) w was (entry_more old new e w long ends above fits holds)
+  all_more old new e w was adds = all_written old new (e ∷ []) w was (entry_more old new e w adds)
 
-  pub goes_end : (old new : Feed F D) (e : Entry) → WritesOn old new → old.segment.is_stuck ≡ false
-      → new.segment.size ≡ old.segment.size + length (entry_text old.segment.last e)
-      → new.segment.last ≡ e.end → old.segment.last < e.end → FitsEntry old.segment.last e
-      → Holds (seen new.segment.disk) old.segment.size (entry_text old.segment.last e)
+  pub goes_end : (old new : Feed F D) (e : Entry) → WritesOn old new → old.segment.is_stuck ≡ false → Adds seen old.segment new.segment e
       → Goes seen may_leave is_clean is_true places has old new
-  goes_end old new e w was long ends above fits holds =
-      goes_more old new (e ∷ []) w was (entry_more old new e w long ends above fits holds) (λ same. absurd (omega (arith, ends)))
+  goes_end old new e w was adds =
+      goes_more old new (e ∷ []) w was (entry_more old new e w adds) (λ same. absurd (omega (arith, adds.above, adds.last_is)))
 
   -- ---- the folder gets the files of those that have ended back
 
@@ -418,7 +445,7 @@ module _ {F D : Type 0} (seen : D → List ℕ) (may_leave : D → List ℕ → 
         is = k.is;
         entries = subst (λ b. AreEntries b k.before) (sym r.begins_is) k.entries;
         ends = ap (λ b. last_end b k.before) r.begins_is ∙ k.ends ∙ sym base;
-        kept = subst (λ (s : Segment D). KeepsEntries s.base s.last s.size (seen s.disk) k.now) (sym r.segment_is) k.kept;
+        kept = subst (λ (s : Segment D). KeepsEntries s.base s.last s.size s.told.items (seen s.disk) k.now) (sym r.segment_is) k.kept;
         whole = λ honest.
             let was = k.whole (returned_honest old new r honest) in
             let low = ended_below (LeavesAt may_leave has old) old.begins was.bases old.segment.base k.before was.ended in
@@ -496,5 +523,5 @@ module _ {F D : Type 0} (seen : D → List ℕ) (may_leave : D → List ℕ → 
         λ above. subst (λ q. Lasts new.segment.base new.segment.size (may_leave new.segment.disk) q) (sym k.kept.last_is ∙ sym there)
             (lasts_there old.segment.base new.segment.base old.segment.size new.segment.size (last_end old.segment.base k.now)
             (may_leave new.segment.disk) base size
-            (synced_lasts _ _ _ _ (may_leave new.segment.disk) k.now k.kept only)),
+            (synced_lasts _ _ _ _ _ (may_leave new.segment.disk) k.now k.kept only)),
       )

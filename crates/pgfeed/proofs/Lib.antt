@@ -7,3 +7,6 @@ pub mod Plain
 pub mod Lasting
 pub mod Beside
 mod Ending
+pub mod Naming
+mod SameDefinition
+pub mod Places

@@ -2,6 +2,7 @@ pub mod Widths
 pub mod Fronts
 pub mod Walking
 pub mod Files
+pub mod Written
 pub mod Kept
 pub mod Tested
 pub mod Opened

@@ -108,12 +108,13 @@ module _ {F D : Type 0} (may_leave : D → List ℕ → Type 0) (has : F → ℕ
 module _ {D : Type 0} (seen : D → List ℕ) (may_leave : D → List ℕ → Type 0) where
   -- the segment has no entry, also after a crash
   abbrev pub IsFresh : Segment D → Type 0
-  IsFresh s = KeepsEntries s.base s.last s.size (seen s.disk) [] × Lasts s.base s.size (may_leave s.disk) s.base
+  IsFresh s = KeepsEntries s.base s.last s.size s.told.items (seen s.disk) [] × Lasts s.base s.size (may_leave s.disk) s.base
 
   -- What opening at an LSN makes of the text that a file had: what lies behind the commit that ends
-  -- there is cut off.
+  -- there is cut off. No definition is told.
   pub record IsCutAt (p : ℕ) (text : List ℕ) (s : Segment D) : Type 0 where
     pub up : s.base ≤ p
+    pub untold : s.told.items ≡ []
     pub found : IsFound s.base p text s.size
     pub tested : s.base < p → EndsTested p text s.size
     pub cut : IsCut text s.size (seen s.disk) (may_leave s.disk)
@@ -131,7 +132,8 @@ module _ {D : Type 0} (seen : D → List ℕ) (may_leave : D → List ℕ → Ty
     pub stays : after ≡ stay ++ ended ∷ []
     pub base_is : ended.base ≡ old.base
     pub last_is : ended.last ≡ old.last
-    pub finished : IsTrue (is_clean ended.disk) → (es : List Entry) → KeepsEntries old.base old.last old.size (seen old.disk) es
+    pub finished : IsTrue (is_clean ended.disk) → (es : List Entry)
+        → KeepsEntries old.base old.last old.size old.told.items (seen old.disk) es
         → IsFinished old.base old.last es (seen ended.disk) (may_leave ended.disk)
 
   -- Those that have ended stay, or they are let go where all was synced before. Then the segment is
@@ -185,7 +187,7 @@ module _ {F D : Type 0} (seen : D → List ℕ) (may_leave : D → List ℕ → 
     pub is : es ≡ before ++ now
     pub entries : AreEntries l.begins before
     pub ends : last_end l.begins before ≡ l.segment.base
-    pub kept : KeepsEntries l.segment.base l.segment.last l.segment.size (seen l.segment.disk) now
+    pub kept : KeepsEntries l.segment.base l.segment.last l.segment.size l.segment.told.items (seen l.segment.disk) now
     pub whole : IsHonestFeed l → IsWhole l before now
 
   -- Up to this LSN its entries outlast a crash. Those that have ended were synced as they did.

@@ -1,8 +1,7 @@
 -- Which values a line of a commit may have: those of 64 bits.
-use Rattle.std.specs.Prelude.{ℕ, ◌<◌, ◌^◌, Option, IfSome, FitsSigned, length}
+use Rattle.std.specs.Prelude.{ℕ, ◌<◌, ◌^◌, List, Option, IfSome, FitsSigned, length}
 use Rattle.std.specs.Int.{w64}
 use Rattle.pgledger.specs.Entries.{Entry}
-use Rattle.pgfeed.specs.Texts.{entry_body}
 use Rattle.pgapply.specs.declared.commit.About.{About}
 
 pub record FitsAbout (about : About) : Type 0 where
@@ -17,6 +16,6 @@ pub record FitsLine (end prev bytes changes : ℕ) (about : Option About) : Type
   pub changes_fit : changes < 2 ^ 64
   pub about_fits : IfSome about FitsAbout
 
--- of an entry behind the commit that ends at that LSN
-abbrev pub FitsEntry : ℕ → Entry → Type 0
-FitsEntry prev e = FitsLine e.end prev (length (entry_body e)) (length e.lines) e.about
+-- of an entry with these lines behind the commit that ends at that LSN
+abbrev pub FitsEntry : ℕ → Entry → List ℕ → Type 0
+FitsEntry prev e body = FitsLine e.end prev (length body) (length e.lines) e.about

@@ -2,6 +2,7 @@ pub mod Texts
 pub mod Fits
 pub mod Reading
 pub mod Segments
+pub mod Next
 pub mod Whole
 pub mod Naming
 pub mod Folders

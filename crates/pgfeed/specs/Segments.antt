@@ -1,11 +1,13 @@
 -- A segment of a feed in a file: what the file has, what a crash leaves of it, and opening what was
 -- left.
-use Rattle.std.specs.Prelude.{◌≡◌, ◌<◌, ◌≤◌, ◌+◌, ◌^◌, ℕ, List, ◌++◌, length, take, drop}
+use Rattle.std.specs.Prelude.{◌≡◌, ◌<◌, ◌≤◌, ◌+◌, ◌^◌, ℕ, List, [], ◌++◌, length, take, drop}
+use Rattle.std.specs.List.{AllByRecursion}
 use Rattle.sqlite_disk.specs.Disk.{Follows, Only, Torn}
 use Rattle.pgledger.specs.Entries.{Entry, last_end}
 use Rattle.pgfeed.specs.declared.mark.Mark.{Mark}
-use Rattle.pgfeed.specs.Reading.{AreEntries, BeginsWith, HasItsCrc, Walks}
-use Rattle.pgfeed.specs.Texts.{closing_line, entries_text, segment_front, segment_head}
+use Rattle.pgfeed.specs.declared.told.Told.{Told}
+use Rattle.pgfeed.specs.Reading.{AreEntries, AreWritten, BeginsWith, HasItsCrc, Stands, Walks}
+use Rattle.pgfeed.specs.Texts.{Bodies, closing_line, entries_text, segment_front, segment_head}
 
 -- the head of a segment that begins at this LSN
 pub record IsHead (base : ℕ) (head : List ℕ) : Type 0 where
@@ -17,24 +19,30 @@ pub record IsHead (base : ℕ) (head : List ℕ) : Type 0 where
   pub base_fits : base < 2 ^ 64
 
 -- The file has a head and these entries one after the other, in so many bytes, and maybe something
--- behind them. The last one ends there.
-pub record KeepsEntries (base last size : ℕ) (file : List ℕ) (es : List Entry) : Type 0 where
+-- behind them. The last one ends there. The definitions stand in these bytes where they are said
+-- to.
+pub record KeepsEntries (base last size : ℕ) (told : List Told) (file : List ℕ) (es : List Entry) : Type 0 where
   pub head : List ℕ
+  pub bodies : Bodies
   pub rest : List ℕ
   pub is_head : IsHead base head
-  pub file_is : file ≡ head ++ (entries_text base es ++ rest)
-  pub size_is : size ≡ 1024 + length (entries_text base es)
+  pub file_is : file ≡ head ++ (entries_text bodies base es ++ rest)
+  pub size_is : size ≡ 1024 + length (entries_text bodies base es)
   pub entries : AreEntries base es
+  pub written : AreWritten bodies head base es
+  pub stand : AllByRecursion (Stands (head ++ entries_text bodies base es)) told
   pub last_is : last ≡ last_end base es
 
 -- a head and entries up to the one that ends at this LSN
 pub record IsFront (base place : ℕ) (front : List ℕ) : Type 0 where
   pub head : List ℕ
+  pub bodies : Bodies
   pub told : List Entry
   pub is_head : IsHead base head
   pub entries : AreEntries base told
+  pub written : AreWritten bodies head base told
   pub ends : last_end base told ≡ place
-  pub front_is : front ≡ head ++ entries_text base told
+  pub front_is : front ≡ head ++ entries_text bodies base told
 
 abbrev pub Begins : List ℕ → List ℕ → Type 0
 Begins front text = (rest : List ℕ) × (text ≡ front ++ rest)
@@ -92,22 +100,26 @@ pub record IsCut (text : List ℕ) (size : ℕ) (file : List ℕ) (outcomes : Li
 abbrev pub WritesBehind : ℕ → List ℕ → List ℕ → (List ℕ → Type 0) → (List ℕ → Type 0) → Type 0
 WritesBehind size old new before after = (n : ℕ) × Torn size n old new × Follows (Torn size n) before after
 
--- Another segment was opened at the LSN on a text that has what lasts up to it.
-pub record Reopens (base size : ℕ) (outcomes : List ℕ → Type 0) (place new_base new_last new_size : ℕ) (file : List ℕ)
-    (after : List ℕ → Type 0) : Type 0 where
+-- Another segment was opened at the LSN on a text that has what lasts up to it. It has told no
+-- definition.
+pub record Reopens (base size : ℕ) (outcomes : List ℕ → Type 0) (place new_base new_last new_size : ℕ) (new_told : List Told)
+    (file : List ℕ) (after : List ℕ → Type 0) : Type 0 where
   pub text : List ℕ
   pub has : HasWhatLasts base size outcomes place text
   pub base_is : new_base ≡ base
   pub last_is : new_last ≡ place
+  pub untold : new_told ≡ []
   pub found : IsFound base place text new_size
   pub cut : IsCut text new_size file after
 
 -- A segment that has ended: a head, these entries and the line that ends it, also after a crash.
 pub record IsFinished (base last : ℕ) (es : List Entry) (file : List ℕ) (outcomes : List ℕ → Type 0) : Type 0 where
   pub head : List ℕ
+  pub bodies : Bodies
   pub is_head : IsHead base head
-  pub file_is : file ≡ head ++ (entries_text base es ++ closing_line last)
+  pub file_is : file ≡ head ++ (entries_text bodies base es ++ closing_line last)
   pub entries : AreEntries base es
+  pub written : AreWritten bodies head base es
   pub last_is : last ≡ last_end base es
   pub synced : Only file outcomes
 

@@ -1,8 +1,9 @@
 -- The text of a feed: lines of JSON (RFC 8259) in UTF-8, each ended by a line feed. Cells are as in
 -- a dump. PostgreSQL documentation, Logical Replication Message Formats, Relation, Insert, Update,
 -- Delete, Truncate, Commit.
-use Rattle.std.specs.Prelude.{ℕ, suc, ◌-◌, ◌==◌, ◌&&◌, ℤ, pos, ◌+ℤ◌, List, [], ◌∷◌, ◌++◌, length}
-use Rattle.std.specs.Prelude.{map, replicate, Bool, false, Option, Some, None, if◌then◌else◌, codes}
+use Rattle.std.specs.Prelude.{ℕ, suc, ◌+◌, ◌-◌, ◌==◌, ◌&&◌, ℤ, pos, ◌+ℤ◌, List, [], ◌∷◌, ◌++◌}
+use Rattle.std.specs.Prelude.{length, map, replicate, Bool, false, Option}
+use Rattle.std.specs.Prelude.{Some, None, if◌then◌else◌, codes}
 use Rattle.std.specs.Prelude.{decimal}
 use Rattle.std.specs.Fmt.{signed_decimal}
 use Rattle.std.specs.Cmp.Lexicographic.{pointwise}
@@ -25,6 +26,7 @@ use Rattle.pgledger.specs.declared.image.Image.TheVariants.{Inserted, Updated, D
 use Rattle.pgledger.specs.declared.image.Image.TheVariants.{Missed}
 use Rattle.pgledger.specs.Images.{Line}
 use Rattle.pgledger.specs.Entries.{Entry}
+use Rattle.pgfeed.specs.declared.told.Told.{Told}
 use Rattle.pgjson.specs.Cells.{cells_data, list}
 use Rattle.pgjson.specs.Messages.{integer, letter_data, natural, prior_data}
 
@@ -43,7 +45,7 @@ commit_size = 256
 
 -- the LSN at which a segment begins
 abbrev pub segment_front : ℕ → List ℕ
-segment_front base = codes "{\"feed\":2,\"base\":\"" ++ (lsn_text base ++ codes "\",")
+segment_front base = codes "{\"feed\":3,\"base\":\"" ++ (lsn_text base ++ codes "\",")
 
 -- what it is a feed of: the system's identifier, the database and the slot
 abbrev pub segment_rest : List ℕ → List ℕ → List ℕ → List ℕ
@@ -137,15 +139,17 @@ abbrev pub row_data : Option (List Cell) → Data
 row_data None = null
 row_data (Some row) = cells_data row
 
--- which change it is, of which relation, and which one in its commit, counted from 0
-abbrev pub change_front : List ℕ → ℕ → ℕ → List ℕ
-change_front op oid n = codes "{\"op\":\""
-    ++ (op ++ (codes "\",\"oid\":" ++ (decimal oid ++ (codes ",\"n\":" ++ (decimal n ++ codes ",")))))
+-- Which change it is, of which relation, at which offset of the segment the line of its definition
+-- begins, and which one in its commit, counted from 0.
+abbrev pub change_front : List ℕ → ℕ → ℕ → ℕ → List ℕ
+change_front op oid at n = codes "{\"op\":\""
+    ++ (op ++ (codes "\",\"oid\":" ++ (decimal oid
+    ++ (codes ",\"at\":" ++ (decimal at ++ (codes ",\"n\":" ++ (decimal n ++ codes ",")))))))
 
 -- the row before the change and the row after it
-abbrev pub change_line : List ℕ → ℕ → ℕ → Option (List Cell) → Option (List Cell) → List ℕ
-change_line op oid n before after =
-    change_front op oid n ++ (codes "\"before\":"
+abbrev pub change_line : List ℕ → ℕ → ℕ → ℕ → Option (List Cell) → Option (List Cell) → List ℕ
+change_line op oid at n before after =
+    change_front op oid at n ++ (codes "\"before\":"
     ++ (compact_text (row_data before) ++ (codes ",\"after\":" ++ (compact_text (row_data after) ++ codes "}\n"))))
 
 -- an Update has a new tuple, a Delete hasn't
@@ -161,17 +165,17 @@ sent_rows old new = codes "\"old\":"
     ++ (compact_text (prior_data old) ++ (codes ",\"new\":" ++ (compact_text (row_data new) ++ codes "}\n")))
 
 -- what was sent for a change that found no row
-abbrev pub missed_line : ℕ → ℕ → Option (OldKind × List Cell) → Option (List Cell) → List ℕ
-missed_line oid n old new = change_front (codes "x") oid n ++ (sent_text new ++ sent_rows old new)
+abbrev pub missed_line : ℕ → ℕ → ℕ → Option (OldKind × List Cell) → Option (List Cell) → List ℕ
+missed_line oid at n old new = change_front (codes "x") oid at n ++ (sent_text new ++ sent_rows old new)
 
-abbrev pub image_line : ℕ → ℕ → Image → List ℕ
-image_line oid n (Inserted row) = change_line (codes "c") oid n None (Some row)
-image_line oid n (Updated old new) = change_line (codes "u") oid n (Some old) (Some new)
-image_line oid n (Deleted row) = change_line (codes "d") oid n (Some row) None
-image_line oid n Truncated = change_line (codes "t") oid n None None
-image_line oid n (Missed old new) = missed_line oid n old new
+abbrev pub image_line : ℕ → ℕ → ℕ → Image → List ℕ
+image_line oid at n (Inserted row) = change_line (codes "c") oid at n None (Some row)
+image_line oid at n (Updated old new) = change_line (codes "u") oid at n (Some old) (Some new)
+image_line oid at n (Deleted row) = change_line (codes "d") oid at n (Some row) None
+image_line oid at n Truncated = change_line (codes "t") oid at n None None
+image_line oid at n (Missed old new) = missed_line oid at n old new
 
--- ---- an entry
+-- ---- the lines of an entry
 
 abbrev pub same_column : Column → Column → Bool
 same_column a b = beq a.key b.key && (pointwise ◌==◌ a.name b.name && ((a.type_oid == b.type_oid) && int_eq a.modifier b.modifier))
@@ -181,35 +185,88 @@ same_definition a b =
     (a.oid == b.oid) && (pointwise ◌==◌ a.namespace b.namespace && (pointwise ◌==◌ a.name b.name
     && ((a.letter == b.letter) && pointwise same_column a.columns b.columns)))
 
--- whether a definition is told: of its relation's definitions in the commit so far, the newest
--- first, it is the newest
-abbrev pub is_told : List RelationDef → RelationDef → Bool
-is_told [] def = false
-is_told (other ∷ told) def = if other.oid == def.oid then same_definition other def else is_told told def
+-- Where a definition stands that a segment has: nothing is said of another relation's, and one of
+-- the same relation that differs stands nowhere.
+abbrev pub told_at : Told → RelationDef → Option (Option ℕ)
+told_at told def =
+    if told.definition.oid == def.oid then Some (if same_definition told.definition def then Some told.offset else None) else None
 
--- The lines of changes, where these definitions are told, the newest first, and so many changes:
--- before a change of a relation stands its definition, unless it is told.
-unfoldable pub body_text : List RelationDef → ℕ → List Line → List ℕ
-body_text told n [] = []
-body_text told n (line ∷ lines) =
-    if is_told told line.definition
-    then image_line line.definition.oid n line.image ++ body_text told (suc n) lines
-    else table_line line.definition ++ (image_line line.definition.oid n line.image ++ body_text (line.definition ∷ told) (suc n) lines)
+abbrev pub newer : Option (Option ℕ) → Option (Option ℕ) → Option (Option ℕ)
+newer (Some place) older = Some place
+newer None older = older
 
-abbrev pub entry_body : Entry → List ℕ
-entry_body e = body_text [] 0 e.lines
+-- of definitions that are told, the oldest first, the newest of the relation counts
+abbrev pub newest : List Told → RelationDef → Option (Option ℕ)
+newest [] def = None
+newest (told ∷ more) def = newer (newest more def) (told_at told def)
+
+abbrev pub if_there : Option (Option ℕ) → Option ℕ
+if_there (Some place) = place
+if_there None = None
+
+-- where a definition stands, if it is told
+abbrev pub place : List Told → RelationDef → Option ℕ
+place told def = if_there (newest told def)
+
+-- before a change stands its definition, unless it is told
+abbrev pub fresh_text : Option ℕ → RelationDef → List ℕ
+fresh_text (Some place) def = []
+fresh_text None def = table_line def
+
+-- the offset that a change names: where its definition is told, or where its own lines begin
+abbrev pub named : Option ℕ → ℕ → ℕ
+named (Some place) at = place
+named None at = at
+
+abbrev pub told_with : List Told → Option ℕ → RelationDef → ℕ → List Told
+told_with told (Some place) def at = told
+told_with told None def at = told ++ record { definition = def; offset = at } ∷ []
+
+abbrev pub line_of : RelationDef → Image → Line
+line_of def image = record { definition = def; image = image }
+
+-- the lines of a change that begin at an offset, where these definitions are told, and what is told
+-- then
+abbrev pub line_text : List Told → ℕ → ℕ → Line → List ℕ
+line_text told at n line =
+    fresh_text (place told line.definition) line.definition
+    ++ image_line line.definition.oid (named (place told line.definition) at) n line.image
+
+abbrev pub line_told : List Told → ℕ → Line → List Told
+line_told told at line = told_with told (place told line.definition) line.definition at
+
+-- The lines of changes that begin at an offset, where these definitions are told, and so many
+-- changes.
+unfoldable pub body_text : List Told → ℕ → ℕ → List Line → List ℕ
+body_text told at n [] = []
+body_text told at n (line ∷ lines) =
+    line_text told at n line ++ body_text (line_told told at line) (at + length (line_text told at n line)) (suc n) lines
+
+-- what is told behind them
+unfoldable pub told_after : List Told → ℕ → ℕ → List Line → List Told
+told_after told at n [] = told
+told_after told at n (line ∷ lines) =
+    told_after (line_told told at line) (at + length (line_text told at n line)) (suc n) lines
+
+-- ---- an entry, with these lines
 
 -- The CRC-32 of an entry behind the commit that ends at this LSN: of its line up to the checksum,
 -- and then of all lines that follow. RFC 1952, section 8.
-unfoldable pub entry_crc : ℕ → Entry → ℕ
-entry_crc prev e = crc32 (commit_told e.end prev (length (entry_body e)) (length e.lines) e.about ++ entry_body e)
+unfoldable pub entry_crc : ℕ → Entry → List ℕ → ℕ
+entry_crc prev e body = crc32 (commit_told e.end prev (length body) (length e.lines) e.about ++ body)
 
--- behind the commit that ends at this LSN
-unfoldable pub entry_text : ℕ → Entry → List ℕ
-entry_text prev e =
-    commit_line e.end prev (length (entry_body e)) (length e.lines) e.about (entry_crc prev e) ++ entry_body e
+-- its line, behind the commit that ends at this LSN
+abbrev pub entry_line : ℕ → Entry → List ℕ → List ℕ
+entry_line prev e body = commit_line e.end prev (length body) (length e.lines) e.about (entry_crc prev e body)
+
+unfoldable pub entry_text : ℕ → Entry → List ℕ → List ℕ
+entry_text prev e body = entry_line prev e body ++ body
+
+-- which lines a commit has, by where it ends
+abbrev pub Bodies : Type 0
+Bodies = ℕ → List ℕ
 
 -- entries one after the other
-unfoldable pub entries_text : ℕ → List Entry → List ℕ
-entries_text at [] = []
-entries_text at (e ∷ es) = entry_text at e ++ entries_text e.end es
+unfoldable pub entries_text : Bodies → ℕ → List Entry → List ℕ
+entries_text bodies at [] = []
+entries_text bodies at (e ∷ es) = entry_text at e (bodies e.end) ++ entries_text bodies e.end es

@@ -58,28 +58,41 @@ fn push_prior(
     }
 }
 
+/// Which change it is: of which relation, where in the segment its definition stands, and its
+/// number in the commit.
+#[derive(Clone, Copy)]
+pub(crate) struct Which {
+    pub(crate) oid: u32,
+    pub(crate) at: usize,
+    pub(crate) n: usize,
+}
+
 /// Appends how the line of a change begins.
-fn push_front(op: &str, oid: u32, n: usize, out: &mut String) -> Result<(), AllocError>
+fn push_front(op: &str, which: Which, out: &mut String) -> Result<(), AllocError>
     ensures { OnOk result (string_bytes out.new
-        ≡ string_bytes out.old ++ change_front op.now oid n) }
+        ≡ string_bytes out.old ++ change_front op.now which.oid which.at which.n) }
 {
-    write!(out, "{{\"op\":\"{op}\",\"oid\":{oid},\"n\":{n},")
+    let Which { oid, at, n } = which;
+    write!(
+        out,
+        "{{\"op\":\"{op}\",\"oid\":{oid},\"at\":{at},\"n\":{n},"
+    )
 }
 
 /// Appends the line of a change of a row, which was as `before` and is as `after`.
 fn push_change(
     alloc: Global,
     op: &str,
-    oid: u32,
-    n: usize,
+    which: Which,
     before: &Option<TupleRef<'_>>,
     after: &Option<TupleRef<'_>>,
     out: &mut String,
 ) -> Result<(), AllocError>
     ensures { OnOk result (string_bytes out.new
-        ≡ string_bytes out.old ++ change_line op.now oid n before.now after.now) }
+        ≡ string_bytes out.old ++ change_line op.now which.oid which.at which.n before.now
+        after.now) }
 {
-    push_front(op, oid, n, out)?;
+    push_front(op, which, out)?;
     out.push_str("\"before\":")?;
     push_row_or_null(alloc, before, out)?;
     out.push_str(",\"after\":")?;
@@ -125,49 +138,46 @@ fn push_sent_rows(
 /// Appends the line of a change that found no row.
 fn push_missed(
     alloc: Global,
-    oid: u32,
-    n: usize,
+    which: Which,
     old: &Option<(OldKind, TupleRef<'_>)>,
     new: &Option<TupleRef<'_>>,
     out: &mut String,
 ) -> Result<(), AllocError>
     ensures { OnOk result (string_bytes out.new
-        ≡ string_bytes out.old ++ missed_line oid n old.now new.now) }
+        ≡ string_bytes out.old ++ missed_line which.oid which.at which.n old.now new.now) }
 {
-    push_front("x", oid, n, out)?;
+    push_front("x", which, out)?;
     push_sent(new, out)?;
     push_sent_rows(alloc, old, new, out)
 }
 
-/// Appends the line of a change, which is number `n` of its commit.
+/// Appends the line of a change.
 pub(crate) fn push_image(
     alloc: Global,
-    oid: u32,
-    n: usize,
+    which: Which,
     image: &Image<'_>,
     out: &mut String,
 ) -> Result<(), AllocError>
     ensures { OnOk result (string_bytes out.new
-        ≡ string_bytes out.old ++ image_line oid n image.now) }
+        ≡ string_bytes out.old ++ image_line which.oid which.at which.n image.now) }
 {
     match image {
         Image::Inserted { row } => push_change(
             alloc,
             "c",
-            oid,
-            n,
+            which,
             &None,
             &Some(row.reborrow()),
             out,
         ),
         Image::Updated { old, new } => {
             let (before, after) = (Some(old.borrowed()), Some(new.borrowed()));
-            push_change(alloc, "u", oid, n, &before, &after, out)
+            push_change(alloc, "u", which, &before, &after, out)
         }
         Image::Deleted { row } => {
-            push_change(alloc, "d", oid, n, &Some(row.borrowed()), &None, out)
+            push_change(alloc, "d", which, &Some(row.borrowed()), &None, out)
         }
-        Image::Truncated => push_change(alloc, "t", oid, n, &None, &None, out),
-        Image::Missed { old, new } => push_missed(alloc, oid, n, old, new, out),
+        Image::Truncated => push_change(alloc, "t", which, &None, &None, out),
+        Image::Missed { old, new } => push_missed(alloc, which, old, new, out),
     }
 }

@@ -1,17 +1,19 @@
 //! The text of an entry.
 
-ghost use Rattle.std.specs.Prelude.{◌≡◌, ◌++◌, IfOk, OnOk, [], Some, slice_get, string_bytes};
+ghost use Rattle.std.specs.Prelude.{◌≡◌, ◌++◌, ◌+◌, IfOk, OnOk, Some, slice_get, string_bytes};
 ghost use Rattle.std.specs.List.{AllByRecursion};
 ghost use Rattle.pgcrc.specs.Crc.{crc32};
 ghost use Rattle.pgapply.specs.Works.{IsNumbered, change_values};
 ghost use Rattle.pgledger.specs.Entries.{entry_of};
 ghost use Rattle.pgledger.specs.Images.{lines};
 ghost use Rattle.pgfeed.specs.Fits.{FitsEntry};
-ghost use Rattle.pgfeed.specs.Texts.{body_text, entry_text};
+ghost use Rattle.pgfeed.specs.Texts.{body_text, entry_text, fresh_text, line_of, line_text};
+ghost use Rattle.pgfeed.specs.Texts.{line_told, named, place, told_after, told_with};
 
-use crate::changes::push_image;
-use crate::heads::{commit_line, commit_told};
-use crate::tables::{is_told, push_table};
+use crate::changes::{Which, push_image};
+use crate::heads::{COMMIT_SIZE, commit_line, commit_told};
+use crate::tables::push_table;
+use crate::told::{Told, place};
 use pgapply::{ChangeRefs, Commit, Op};
 use pgcrc::Crc32;
 use pgledger::Image;
@@ -27,28 +29,91 @@ fn defined<'d>(definitions: &'d [RelationDef], entry: &(usize, Op<'_>)) -> &'d R
     &definitions[entry.0]
 }
 
-/// The lines of a commit's changes, with the definitions of their relations.
+/// The text of a commit, or the lines that it will have, and the definitions that they tell.
+#[derive(Drop)]
+pub(crate) struct Piece {
+    pub(crate) text: String,
+    pub(crate) told: Vec<Told>,
+}
+
+/// The offset at which the definition of a change stands. One that isn't told is appended, at this
+/// offset of the segment.
+fn tell(
+    alloc: Global,
+    told: &[Told],
+    at: usize,
+    def: &RelationDef,
+    piece: &mut Piece,
+) -> Result<usize, AllocError>
+    ensures named { IfOk result (λ it. it ≡ named (place (told.now ++ piece.old.told.items)
+        def.now) at) }
+    ensures text { OnOk result (string_bytes piece.new.text ≡ string_bytes piece.old.text
+        ++ fresh_text (place (told.now ++ piece.old.told.items) def.now) def.now) }
+    ensures told { OnOk result (told.now ++ piece.new.told.items
+        ≡ told_with (told.now ++ piece.old.told.items)
+        (place (told.now ++ piece.old.told.items) def.now) def.now at) }
+{
+    if let Some(place) = place(told, &piece.told, def) {
+        return Ok(place);
+    }
+    push_table(alloc, def, &mut piece.text)?;
+    piece.told.push(Told::of(alloc, def, at)?)?;
+    Ok(at)
+}
+
+/// Appends the lines of a change, which begin at this offset of the segment: the definition of its
+/// relation, where that isn't told, and then its own.
+fn push_line(
+    alloc: Global,
+    told: &[Told],
+    at: usize,
+    n: usize,
+    def: &RelationDef,
+    image: &Image<'_>,
+    piece: &mut Piece,
+) -> Result<(), AllocError>
+    ensures text { OnOk result (string_bytes piece.new.text ≡ string_bytes piece.old.text
+        ++ line_text (told.now ++ piece.old.told.items) at n (line_of def.now image.now)) }
+    ensures told { OnOk result (told.now ++ piece.new.told.items
+        ≡ line_told (told.now ++ piece.old.told.items) at (line_of def.now image.now)) }
+{
+    let at = tell(alloc, told, at, def, piece)?;
+    let which = Which {
+        oid: def.oid,
+        at,
+        n,
+    };
+    push_image(alloc, which, image, &mut piece.text)
+}
+
+/// The lines of a commit's changes, which begin at this offset of the segment, with the definitions
+/// that aren't told there.
 fn body(
     alloc: Global,
+    told: &[Told],
+    start: usize,
     definitions: &[RelationDef],
     entries: &ChangeRefs<'_, '_>,
     images: &[Image<'_>],
-) -> Result<String, AllocError>
+) -> Result<Piece, AllocError>
     requires { AllByRecursion (IsNumbered definitions.now) entries.now }
-    ensures { IfOk result (λ text. string_bytes text
-        ≡ body_text [] 0 (lines (change_values definitions.now entries.now) images.now)) }
+    ensures text { IfOk result (λ piece. string_bytes piece.text ≡ body_text told.now start 0
+        (lines (change_values definitions.now entries.now) images.now)) }
+    ensures told { IfOk result (λ piece. told.now ++ piece.told.items ≡ told_after told.now start 0
+        (lines (change_values definitions.now entries.now) images.now)) }
 {
-    let mut text = String::new(alloc);
-    let mut told = Vec::new(alloc);
+    let mut piece = Piece {
+        text: String::new(alloc),
+        told: Vec::new(alloc),
+    };
     for (n, (entry, image)) in entries.reborrow().zip(images).enumerate() {
         let def = defined(definitions, &entry);
-        if !is_told(&told, def) {
-            push_table(alloc, def, &mut text)?;
-            told.push(def)?;
-        }
-        push_image(alloc, def.oid, n, image, &mut text)?;
+        let Some(at) = start.checked_add(piece.text.len()) else {
+            return Err(AllocError);
+        };
+        push_line(alloc, told, at, n, def, image, &mut piece)?;
     }
-    Ok(text)
+    Ok(piece)
 }
 
 /// The CRC-32 of two texts, one after the other.
@@ -61,27 +126,40 @@ fn crc_of(front: &str, rest: &str) -> u32
     crc.value()
 }
 
-/// The text of an entry after the commit that ends at `prev`: the line of the commit, with the
-/// CRC-32 of what it tells and of all that follows, and then a line for each change, with the
-/// definitions of their relations.
-pub fn entry_text(
+/// The text of an entry after the commit that ends at `prev`, in a segment that has so many bytes
+/// and these definitions: the line of the commit, with the CRC-32 of what it tells and of all that
+/// follows, and then a line for each change, with the definitions of relations that aren't told.
+pub(crate) fn entry_text(
     alloc: Global,
+    told: &[Told],
+    size: usize,
     prev: Lsn,
     commit: &Commit<'_, '_>,
     images: &[Image<'_>],
-) -> Result<String, AllocError>
-    ensures text { IfOk result (λ text. string_bytes text ≡ entry_text prev (entry_of
-        commit.now.end commit.now.about commit.now.work.now.changes images.now)) }
-    ensures fits { OnOk result (FitsEntry prev (entry_of commit.now.end commit.now.about
-        commit.now.work.now.changes images.now)) }
+) -> Result<Piece, AllocError>
+    ensures text { IfOk result (λ piece. string_bytes piece.text ≡ entry_text prev
+        (entry_of commit.now.end commit.now.about commit.now.work.now.changes images.now)
+        (body_text told.now (size + 256) 0 (lines commit.now.work.now.changes images.now))) }
+    ensures told { IfOk result (λ piece. told.now ++ piece.told.items ≡ told_after told.now
+        (size + 256) 0 (lines commit.now.work.now.changes images.now)) }
+    ensures fits { OnOk result (FitsEntry prev
+        (entry_of commit.now.end commit.now.about commit.now.work.now.changes images.now)
+        (body_text told.now (size + 256) 0 (lines commit.now.work.now.changes images.now))) }
 {
+    let Some(start) = size.checked_add(COMMIT_SIZE) else {
+        return Err(AllocError);
+    };
     let definitions = commit.work.definitions();
     let entries = commit.work.entries();
     let count = entries.len().min(images.len());
-    let body = body(alloc, definitions, &entries, images)?;
-    let told = commit_told(alloc, commit.end, prev, body.len(), count, commit.about)?;
-    let crc = crc_of(told.as_str(), body.as_str());
-    let mut text = commit_line(alloc, told, crc)?;
-    text.push_str(body.as_str())?;
-    Ok(text)
+    let body = body(alloc, told, start, definitions, &entries, images)?;
+    let lines = body.text.as_str();
+    let front = commit_told(alloc, commit.end, prev, lines.len(), count, commit.about)?;
+    let crc = crc_of(front.as_str(), lines);
+    let mut text = commit_line(alloc, front, crc)?;
+    text.push_str(lines)?;
+    Ok(Piece {
+        text,
+        told: body.told,
+    })
 }

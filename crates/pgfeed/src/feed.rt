@@ -1,7 +1,7 @@
 //! A feed: segments that follow each other.
 
 ghost use Rattle.std.specs.Prelude.{◌≡◌, ◌<◌, ◌≤◌, ◌⊎◌, ◌↔◌, [], true, false, None};
-ghost use Rattle.std.specs.Prelude.{IsTrue, OnOk, OnErr, IfErr, length};
+ghost use Rattle.std.specs.Prelude.{IsTrue, IfOk, OnOk, OnErr, IfErr, length};
 ghost use Rattle.pgapply.specs.Stored.{IsOwnFault};
 ghost use Rattle.pgledger.specs.Entries.{entry_of};
 ghost use Rattle.pgledger.specs.Ledgers.{Appends, AppendsAtMost, Keeps, Rests, Syncs};
@@ -10,8 +10,9 @@ ghost use Rattle.pgfeed.specs.Beside.{KeepsRest, LastsFrom};
 ghost use Rattle.pgfeed.specs.Feeds.{MayEnd, MayGoOver, ReopensAt, TakesAllBack};
 ghost use Rattle.pgfeed.specs.Feeds.{IsTimed, StaysTimed, first_time};
 ghost use Rattle.pgfeed.specs.Naming.{head_of};
-ghost use Rattle.pgfeed.specs.Texts.{entry_text};
+ghost use Rattle.pgfeed.specs.Next.{IsNext, next_text};
 
+use crate::entries::Piece;
 use crate::fault::FeedFault;
 use crate::folder::{Folder, Names, SegmentLimits};
 use crate::segment::Segment;
@@ -226,8 +227,8 @@ impl<F: Folder + Drop> Feed<F> {
     }
 
     /// Goes on to the next segment where the open one ends before a commit whose text has so many
-    /// bytes.
-    fn make_room(&mut self, about: Option<About>, bytes: usize) -> Result<(), StoreFault>
+    /// bytes. Whether the segment is the same as before.
+    fn make_room(&mut self, about: Option<About>, bytes: usize) -> Result<bool, StoreFault>
         requires { self.old.segment.is_stuck ≡ false }
         ensures goes { Goes F.File.seen F.File.may_leave F.File.is_clean F.is_true
             F.places F.has self.old self.new }
@@ -244,6 +245,7 @@ impl<F: Folder + Drop> Feed<F> {
             ⊎ MayGoOver MOST_ENDED self.old.synced self.old.ended.items self.old.segment) }
         ensures let_go { OnOk result (self.old.synced ≡ self.old.segment.last →
             length self.new.ended.items ≤ 1) }
+        ensures same { IfOk result (λ it. IsTrue it → self.new.segment ≡ self.old.segment) }
         ensures last { self.new.segment.last ≡ self.old.segment.last }
         ensures free { OnOk result (self.new.segment.is_stuck ≡ false) }
         ensures first { OnOk result (StaysTimed self.old.first self.new.first self.old.segment
@@ -256,9 +258,31 @@ impl<F: Folder + Drop> Feed<F> {
     {
         self.let_settled_go();
         if self.ends_before(about, bytes) {
-            return self.begin_next();
+            self.begin_next()?;
+            return Ok(false);
         }
-        Ok(())
+        Ok(true)
+    }
+
+    /// The text of a commit in the open segment: this one, if it is of that, or another.
+    fn text(
+        &self,
+        commit: &Commit<'_, '_>,
+        images: &[Image<'_>],
+        piece: Piece,
+        is_next: bool,
+    ) -> Result<Piece, StoreFault>
+        requires { IsTrue is_next → IsNext self.now.segment (entry_of commit.now.end
+            commit.now.about commit.now.work.now.changes images.now) piece }
+        ensures next { IfOk result (IsNext self.now.segment (entry_of commit.now.end
+            commit.now.about commit.now.work.now.changes images.now)) }
+        ensures fault { IfErr result IsOwnFault }
+    {
+        if is_next {
+            Ok(piece)
+        } else {
+            self.segment.text(commit, images)
+        }
     }
 
     /// Writes the text of a commit after the last one, or into the next segment.
@@ -278,11 +302,11 @@ impl<F: Folder + Drop> Feed<F> {
             self.old.ended.items self.new.ended.items self.old.segment self.new.segment }
         ensures over { (self.new.segment.base ≡ self.old.segment.base) ⊎
             IsOver self.old.limits.bytes self.old.limits.micros self.old.first self.old.segment
-            commit.now.about (length (entry_text self.old.segment.last (entry_of commit.now.end
+            commit.now.about (length (next_text self.old.segment (entry_of commit.now.end
             commit.now.about commit.now.work.now.changes images.now))) }
         ensures next { OnOk result (IsOver self.old.limits.bytes self.old.limits.micros
-            self.old.first self.old.segment commit.now.about (length (entry_text
-            self.old.segment.last (entry_of commit.now.end commit.now.about
+            self.old.first self.old.segment commit.now.about (length (next_text
+            self.old.segment (entry_of commit.now.end commit.now.about
             commit.now.work.now.changes images.now))) →
             (self.new.segment.base ≡ self.old.segment.last)
             ⊎ MayGoOver MOST_ENDED self.old.synced self.old.ended.items self.old.segment) }
@@ -294,9 +318,11 @@ impl<F: Folder + Drop> Feed<F> {
         ensures names { self.new.names ≡ self.old.names }
         ensures fault { IfErr result IsOwnFault }
     {
-        let text = self.segment.text(commit, images)?;
-        self.make_room(commit.about, text.len())?;
-        self.segment.put(commit.end, text.as_str())?;
+        let piece = self.segment.text(commit, images)?;
+        let is_same = self.make_room(commit.about, piece.text.len())?;
+        // the next segment has told nothing yet
+        let piece = self.text(commit, images, piece, is_same)?;
+        self.segment.put(commit.end, piece)?;
         self.first = first_time(self.first, commit.about);
         Ok(())
     }
@@ -343,11 +369,11 @@ impl<F: Folder + Drop> Ledger for Feed<F> {
             self.old.ended.items self.new.ended.items self.old.segment self.new.segment }
         ensures over { (self.new.segment.base ≡ self.old.segment.base) ⊎
             IsOver self.old.limits.bytes self.old.limits.micros self.old.first self.old.segment
-            commit.now.about (length (entry_text self.old.segment.last (entry_of commit.now.end
+            commit.now.about (length (next_text self.old.segment (entry_of commit.now.end
             commit.now.about commit.now.work.now.changes images.now))) }
         ensures next { OnOk result (IsOver self.old.limits.bytes self.old.limits.micros
-            self.old.first self.old.segment commit.now.about (length (entry_text
-            self.old.segment.last (entry_of commit.now.end commit.now.about
+            self.old.first self.old.segment commit.now.about (length (next_text
+            self.old.segment (entry_of commit.now.end commit.now.about
             commit.now.work.now.changes images.now))) →
             (self.new.segment.base ≡ self.old.segment.last)
             ⊎ MayGoOver MOST_ENDED self.old.synced self.old.ended.items self.old.segment) }

@@ -3,7 +3,8 @@
 ghost use Rattle.std.specs.Prelude.{◌≡◌, ◌<◌, ◌^◌, ◌++◌, ℕ, List, Option, length};
 ghost use Rattle.pgapply.specs.declared.commit.About.{About};
 ghost use Rattle.pgfeed.specs.Fits.{FitsLine};
-ghost use Rattle.pgfeed.specs.Reading.{BeginsWith, EntriesHaveTheirCrc, LinesLeadOver};
+ghost use Rattle.pgfeed.specs.Reading.{BeginsWith, ChangesNameDefinitions};
+ghost use Rattle.pgfeed.specs.Reading.{EntriesHaveTheirCrc, LinesLeadOver};
 ghost use Rattle.pgfeed.specs.Reading.{TextIsReadInOneWay};
 ghost use Rattle.pgfeed.specs.Texts.{closing_line, commit_line};
 ghost use Rattle.pgfeed.specs.declared.mark.Mark.{Mark};
@@ -37,6 +38,12 @@ pub fn lines_lead_over_entries()
 /// CRC-32 of what stands before that, and of the lines that follow.
 pub fn entries_have_their_crc()
     ensures { EntriesHaveTheirCrc }
+{}
+
+/// Each change of a commit names the offset in the segment at which its definition stands: before
+/// the commit, or in its lines. So who has the segment reads each commit alone.
+pub fn changes_name_definitions()
+    ensures { ChangesNameDefinitions }
 {}
 
 /// A text is read in one way up to an LSN: its commits have these ends and lengths, and no others.

@@ -5,13 +5,14 @@
 //! bytes, the line of each commit 256, padded by blanks; that line tells how many bytes follow, so
 //! a reader goes from commit to commit without reading more, and a CRC-32 of what stands before it
 //! and of these bytes. A line with the definition of a relation comes before its first change in a
-//! commit, and again where the definition changes. So a commit can be read alone.
+//! segment, and again where the definition changes, or the segment was opened anew. Each change
+//! names the offset of that line, so that a commit can be read alone.
 //!
 //! ```text
-//! {"feed":2,"base":"0/100","system":"7231","database":"shop","slot":"copy"}
-//! {"end":"0/200","prev":"0/100","bytes":198,"changes":1,"lsn":"0/1D8","xid":739,"ts_us":16996848..
+//! {"feed":3,"base":"0/100","system":"7231","database":"shop","slot":"copy"}
+//! {"end":"0/200","prev":"0/100","bytes":208,"changes":1,"lsn":"0/1D8","xid":739,"ts_us":16996848..
 //! {"op":"table","oid":16384,"schema":"public","table":"stock","identity":"d","key":["sku"],"colum..
-//! {"op":"c","oid":16384,"n":0,"before":null,"after":["A-1","5"]}
+//! {"op":"c","oid":16384,"at":1280,"n":0,"before":null,"after":["A-1","5"]}
 //! ```
 //!
 //! A segment that has ended has one line more, also of 256 bytes, that tells where its last commit
@@ -45,16 +46,16 @@ mod opening;
 mod segment;
 mod segments;
 mod tables;
+mod told;
 mod values;
 
-pub use entries::entry_text;
 pub use fault::FeedFault;
 pub use feed::{Feed, MOST_ENDED};
 pub use folder::{Folder, Origin, SegmentLimits};
 pub use laws::{
-    entries_have_their_crc, feeds_lead_to_their_store, feeds_outlast_crashes,
-    lines_lead_over_entries, lines_of_commits_fit, lines_tell_whole_rows, lines_that_end_segments,
-    text_is_read_in_one_way,
+    changes_name_definitions, entries_have_their_crc, feeds_lead_to_their_store,
+    feeds_outlast_crashes, lines_lead_over_entries, lines_of_commits_fit, lines_tell_whole_rows,
+    lines_that_end_segments, text_is_read_in_one_way,
 };
 pub use mark::Mark;
 pub use segment::Segment;

@@ -274,7 +274,8 @@ impl<D: Disk + Drop> Segment<D> {
         slot: &str,
     ) -> Result<Segment<D>, FeedFault>
         requires { IsTrue (D.is_usable disk) }
-        ensures keeps { IfOk result (λ s. KeepsEntries s.base s.last s.size (D.seen s.disk) []) }
+        ensures keeps { IfOk result (λ s. KeepsEntries s.base s.last s.size s.told.items
+            (D.seen s.disk) []) }
         ensures lasts { IfOk result (λ s. Lasts s.base s.size (D.may_leave s.disk) base) }
         ensures told { IfOk result (λ s. D.seen s.disk
             ≡ segment_head base system.now database.now slot.now) }
@@ -310,7 +311,8 @@ impl<D: Disk + Drop> Segment<D> {
         ensures reopens { IfOk result (λ s. IsTrue (D.is_clean s.disk) → (old : Self D) →
             old.base ≡ base → D.may_leave old.disk (D.seen disk) →
             Reopens old.base old.size (D.may_leave old.disk) position s.base s.last s.size
-            (D.seen s.disk) (D.may_leave s.disk)) }
+            s.told.items (D.seen s.disk) (D.may_leave s.disk)) }
+        ensures untold { IfOk result (λ s. s.told.items ≡ []) }
         ensures begins { IfOk result (λ s. (s.base ≡ base) × (s.last ≡ position)
             × (s.is_stuck ≡ false)) }
         ensures within { OnOk result (base ≤ position) }

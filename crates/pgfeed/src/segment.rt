@@ -1,17 +1,18 @@
 //! A segment of a feed in a file.
 
-ghost use Rattle.std.specs.Prelude.{◌≡◌, ◌<◌, ◌+◌, ℕ, List, length, false, true, string_bytes};
+ghost use Rattle.std.specs.Prelude.{◌≡◌, ◌<◌, ◌+◌, ◌++◌, ℕ, List, [], length, false, true};
+ghost use Rattle.std.specs.Prelude.{string_bytes};
 ghost use Rattle.std.specs.Prelude.{IsTrue, IfOk, OnOk, OnErr, IfErr};
 ghost use Rattle.pgapply.specs.Stored.{IsOwnFault};
 ghost use Rattle.pgapply.specs.declared.fault.StoreFault.TheVariants.{Refused};
 ghost use Rattle.pgledger.specs.Entries.{Entry, entry_of};
 ghost use Rattle.sqlite_disk.specs.Disk.{Holds, Only};
-ghost use Rattle.pgfeed.specs.Fits.{FitsEntry};
 ghost use Rattle.pgfeed.specs.Segments.{IsFinished, KeepsEntries, Lasts, WritesBehind};
-ghost use Rattle.pgfeed.specs.Texts.{entry_text};
+ghost use Rattle.pgfeed.specs.Next.{FitsNext, IsNext, Remembers, next_text, next_told};
 
-use crate::entries::entry_text;
+use crate::entries::{Piece, entry_text};
 use crate::heads::closing_line;
+use crate::told::{Told, remember};
 use pgapply::{Commit, StoreFault};
 use pgledger::{Image, Ledger};
 use pglsn::Lsn;
@@ -22,6 +23,9 @@ use std::alloc::Global;
 ///
 /// A write that fails may leave a rest after the commits. It is truncated where the segment is
 /// opened again, at the position of the store.
+///
+/// It remembers which definitions it told since it was made or opened, up to 1,024, and at which
+/// offset of the file each stands, so that the changes of later commits name that.
 #[derive(Drop)]
 pub struct Segment<D: Disk + Drop> {
     alloc: Global,
@@ -29,6 +33,7 @@ pub struct Segment<D: Disk + Drop> {
     base: Lsn,
     last: Lsn,
     size: usize,
+    told: Vec<Told>,
     is_stuck: bool,
 }
 
@@ -53,6 +58,7 @@ impl<D: Disk + Drop> Segment<D> {
         ensures base { result.base ≡ base }
         ensures last { result.last ≡ last }
         ensures size { result.size ≡ size }
+        ensures untold { result.told.items ≡ [] }
         ensures free { result.is_stuck ≡ false }
     {
         Segment {
@@ -61,6 +67,7 @@ impl<D: Disk + Drop> Segment<D> {
             base,
             last,
             size,
+            told: Vec::new(alloc),
             is_stuck: false,
         }
     }
@@ -100,7 +107,7 @@ impl<D: Disk + Drop> Segment<D> {
         self.disk
     }
 
-    /// The text of a commit after the last one.
+    /// The text of a commit after the last one, and the definitions that it tells.
     ///
     /// # Errors
     ///
@@ -109,28 +116,30 @@ impl<D: Disk + Drop> Segment<D> {
         &self,
         commit: &Commit<'_, '_>,
         images: &[Image<'_>],
-    ) -> Result<String, StoreFault>
-        ensures above { OnOk result (self.now.last < commit.now.end) }
-        ensures fits { OnOk result (FitsEntry self.now.last (entry_of commit.now.end
-            commit.now.about commit.now.work.now.changes images.now)) }
-        ensures text { IfOk result (λ text. string_bytes text ≡ entry_text self.now.last
-            (entry_of commit.now.end commit.now.about commit.now.work.now.changes images.now)) }
+    ) -> Result<Piece, StoreFault>
+        ensures next { IfOk result (IsNext self.now (entry_of commit.now.end commit.now.about
+            commit.now.work.now.changes images.now)) }
         ensures fault { IfErr result IsOwnFault }
     {
         if commit.end <= self.last {
             return Err(StoreFault::Refused);
         }
-        Ok(entry_text(self.alloc, self.last, commit, images)?)
+        let told = self.told.as_slice();
+        Ok(entry_text(self.alloc, told, self.size, self.last, commit, images)?)
     }
 
     /// Writes the text of a commit, which ends there, after the last one.
-    pub(crate) fn put(&mut self, end: Lsn, text: &str) -> Result<(), StoreFault>
-        ensures written { OnOk result (0 < length text.now →
-            Holds (D.seen self.new.disk) self.old.size text.now) }
-        ensures size { OnOk result (self.new.size ≡ self.old.size + length text.now) }
+    pub(crate) fn put(&mut self, end: Lsn, piece: Piece) -> Result<(), StoreFault>
+        ensures written { OnOk result (0 < length (string_bytes piece.text) →
+            Holds (D.seen self.new.disk) self.old.size (string_bytes piece.text)) }
+        ensures size { OnOk result
+            (self.new.size ≡ self.old.size + length (string_bytes piece.text)) }
+        ensures told { OnOk result (Remembers (self.old.told.items ++ piece.told.items)
+            self.new.told.items) }
         ensures last { OnOk result (self.new.last ≡ end) }
         ensures undone { OnErr result ((self.new.size ≡ self.old.size)
             × (self.new.last ≡ self.old.last)) }
+        ensures untold { OnErr result (self.new.told.items ≡ self.old.told.items) }
         ensures behind { WritesBehind self.old.size (D.seen self.old.disk) (D.seen self.new.disk)
             (D.may_leave self.old.disk) (D.may_leave self.new.disk) }
         ensures base { self.new.base ≡ self.old.base }
@@ -138,6 +147,7 @@ impl<D: Disk + Drop> Segment<D> {
         ensures clean { IsTrue (D.is_clean self.new.disk) → IsTrue (D.is_clean self.old.disk) }
         ensures fault { IfErr result (λ fault. fault ≡ Refused) }
     {
+        let Piece { text, told } = piece;
         if !self.disk.may_be_used() {
             return Err(StoreFault::Refused);
         }
@@ -145,6 +155,9 @@ impl<D: Disk + Drop> Segment<D> {
             return Err(StoreFault::Refused);
         };
         let Ok(()) = self.disk.write_at(self.size, text.as_bytes()) else {
+            return Err(StoreFault::Refused);
+        };
+        let Ok(()) = remember(&mut self.told, told) else {
             return Err(StoreFault::Refused);
         };
         self.size = size;
@@ -155,25 +168,28 @@ impl<D: Disk + Drop> Segment<D> {
     /// Writes the text of a commit after the last one.
     fn write(&mut self, commit: &Commit<'_, '_>, images: &[Image<'_>]) -> Result<(), StoreFault>
         ensures above { OnOk result (self.old.last < commit.now.end) }
-        ensures fits { OnOk result (FitsEntry self.old.last (entry_of commit.now.end
+        ensures fits { OnOk result (FitsNext self.old (entry_of commit.now.end
             commit.now.about commit.now.work.now.changes images.now)) }
-        ensures text { OnOk result (Holds (D.seen self.new.disk) self.old.size (entry_text
-            self.old.last (entry_of commit.now.end commit.now.about
+        ensures text { OnOk result (Holds (D.seen self.new.disk) self.old.size (next_text
+            self.old (entry_of commit.now.end commit.now.about
             commit.now.work.now.changes images.now))) }
-        ensures size { OnOk result (self.new.size ≡ self.old.size + length (entry_text
-            self.old.last (entry_of commit.now.end commit.now.about
+        ensures size { OnOk result (self.new.size ≡ self.old.size + length (next_text
+            self.old (entry_of commit.now.end commit.now.about
             commit.now.work.now.changes images.now))) }
+        ensures told { OnOk result (Remembers (next_told self.old (entry_of commit.now.end
+            commit.now.about commit.now.work.now.changes images.now)) self.new.told.items) }
         ensures last { OnOk result (self.new.last ≡ commit.now.end) }
         ensures undone { OnErr result ((self.new.size ≡ self.old.size)
             × (self.new.last ≡ self.old.last)) }
+        ensures untold { OnErr result (self.new.told.items ≡ self.old.told.items) }
         ensures behind { WritesBehind self.old.size (D.seen self.old.disk) (D.seen self.new.disk)
             (D.may_leave self.old.disk) (D.may_leave self.new.disk) }
         ensures base { self.new.base ≡ self.old.base }
         ensures stuck { self.new.is_stuck ≡ self.old.is_stuck }
         ensures fault { IfErr result IsOwnFault }
     {
-        let text = self.text(commit, images)?;
-        self.put(commit.end, text.as_str())
+        let piece = self.text(commit, images)?;
+        self.put(commit.end, piece)
     }
 
     /// Makes all that was written outlast a crash.
@@ -184,6 +200,7 @@ impl<D: Disk + Drop> Segment<D> {
         ensures base { self.new.base ≡ self.old.base }
         ensures last { self.new.last ≡ self.old.last }
         ensures size { self.new.size ≡ self.old.size }
+        ensures told { self.new.told.items ≡ self.old.told.items }
         ensures was_free { OnOk result (self.old.is_stuck ≡ false) }
         ensures free { OnOk result (self.new.is_stuck ≡ false) }
         ensures stuck { OnErr result (self.new.is_stuck ≡ true) }
@@ -217,7 +234,8 @@ impl<D: Disk + Drop> Segment<D> {
     /// `Memory`.
     pub fn finish(&mut self) -> Result<(), StoreFault>
         ensures finished { OnOk result (IsTrue (D.is_clean self.new.disk) → (es : List Entry) →
-            KeepsEntries self.old.base self.old.last self.old.size (D.seen self.old.disk) es →
+            KeepsEntries self.old.base self.old.last self.old.size self.old.told.items
+            (D.seen self.old.disk) es →
             IsFinished self.old.base self.old.last es (D.seen self.new.disk)
             (D.may_leave self.new.disk)) }
         ensures behind { WritesBehind self.old.size (D.seen self.old.disk) (D.seen self.new.disk)
@@ -225,6 +243,7 @@ impl<D: Disk + Drop> Segment<D> {
         ensures base { self.new.base ≡ self.old.base }
         ensures last { self.new.last ≡ self.old.last }
         ensures size { self.new.size ≡ self.old.size }
+        ensures told { self.new.told.items ≡ self.old.told.items }
         ensures stuck { self.new.is_stuck ≡ true }
         ensures clean { IsTrue (D.is_clean self.new.disk) → IsTrue (D.is_clean self.old.disk) }
         ensures fault { IfErr result IsOwnFault }
@@ -254,7 +273,8 @@ impl<D: Disk + Drop> Ledger for Segment<D> {
 
     ghost begins = { λ l. l.base };
 
-    ghost keeps = { λ l es. KeepsEntries l.base l.last l.size (D.Disk.seen l.disk) es };
+    ghost keeps = { λ l es. KeepsEntries l.base l.last l.size l.told.items (D.Disk.seen l.disk)
+        es };
 
     ghost outlasts = { λ l p. Lasts l.base l.size (D.Disk.may_leave l.disk) p };
 
@@ -263,7 +283,8 @@ impl<D: Disk + Drop> Ledger for Segment<D> {
     ghost is_wanting = { λ _. true };
 
     ghost reopens = { λ l p other. Reopens l.base l.size (D.Disk.may_leave l.disk) p other.base
-        other.last other.size (D.Disk.seen other.disk) (D.Disk.may_leave other.disk) };
+        other.last other.size other.told.items (D.Disk.seen other.disk)
+        (D.Disk.may_leave other.disk) };
 
     fn is_stuck(&self) -> bool {
         self.is_stuck
@@ -295,8 +316,9 @@ impl<D: Disk + Drop> Ledger for Segment<D> {
     }
 
     ghost cuts = { λ old new p told later opened kept ends lasting above. cut_at old.base old.last
-        old.size p new.base new.last new.size (D.Disk.seen old.disk) (D.Disk.seen new.disk)
-        (D.Disk.may_leave old.disk) (D.Disk.may_leave new.disk) told later
+        old.size p new.base new.last new.size old.told.items new.told.items
+        (D.Disk.seen old.disk) (D.Disk.seen new.disk) (D.Disk.may_leave old.disk)
+        (D.Disk.may_leave new.disk) told later
         (D.Disk.seen_may_stay old.disk) opened kept ends lasting };
 
     ghost unasked = { λ l no es. wants_all no };

@@ -2,13 +2,13 @@
 //!
 //! PostgreSQL documentation, Logical Replication Message Formats, Relation.
 
-ghost use Rattle.std.specs.Prelude.{◌≡◌, ◌++◌, IfOk, OnOk, map, reverse, string_bytes};
+ghost use Rattle.std.specs.Prelude.{◌≡◌, ◌++◌, IfOk, OnOk, string_bytes};
 ghost use Rattle.serde_json.specs.View.{view};
 ghost use Rattle.serde_json.specs.Written.{compact_text};
 ghost use Rattle.pgjson.specs.Cells.{list};
 ghost use Rattle.json.specs.Print.{quoted};
 ghost use Rattle.pgapply.specs.Dump.{shown_namespace};
-ghost use Rattle.pgfeed.specs.Texts.{column_data, columns_data, is_told, key_data, key_names};
+ghost use Rattle.pgfeed.specs.Texts.{column_data, columns_data, key_data, key_names};
 ghost use Rattle.pgfeed.specs.Texts.{table_front, table_line, table_rest};
 
 use crate::values::{letter_text, quoted};
@@ -120,16 +120,4 @@ pub(crate) fn push_table(
     let rest = table_rest(alloc, def)?;
     out.push_str(front.as_str())?;
     out.push_str(rest.as_str())
-}
-
-/// Whether a definition is the newest of its relation among these, of which the newest is the last.
-pub(crate) fn is_told(told: &[&RelationDef], def: &RelationDef) -> bool
-    ensures { result ≡ is_told (reverse (map (λ other. other.now) told.now)) def.now }
-{
-    for other in told.iter().rev() {
-        if other.oid == def.oid {
-            return *other == def;
-        }
-    }
-    false
 }

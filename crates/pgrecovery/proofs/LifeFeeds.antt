@@ -3,7 +3,7 @@
 use Rattle.std.proofs.Common.{◌≡◌, ◌≢◌, ◌<◌, ◌+◌, ◌++◌, ◌⊎◌, [], ◌∷◌, List, ℕ, Bool, true, false}
 use Rattle.std.proofs.Common.{Some}
 use Rattle.std.proofs.Common.{None, Option, Ok, refl, sym, ap, ◌∙◌, subst, pos, arith, inl, inr}
-use Rattle.std.proofs.Common.{length}
+use Rattle.std.proofs.Common.{length, cond, ◌==◌}
 use Rattle.std.proofs.Common.{append-nil, append_assoc, length-append}
 use Rattle.std.specs.Prelude.{⊤, IsTrue, ◌^◌, take, drop, codes, FitsSigned, map as mapped}
 use Rattle.std.specs.Int.{w64}
@@ -23,19 +23,22 @@ use Rattle.pgledger.specs.Images.{image_of, images}
 use Rattle.pgledger.specs.Entries.{Entry, LeadTo, entry_of, last_end}
 use Rattle.pgfeed.specs.declared.feed.Feed.{Feed}
 use Rattle.pgfeed.specs.declared.segment.Segment.{Segment}
-use Rattle.pgfeed.specs.Texts.{body_text, closing_line, entries_text, key_data}
+use Rattle.pgfeed.specs.declared.told.Told.{Told}
+use Rattle.pgfeed.specs.Texts.{Bodies, body_text, closing_line, entries_text, entry_line}
+use Rattle.pgfeed.specs.Texts.{entry_text, key_data}
 use Rattle.pgfeed.specs.Texts.{segment_front, segment_head, segment_object, segment_rest}
 use Rattle.pgfeed.specs.Texts.{table_front}
 use Rattle.pgfeed.specs.Texts.{table_rest}
 use Rattle.pgfeed.specs.Fits.{FitsEntry}
-use Rattle.pgfeed.specs.Reading.{AreEntries, Walks, mark_of}
+use Rattle.pgfeed.specs.Reading.{AreEntries, AreWritten, IsBody, Stands, Walks, mark_of}
 use Rattle.pgfeed.specs.Segments.{EndsTested, IsCut, IsEnded, IsFound, IsHead, KeepsEntries}
 use Rattle.pgfeed.specs.Segments.{Lasts}
 use Rattle.pgfeed.specs.Feeds.{IsHonestFeed, KeepsAll, LeavesAt, OpensIn, SomeLeaves}
 use Rattle.pgfeed.specs.Lasting.{IsLeftOf}
 use Rattle.pgfeed.specs.Beside.{LeadsFrom, RecordsRest}
-use Rattle.pgfeed.specs.Cutting.Walking.{drop_front, over_entries, take_front}
-use Rattle.pgfeed.specs.Cutting.Kept.{text_append}
+use Rattle.pgfeed.specs.Cutting.Walking.{drop_front, entry_length, over_entries, own_length}
+use Rattle.pgfeed.specs.Cutting.Walking.{take_front}
+use Rattle.pgfeed.specs.Cutting.Written.{text_append, written_front}
 use Rattle.pgfeed.specs.Cutting.Tested.{last_tested}
 use Rattle.pgfeed.specs.Cutting.Widths.{padded_length}
 use Rattle.pgsub_core.specs.Server.Work.{surviving_changes}
@@ -109,52 +112,86 @@ image_13 = simp lookups
 clock_fits : FitsSigned w64 (pos 0)
 clock_fits = fits_signed_from_abs w64 (pos 0) (omega arith)
 
-fits_10 : (prev : ℕ) → prev < 2 ^ 64 → FitsEntry prev entry_10
+-- Their lines: each commit tells the definition anew, as a feed may that was opened before it.
+abbrev pub body_10 : List ℕ
+body_10 = body_text [] 1280 0 entry_10.lines
+
+abbrev pub body_11 : List ℕ
+body_11 = body_text [] 1729 0 entry_11.lines
+
+abbrev pub body_12 : List ℕ
+body_12 = body_text [] 2178 0 entry_12.lines
+
+abbrev pub body_13 : List ℕ
+body_13 = body_text [] 1280 0 entry_13.lines
+
+abbrev pub body_14 : List ℕ
+body_14 = body_text [] 1729 0 entry_14.lines
+
+abbrev pub bodies : Bodies
+bodies end = cond (end == 304) body_10 (cond (end == 448) body_11 (cond (end == 560) body_12 (cond (end == 672) body_13 body_14)))
+
+size_10 : length body_10 ≡ 193
 unfolding body_text lsn_text half_text digits escape_byte table_front table_rest key_data lib.Utf8.encode
+size_10 = refl
+
+fits_10 : (prev : ℕ) → prev < 2 ^ 64 → FitsEntry prev entry_10 body_10
 fits_10 prev low = record {
   end_fits = omega arith;
   prev_fits = low;
-  bytes_fit = omega arith;
+  bytes_fit = omega (arith, size_10);
   changes_fit = omega arith;
   about_fits = record { final_lsn = omega arith; xid = omega arith; time = clock_fits };
 }
 
-fits_11 : (prev : ℕ) → prev < 2 ^ 64 → FitsEntry prev entry_11
+size_11 : length body_11 ≡ 193
 unfolding body_text lsn_text half_text digits escape_byte table_front table_rest key_data lib.Utf8.encode
+size_11 = refl
+
+fits_11 : (prev : ℕ) → prev < 2 ^ 64 → FitsEntry prev entry_11 body_11
 fits_11 prev low = record {
   end_fits = omega arith;
   prev_fits = low;
-  bytes_fit = omega arith;
+  bytes_fit = omega (arith, size_11);
   changes_fit = omega arith;
   about_fits = record { final_lsn = omega arith; xid = omega arith; time = clock_fits };
 }
 
-fits_12 : (prev : ℕ) → prev < 2 ^ 64 → FitsEntry prev entry_12
+size_12 : length body_12 ≡ 198
 unfolding body_text lsn_text half_text digits escape_byte table_front table_rest key_data lib.Utf8.encode
+size_12 = refl
+
+fits_12 : (prev : ℕ) → prev < 2 ^ 64 → FitsEntry prev entry_12 body_12
 fits_12 prev low = record {
   end_fits = omega arith;
   prev_fits = low;
-  bytes_fit = omega arith;
+  bytes_fit = omega (arith, size_12);
   changes_fit = omega arith;
   about_fits = record { final_lsn = omega arith; xid = omega arith; time = clock_fits };
 }
 
-fits_13 : (prev : ℕ) → prev < 2 ^ 64 → FitsEntry prev entry_13
+size_13 : length body_13 ≡ 193
 unfolding body_text lsn_text half_text digits escape_byte table_front table_rest key_data lib.Utf8.encode
+size_13 = refl
+
+fits_13 : (prev : ℕ) → prev < 2 ^ 64 → FitsEntry prev entry_13 body_13
 fits_13 prev low = record {
   end_fits = omega arith;
   prev_fits = low;
-  bytes_fit = omega arith;
+  bytes_fit = omega (arith, size_13);
   changes_fit = omega arith;
   about_fits = record { final_lsn = omega arith; xid = omega arith; time = clock_fits };
 }
 
-fits_14 : (prev : ℕ) → prev < 2 ^ 64 → FitsEntry prev entry_14
+size_14 : length body_14 ≡ 193
 unfolding body_text lsn_text half_text digits escape_byte table_front table_rest key_data lib.Utf8.encode
+size_14 = refl
+
+fits_14 : (prev : ℕ) → prev < 2 ^ 64 → FitsEntry prev entry_14 body_14
 fits_14 prev low = record {
   end_fits = omega arith;
   prev_fits = low;
-  bytes_fit = omega arith;
+  bytes_fit = omega (arith, size_14);
   changes_fit = omega arith;
   about_fits = record { final_lsn = omega arith; xid = omega arith; time = clock_fits };
 }
@@ -163,20 +200,16 @@ abbrev pub first_three : List Entry
 first_three = entry_10 ∷ entry_11 ∷ entry_12 ∷ []
 
 are_10 : AreEntries 0 (entry_10 ∷ [])
-are_10 = (omega arith, fits_10 0 (omega arith), tt)
+are_10 = (omega arith, tt)
 
 are_three : AreEntries 0 first_three
-are_three = (
-  omega arith,
-  fits_10 0 (omega arith),
-  (omega arith, fits_11 304 (omega arith), (omega arith, fits_12 448 (omega arith), tt)),
-)
+are_three = (omega arith, (omega arith, (omega arith, tt)))
 
 are_13 : AreEntries 560 (entry_13 ∷ [])
-are_13 = (omega arith, fits_13 560 (omega arith), tt)
+are_13 = (omega arith, tt)
 
 are_14 : AreEntries 560 (entry_13 ∷ entry_14 ∷ [])
-are_14 = (omega arith, fits_13 560 (omega arith), (omega arith, fits_14 672 (omega arith), tt))
+are_14 = (omega arith, (omega arith, tt))
 
 -- ---- where they lead: each entry has the images of its transaction's changes over the rows before
 -- it, and these changes give the rows after it
@@ -254,10 +287,10 @@ unfoldable pub head : ℕ → List ℕ
 head base = segment_head base (codes "7231") (codes "shop") (codes "copy")
 
 abbrev pub file : ℕ → List Entry → List ℕ
-file base es = head base ++ entries_text base es
+file base es = head base ++ entries_text bodies base es
 
 abbrev pub size_of : ℕ → List Entry → ℕ
-size_of base es = 1024 + length (entries_text base es)
+size_of base es = 1024 + length (entries_text bodies base es)
 
 object_0 : length (segment_object 0 (codes "7231") (codes "shop") (codes "copy")) < 1024
 unfolding lsn_text half_text digits escape_byte
@@ -292,75 +325,159 @@ head_begins : (base : ℕ) → Begins base
 unfolding head
 head_begins base = (_, append_assoc (segment_front base) (segment_rest (codes "7231") (codes "shop") (codes "copy")) _)
 
+-- lines that tell all definitions stand anywhere
+own_body : (front : List ℕ) (at : ℕ) (e : Entry) → length front ≡ at → IsBody front e (body_text [] at 0 e.lines)
+own_body front at e long = record { told = []; stand = tt; body_is = ap (λ k. body_text [] k 0 e.lines) (sym long) }
+
+first_body : (base prev : ℕ) (e : Entry) → IsHead base (head base) → FitsEntry prev e (body_text [] 1280 0 e.lines)
+    → IsBody (head base ++ entry_line prev e (body_text [] 1280 0 e.lines)) e (body_text [] 1280 0 e.lines)
+first_body base prev e is fits =
+    let line : List ℕ = entry_line prev e (body_text [] 1280 0 e.lines) in
+    own_body (head base ++ line) 1280 e
+    (omega (arith, is.size, own_length prev e (body_text [] 1280 0 e.lines) fits, length-append (head base) line))
+
+-- behind another entry
+next_size : (front : List ℕ) (size prev : ℕ) (e : Entry) (body : List ℕ) → length front ≡ size → FitsEntry prev e body
+    → length (front ++ entry_text prev e body) ≡ size + (256 + length body)
+next_size front size prev e body long fits =
+    omega (arith, long, entry_length prev e body fits, length-append front (entry_text prev e body))
+
+next_body : (front : List ℕ) (size at prev : ℕ) (e : Entry) → length front ≡ size → size + 256 ≡ at
+    → FitsEntry prev e (body_text [] at 0 e.lines)
+    → IsBody (front ++ entry_line prev e (body_text [] at 0 e.lines)) e (body_text [] at 0 e.lines)
+next_body front size at prev e long there fits =
+    let line : List ℕ = entry_line prev e (body_text [] at 0 e.lines) in
+    own_body (front ++ line) at e
+    (omega (arith, long, there, own_length prev e (body_text [] at 0 e.lines) fits, length-append front line))
+
+written_three : AreWritten bodies (head 0) 0 first_three
+written_three =
+    let small : 0 < 2 ^ 64 = omega arith in
+    let front_11 : List ℕ = head 0 ++ entry_text 0 entry_10 body_10 in
+    let size_of_11 : length front_11 ≡ 1024 + (256 + length body_10) =
+    next_size (head 0) 1024 0 entry_10 body_10 head_0.size (fits_10 0 small) in
+    let front_12 : List ℕ = front_11 ++ entry_text 304 entry_11 body_11 in
+    let size_of_12 : length front_12 ≡ 1024 + (256 + length body_10) + (256 + length body_11) =
+    next_size front_11 (1024 + (256 + length body_10)) 304 entry_11 body_11 size_of_11 (fits_11 304 (omega arith)) in (
+      fits_10 0 small,
+      first_body 0 0 entry_10 head_0 (fits_10 0 small),
+      (
+        fits_11 304 (omega arith),
+        next_body front_11 (1024 + (256 + length body_10)) 1729 304 entry_11 size_of_11 (omega (arith, size_10))
+            (fits_11 304 (omega arith)),
+        (
+          fits_12 448 (omega arith),
+          next_body front_12 (1024 + (256 + length body_10) + (256 + length body_11)) 2178 448 entry_12 size_of_12
+              (omega (arith, size_10, size_11)) (fits_12 448 (omega arith)),
+          tt,
+        ),
+      ),
+    )
+
+written_10 : AreWritten bodies (head 0) 0 (entry_10 ∷ [])
+written_10 = written_front bodies (head 0) 0 (entry_10 ∷ []) (entry_11 ∷ entry_12 ∷ []) written_three
+
+written_14 : AreWritten bodies (head 560) 560 (entry_13 ∷ entry_14 ∷ [])
+written_14 =
+    let front : List ℕ = head 560 ++ entry_text 560 entry_13 body_13 in
+    let long : length front ≡ 1024 + (256 + length body_13) =
+    next_size (head 560) 1024 560 entry_13 body_13 head_560.size (fits_13 560 (omega arith)) in (
+      fits_13 560 (omega arith),
+      first_body 560 560 entry_13 head_560 (fits_13 560 (omega arith)),
+      (
+        fits_14 672 (omega arith),
+        next_body front (1024 + (256 + length body_13)) 1729 672 entry_14 long (omega (arith, size_13)) (fits_14 672 (omega arith)),
+        tt,
+      ),
+    )
+
+written_13 : AreWritten bodies (head 560) 560 (entry_13 ∷ [])
+written_13 = written_front bodies (head 560) 560 (entry_13 ∷ []) (entry_14 ∷ []) written_14
+
 split : (base : ℕ) (told later : List Entry)
-    → file base (told ++ later) ≡ file base told ++ entries_text (last_end base told) later
-split base told later = ap (λ xs. head base ++ xs) (text_append base told later)
-    ∙ sym (append_assoc (head base) (entries_text base told) (entries_text (last_end base told) later))
+    → file base (told ++ later) ≡ file base told ++ entries_text bodies (last_end base told) later
+split base told later = ap (λ xs. head base ++ xs) (text_append bodies base told later)
+    ∙ sym (append_assoc (head base) (entries_text bodies base told) (entries_text bodies (last_end base told) later))
 
 long : (base : ℕ) (es : List Entry) → IsHead base (head base) → length (file base es) ≡ size_of base es
-long base es is = omega (arith, is.size, length-append (head base) (entries_text base es))
+long base es is = omega (arith, is.size, length-append (head base) (entries_text bodies base es))
 
-keeps : (base : ℕ) (es : List Entry) → IsHead base (head base) → AreEntries base es
-    → KeepsEntries base (last_end base es) (size_of base es) (file base es) es
-keeps base es is are = record {
+keeps : (base : ℕ) (known : List Told) (es : List Entry) → known ≡ [] → IsHead base (head base) → AreEntries base es
+    → AreWritten bodies (head base) base es
+    → KeepsEntries base (last_end base es) (size_of base es) known (file base es) es
+keeps base known es none is are written = record {
   head = head base;
+  bodies = bodies;
   rest = [];
   is_head = is;
-  file_is = ap (λ xs. head base ++ xs) (sym (append-nil (entries_text base es)));
+  file_is = ap (λ xs. head base ++ xs) (sym (append-nil (entries_text bodies base es)));
   size_is = refl;
   entries = are;
+  written = written;
+  stand = subst (AllByRecursion (Stands (file base es))) (sym none) tt;
   last_is = refl;
 }
 
-lasts : (base : ℕ) (told later : List Entry) → IsHead base (head base) → AreEntries base told
+lasts : (base : ℕ) (told later : List Entry) → IsHead base (head base) → AreEntries base told → AreWritten bodies (head base) base told
     → Lasts base (size_of base (told ++ later)) (may_leave (file base (told ++ later))) (last_end base told)
-lasts base told later is are = (
+lasts base told later is are written = (
   file base told,
   record {
-    is_front = record { head = head base; told = told; is_head = is; entries = are; ends = refl; front_is = refl };
+    is_front = record {
+      head = head base;
+      bodies = bodies;
+      told = told;
+      is_head = is;
+      entries = are;
+      written = written;
+      ends = refl;
+      front_is = refl;
+    };
     within = omega (
       arith,
       long base told is,
       long base (told ++ later) is,
       ap length (split base told later),
-      length-append (file base told) (entries_text (last_end base told) later),
+      length-append (file base told) (entries_text bodies (last_end base told) later),
     );
-    each = λ left is_all. (entries_text (last_end base told) later, is_all ∙ split base told later);
+    each = λ left is_all. (entries_text bodies (last_end base told) later, is_all ∙ split base told later);
   },
 )
 
-found : (base : ℕ) (told later : List Entry) → IsHead base (head base) → AreEntries base told
+found : (base : ℕ) (told later : List Entry) → IsHead base (head base) → AreEntries base told → AreWritten bodies (head base) base told
     → IsFound base (last_end base told) (file base (told ++ later)) (size_of base told)
-found base told later is are =
+found base told later is are written =
     let begins : Begins base = head_begins base in
     let all = file base (told ++ later) in
-    let rest = entries_text (last_end base told) later in
-    let behind : drop 1024 all ≡ entries_text base told ++ rest =
-    drop_front 1024 (head base) (entries_text base (told ++ later)) is.size ∙ text_append base told later in
+    let own = entries_text bodies base told in
+    let rest = entries_text bodies (last_end base told) later in
+    let behind : drop 1024 all ≡ own ++ rest =
+    drop_front 1024 (head base) (entries_text bodies base (told ++ later)) is.size ∙ text_append bodies base told later in
     record {
-      marks = mapped mark_of told;
-      entries_size = length (entries_text base told);
+      marks = mapped (mark_of bodies) told;
+      entries_size = length own;
       more = begins.0;
-      head = take_front 1024 (head base) (entries_text base (told ++ later)) is.size ∙ begins.1;
+      head = take_front 1024 (head base) (entries_text bodies base (told ++ later)) is.size ∙ begins.1;
       head_within = omega (arith, long base (told ++ later) is);
-      walk = subst (λ xs. Walks base (mapped mark_of told) xs (last_end base told) (length (entries_text base told))) (sym behind)
-          (over_entries base told rest are);
+      walk = subst (λ xs. Walks base (mapped (mark_of bodies) told) xs (last_end base told) (length own)) (sym behind)
+          (over_entries bodies (head base) base told rest are written);
       size_is = refl;
     }
 
 -- the last commit has its checksum
 tested : (base : ℕ) (e : Entry) (later : List Entry) → IsHead base (head base) → AreEntries base (e ∷ [])
+    → AreWritten bodies (head base) base (e ∷ [])
     → EndsTested e.end (file base (e ∷ later)) (size_of base (e ∷ []))
-tested base e later is are =
-    subst (λ xs. EndsTested e.end (head base ++ xs) (size_of base (e ∷ []))) (sym (text_append base (e ∷ []) later))
-    (last_tested base (head base) (entries_text e.end later) [] e is.size are)
+tested base e later is are written =
+    subst (λ xs. EndsTested e.end (head base ++ xs) (size_of base (e ∷ []))) (sym (text_append bodies base (e ∷ []) later))
+    (last_tested bodies base (head base) (entries_text bodies e.end later) [] e is.size are written)
 
 -- what follows is cut off
 cut : (base : ℕ) (told later : List Entry) → IsHead base (head base)
     → IsCut (file base (told ++ later)) (size_of base told) (file base told) (may_leave (file base told))
 cut base told later is = record {
   file_is = sym (ap (take (size_of base told)) (split base told later)
-      ∙ take_front (size_of base told) (file base told) (entries_text (last_end base told) later) (long base told is));
+      ∙ take_front (size_of base told) (file base told) (entries_text bodies (last_end base told) later) (long base told is));
   synced = λ left is_all. is_all;
 }
 
@@ -370,9 +487,9 @@ alone_in base b there left other away (inl at) = absurd (away at.0)
 alone_in base b there left other away (inr none) = absurd none
 
 -- ---- the feeds: any feed's allocator, names and limits, without a segment that has ended and is
--- still held
+-- still held, or a definition that is told
 
-module _ (any : MemoryFeed) (alone : any.ended.items ≡ []) where
+module _ (any : MemoryFeed) (alone : any.ended.items ≡ []) (untold : any.segment.told.items ≡ []) where
   abbrev pub feed_in : Folder → ℕ → ℕ → List Entry → MemoryFeed
   feed_in folder begins base es = record any {
     folder = folder;
@@ -404,7 +521,7 @@ module _ (any : MemoryFeed) (alone : any.ended.items ≡ []) where
     cuts = λ _. record {
       bases = [];
       above = [];
-      there = inr (refl, refl, refl, (keeps 0 [] head_0 tt, lasts 0 [] [] head_0 tt));
+      there = inr (refl, refl, refl, (keeps 0 any.segment.told.items [] untold head_0 tt tt, lasts 0 [] [] head_0 tt tt));
       removed = tt;
       stay = refl;
       first = refl;
@@ -454,8 +571,9 @@ module _ (any : MemoryFeed) (alone : any.ended.items ≡ []) where
           inl (refl, refl),
           record {
             up = omega arith;
-            found = found 0 (entry_10 ∷ []) (entry_11 ∷ entry_12 ∷ []) head_0 are_10;
-            tested = λ _. tested 0 entry_10 (entry_11 ∷ entry_12 ∷ []) head_0 are_10;
+            untold = untold;
+            found = found 0 (entry_10 ∷ []) (entry_11 ∷ entry_12 ∷ []) head_0 are_10 written_10;
+            tested = λ _. tested 0 entry_10 (entry_11 ∷ entry_12 ∷ []) head_0 are_10 written_10;
             cut = cut 0 (entry_10 ∷ []) (entry_11 ∷ entry_12 ∷ []) head_0;
           },
         ),
@@ -469,7 +587,7 @@ module _ (any : MemoryFeed) (alone : any.ended.items ≡ []) where
 
   -- xids 11 and 12 are appended again, the segment ends, and the next one gets xid 13
   abbrev pub ended_file : List ℕ
-  ended_file = head 0 ++ (entries_text 0 first_three ++ closing_line 560)
+  ended_file = head 0 ++ (entries_text bodies 0 first_three ++ closing_line 560)
 
   abbrev pub folder_2 : Folder
   folder_2 = (0, ended_file) ∷ (560, file 560 (entry_13 ∷ [])) ∷ []
@@ -515,8 +633,9 @@ module _ (any : MemoryFeed) (alone : any.ended.items ≡ []) where
           inl (refl, refl),
           record {
             up = omega arith;
-            found = found 560 (entry_13 ∷ []) [] head_560 are_13;
-            tested = λ _. tested 560 entry_13 [] head_560 are_13;
+            untold = untold;
+            found = found 560 (entry_13 ∷ []) [] head_560 are_13 written_13;
+            tested = λ _. tested 560 entry_13 [] head_560 are_13 written_13;
             cut = cut 560 (entry_13 ∷ []) [] head_560;
           },
         ),
@@ -536,15 +655,15 @@ module _ (any : MemoryFeed) (alone : any.ended.items ≡ []) where
   abbrev Keeps : MemoryFeed → List Entry → Type 0
   Keeps = KeepsAll shows may_leave is_clean is_true places has
 
-  one_segment : (base : ℕ) (es : List Entry) → IsHead base (head base) → AreEntries base es
+  one_segment : (base : ℕ) (es : List Entry) → IsHead base (head base) → AreEntries base es → AreWritten bodies (head base) base es
       → Keeps (feed_in ((base, file base es) ∷ []) base base es) es
-  one_segment base es is are = record {
+  one_segment base es is are written = record {
     before = [];
     now = es;
     is = refl;
     entries = tt;
     ends = refl;
-    kept = keeps base es is are;
+    kept = keeps base any.segment.told.items es untold is are written;
     whole = λ _. record {
       bases = [];
       above = [];
@@ -574,9 +693,11 @@ module _ (any : MemoryFeed) (alone : any.ended.items ≡ []) where
     text = ended_file;
     finished = record {
       head = head 0;
+      bodies = bodies;
       is_head = head_0;
       file_is = refl;
       entries = are_three;
+      written = written_three;
       last_is = refl;
       synced = only_ended;
     };
@@ -589,7 +710,7 @@ module _ (any : MemoryFeed) (alone : any.ended.items ≡ []) where
     is = refl;
     entries = are_three;
     ends = refl;
-    kept = keeps 560 (entry_13 ∷ []) head_560 are_13;
+    kept = keeps 560 any.segment.told.items (entry_13 ∷ []) untold head_560 are_13 written_13;
     whole = λ _. record {
       bases = 0 ∷ [];
       above = [];
@@ -612,9 +733,15 @@ module _ (any : MemoryFeed) (alone : any.ended.items ≡ []) where
     base = map.empty;
     told = entry_10 ∷ [];
     later = entry_11 ∷ entry_12 ∷ [];
-    kept = record { gone = []; stay = first_three; is = refl; begins_is = refl; kept = one_segment 0 first_three head_0 are_three };
+    kept = record {
+      gone = [];
+      stay = first_three;
+      is = refl;
+      begins_is = refl;
+      kept = one_segment 0 first_three head_0 are_three written_three;
+    };
     leads = lead_10 [] tables_304 304 (refl, refl);
-    lasting = (omega arith, (omega arith, λ _. lasts 0 (entry_10 ∷ []) (entry_11 ∷ entry_12 ∷ []) head_0 are_10));
+    lasting = (omega arith, (omega arith, λ _. lasts 0 (entry_10 ∷ []) (entry_11 ∷ entry_12 ∷ []) head_0 are_10 written_10));
     above = (omega arith, (omega arith, tt));
     none = λ free same. absurd (omega (arith, same));
   }
@@ -625,9 +752,15 @@ module _ (any : MemoryFeed) (alone : any.ended.items ≡ []) where
     base = map.empty;
     told = first_three;
     later = [];
-    kept = record { gone = []; stay = first_three; is = refl; begins_is = refl; kept = one_segment 0 first_three head_0 are_three };
+    kept = record {
+      gone = [];
+      stay = first_three;
+      is = refl;
+      begins_is = refl;
+      kept = one_segment 0 first_three head_0 are_three written_three;
+    };
     leads = lead_10 (entry_11 ∷ entry_12 ∷ []) tables_560 560 (lead_12 [] tables_560 560 (refl, refl));
-    lasting = (omega arith, (omega arith, λ _. lasts 0 first_three [] head_0 are_three));
+    lasting = (omega arith, (omega arith, λ _. lasts 0 first_three [] head_0 are_three written_three));
     above = tt;
     none = λ _ _. refl;
   }
@@ -640,7 +773,7 @@ module _ (any : MemoryFeed) (alone : any.ended.items ≡ []) where
     kept = record { gone = []; stay = first_three ++ entry_13 ∷ []; is = refl; begins_is = refl; kept = two_segments };
     leads = lead_10 (entry_11 ∷ entry_12 ∷ entry_13 ∷ []) tables_672 672
         (lead_12 (entry_13 ∷ []) tables_672 672 (lead_13 [] tables_672 672 (refl, refl)));
-    lasting = (omega arith, (omega arith, λ _. lasts 560 (entry_13 ∷ []) [] head_560 are_13));
+    lasting = (omega arith, (omega arith, λ _. lasts 560 (entry_13 ∷ []) [] head_560 are_13 written_13));
     above = tt;
     none = λ _ _. refl;
   }
@@ -656,11 +789,11 @@ module _ (any : MemoryFeed) (alone : any.ended.items ≡ []) where
       stay = entry_13 ∷ entry_14 ∷ [];
       is = refl;
       begins_is = refl;
-      kept = one_segment 560 (entry_13 ∷ entry_14 ∷ []) head_560 are_14;
+      kept = one_segment 560 (entry_13 ∷ entry_14 ∷ []) head_560 are_14 written_14;
     };
     leads = lead_10 (entry_11 ∷ entry_12 ∷ entry_13 ∷ entry_14 ∷ []) tables_816 816
         (lead_12 (entry_13 ∷ entry_14 ∷ []) tables_816 816 leads_560);
-    lasting = (omega arith, (omega arith, λ _. lasts 560 (entry_13 ∷ entry_14 ∷ []) [] head_560 are_14));
+    lasting = (omega arith, (omega arith, λ _. lasts 560 (entry_13 ∷ entry_14 ∷ []) [] head_560 are_14 written_14));
     above = tt;
     none = λ _ _. refl;
   }
@@ -671,6 +804,6 @@ module _ (any : MemoryFeed) (alone : any.ended.items ≡ []) where
     base = tables_560;
     told = entry_13 ∷ entry_14 ∷ [];
     later = [];
-    kept = one_segment 560 (entry_13 ∷ entry_14 ∷ []) head_560 are_14;
+    kept = one_segment 560 (entry_13 ∷ entry_14 ∷ []) head_560 are_14 written_14;
     leads = leads_560;
   }

@@ -131,28 +131,31 @@ pub use Rattle.pgledger.specs.Images.{Line, lines, deleted_image, searched_row, 
 pub use Rattle.pgledger.specs.Images.{rows_or_none, change_image, images_after}
 unfoldable pub use Rattle.pgledger.specs.Images.{image_of, images}
 pub use Rattle.pgledger.specs.Entries.{Entry, last_end, entry_of, LeadTo}
-pub use Rattle.pgfeed.specs.Fits.{FitsAbout, FitsLine, FitsEntry}
+pub use Rattle.pgfeed.specs.Reading.{AreEntries, Stands, IsBody, AreWritten, BeginsWith, HasItsCrc}
+pub use Rattle.pgfeed.specs.Reading.{Walks}
+pub use Rattle.pgfeed.specs.Texts.{Bodies, column_data, columns_data, key_names, table_line}
+pub use Rattle.pgfeed.specs.Texts.{if_there, newer, same_column as same_column_of_pgfeed}
+pub use Rattle.pgfeed.specs.Texts.{same_definition, told_at, newest, place, fresh_text}
 pub use Rattle.pgfeed.specs.Texts.{change_front, row_data, change_line, sent_rows, sent_op}
-pub use Rattle.pgfeed.specs.Texts.{sent_text, missed_line, image_line}
-pub use Rattle.pgfeed.specs.Texts.{same_column as same_column_of_pgfeed, same_definition, is_told}
-pub use Rattle.pgfeed.specs.Texts.{column_data, columns_data, key_names, table_line, entry_body}
-pub use Rattle.pgfeed.specs.Texts.{padded, segment_front, segment_rest, segment_object}
-pub use Rattle.pgfeed.specs.Texts.{segment_size, segment_head, commit_front, unix_micros}
+pub use Rattle.pgfeed.specs.Texts.{sent_text, missed_line, image_line, named as named_of_pgfeed}
+pub use Rattle.pgfeed.specs.Texts.{line_text, told_with, line_told, commit_front, unix_micros}
 pub use Rattle.pgfeed.specs.Texts.{about_text, commit_rest, commit_told, crc_text, commit_object}
-pub use Rattle.pgfeed.specs.Texts.{commit_size, commit_line, closing_object, closing_line}
+pub use Rattle.pgfeed.specs.Texts.{commit_size, padded, commit_line, entry_line, segment_front}
+pub use Rattle.pgfeed.specs.Texts.{segment_rest, segment_object, segment_size, segment_head}
+pub use Rattle.pgfeed.specs.Texts.{closing_object, closing_line}
 unfoldable pub use Rattle.pgfeed.specs.Texts.{table_front, key_data, table_rest, body_text}
 unfoldable pub use Rattle.pgfeed.specs.Texts.{entry_crc, entry_text, entries_text}
-pub use Rattle.pgjson.specs.Cells.{hex_data, cell_data, list, cells_data}
-pub use Rattle.pgjson.specs.Messages.{old_data, prior_data, integer, natural, letter_data}
+pub use Rattle.pgfeed.specs.Fits.{FitsAbout, FitsLine, FitsEntry}
 pub use Rattle.pgapply.specs.Dump.{shown_namespace}
-pub use Rattle.pgfeed.specs.Reading.{AreEntries, BeginsWith, HasItsCrc, Walks}
+pub use Rattle.pgjson.specs.Messages.{integer, natural, letter_data, old_data, prior_data}
+pub use Rattle.pgjson.specs.Cells.{list, hex_data, cell_data, cells_data}
 pub use Rattle.pglsn.specs.Texts.{upper_digit}
 unfoldable pub use Rattle.pglsn.specs.Texts.{half_text, lsn_text}
+pub use Rattle.pgcrc.specs.Crc.{differ, divisor, is_odd, message_bits, ones}
+unfoldable pub use Rattle.pgcrc.specs.Crc.{after_bit, after_bits, bits, crc32}
 pub use Rattle.pgfeed.specs.Segments.{IsHead, KeepsEntries, Begins, IsFront, LastsAs, Lasts}
 pub use Rattle.pgfeed.specs.Segments.{most_tested, EndsTested, IsCut, IsFound, IsFinished, IsEnded}
 pub use Rattle.pgfeed.specs.Segments.{HasHead, HasWhatLasts}
-pub use Rattle.pgcrc.specs.Crc.{differ, divisor, is_odd, message_bits, ones}
-unfoldable pub use Rattle.pgcrc.specs.Crc.{after_bit, after_bits, bits, crc32}
 pub use Rattle.pgfeed.specs.Beside.{KeepsRest, LastsFrom, is_stuck_feed, told_from, RecordsRest}
 pub use Rattle.pgfeed.specs.Beside.{LeadsFrom}
 pub use Rattle.pgledger.specs.Records.{Records}

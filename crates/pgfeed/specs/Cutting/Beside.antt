@@ -7,7 +7,8 @@ use Rattle.pgledger.specs.Entries.{Entry, last_end}
 use Rattle.pgfeed.specs.declared.feed.Feed.{Feed}
 use Rattle.pgfeed.specs.Beside.{KeepsRest, LastsFrom, told_from}
 use Rattle.pgfeed.specs.Feeds.{KeepsAll, KeepsLast, ReopensAt}
-use Rattle.pgfeed.specs.Cutting.Following.{all_entries, cut_last, ends_up}
+use Rattle.pgfeed.specs.Cutting.Following.{all_entries, cut_last}
+use Rattle.pgfeed.specs.Cutting.Written.{ends_up}
 use Rattle.pgfeed.specs.Cutting.Kept.{end_append}
 
 -- entries above an LSN end above it

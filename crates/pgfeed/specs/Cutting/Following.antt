@@ -10,44 +10,41 @@ use Rattle.pgfeed.specs.declared.segment.Segment.{Segment}
 use Rattle.pgfeed.specs.Reading.{AreEntries}
 use Rattle.pgfeed.specs.Segments.{Begins, HasHead, HasWhatLasts, IsEnded, IsFinished, IsFound}
 use Rattle.pgfeed.specs.Segments.{IsFront, KeepsEntries, Lasts, Reopens}
-use Rattle.pgfeed.specs.Texts.{closing_line, entries_text}
+use Rattle.pgfeed.specs.Texts.{Bodies, closing_line, entries_text}
+use Rattle.pgfeed.specs.declared.told.Told.{Told}
 use Rattle.pgfeed.specs.Feeds.{AreEnded, BeginAt, Follow, HasHeadAt, IsCutAt, IsFresh, OpenedFrom}
 use Rattle.pgfeed.specs.Feeds.{IsHonestFeed, IsLeftIn, KeepsAll, KeepsLast, LastsUpTo, LeavesAt}
 use Rattle.pgfeed.specs.Feeds.{MayHave}
 use Rattle.pgfeed.specs.Feeds.{OpensIn}
 use Rattle.pgfeed.specs.Feeds.{first_of}
 use Rattle.pgfeed.specs.Cutting.Kept.{end_append, entries_append, entries_behind, entries_front}
-use Rattle.pgfeed.specs.Cutting.Kept.{text_append}
+use Rattle.pgfeed.specs.Cutting.Written.{ends_up, text_append, written_front}
 use Rattle.pgfeed.specs.Cutting.Opened.{cut_at}
 use Rattle.pgfeed.specs.Cutting.Walking.{no_entry}
-
-pub ends_up : (at : ℕ) (es : List Entry) → AreEntries at es → at ≤ last_end at es
-ends_up at [] are = omega arith
-ends_up at (e ∷ es) are = let more = ends_up e.end es are.2 in omega (arith, are.0)
 
 -- entries that end at or above the end of others go on behind them
 pub goes_on : (at : ℕ) (before now told later : List Entry) → AreEntries at before → before ++ now ≡ told ++ later
     → last_end at before ≤ last_end at told
     → (mid : List Entry) × (told ≡ before ++ mid) × (now ≡ mid ++ later)
 goes_on at [] now told later are e up = (told, refl, e)
-goes_on at (b ∷ before) now [] later are e up = let more = ends_up b.end before are.2 in absurd (omega (arith, are.0))
+goes_on at (b ∷ before) now [] later are e up = let more = ends_up b.end before are.1 in absurd (omega (arith, are.0))
 goes_on at (b ∷ before) now (t ∷ told) later are e up =
     let head : t ≡ b = cc in
     let rest : before ++ now ≡ told ++ later = cc in
     let above : last_end b.end before ≤ last_end b.end told = subst (λ (x : Entry). last_end b.end before ≤ last_end x.end told) head up in
-    let more = goes_on b.end before now told later are.2 rest above in
+    let more = goes_on b.end before now told later are.1 rest above in
     (more.0, (let tail = more.1 in cc), more.2)
 
 -- entries that end where they begin are none
 none_told : (at : ℕ) (es : List Entry) → AreEntries at es → last_end at es ≡ at → es ≡ []
 none_told at [] are ends = refl
-none_told at (e ∷ es) are ends = let more = ends_up e.end es are.2 in absurd (omega (arith, are.0))
+none_told at (e ∷ es) are ends = let more = ends_up e.end es are.1 in absurd (omega (arith, are.0))
 
 -- those behind entries that end where they all do are none
 none_later : (at : ℕ) (told later : List Entry) → AreEntries at (told ++ later) → last_end at told ≡ last_end at (told ++ later)
     → later ≡ []
 none_later at [] later are ends = none_told at later are (sym ends)
-none_later at (e ∷ told) later are ends = none_later e.end told later are.2 ends
+none_later at (e ∷ told) later are ends = none_later e.end told later are.1 ends
 
 -- where the last of some entries end
 mid_end : (at last p : ℕ) (own mid told : List Entry) → last_end at own ≡ last → told ≡ own ++ mid → last_end at told ≡ p
@@ -156,9 +153,11 @@ ended_less base last own before after less e = record {
   text = e.text;
   finished = record {
     head = e.finished.head;
+    bodies = e.finished.bodies;
     is_head = e.finished.is_head;
     file_is = e.finished.file_is;
     entries = e.finished.entries;
+    written = e.finished.written;
     last_is = e.finished.last_is;
     synced = λ c left. e.finished.synced c (less c left);
   };
@@ -168,48 +167,54 @@ ended_less base last own before after less e = record {
 
 finished_keeps : (base last : ℕ) (es : List Entry) (text : List ℕ) (outcomes : List ℕ → Type 0)
     → (f : IsFinished base last es text outcomes)
-    → KeepsEntries base last (1024 + length (entries_text base es)) text es
+    → KeepsEntries base last (1024 + length (entries_text f.bodies base es)) [] text es
 finished_keeps base last es text outcomes f = record {
   head = f.head;
+  bodies = f.bodies;
   rest = closing_line last;
   is_head = f.is_head;
   file_is = f.file_is;
   size_is = refl;
   entries = f.entries;
+  written = f.written;
+  stand = tt;
   last_is = f.last_is;
 }
 
-fits : (base : ℕ) (told rest : List Entry) (head : List ℕ) → length head ≡ 1024
-    → length (head ++ entries_text base told) ≤ 1024 + length (entries_text base (told ++ rest))
-fits base told rest head size =
+fits : (bodies : Bodies) (base : ℕ) (told rest : List Entry) (head : List ℕ) → length head ≡ 1024
+    → length (head ++ entries_text bodies base told) ≤ 1024 + length (entries_text bodies base (told ++ rest))
+fits bodies base told rest head size =
     omega (
       arith,
-      length-append head (entries_text base told),
-      ap length (text_append base told rest),
-      length-append (entries_text base told) (entries_text (last_end base told) rest),
+      length-append head (entries_text bodies base told),
+      ap length (text_append bodies base told rest),
+      length-append (entries_text bodies base told) (entries_text bodies (last_end base told) rest),
     )
 
 -- what it has up to an LSN lasts
 finished_lasts : (base last p : ℕ) (told rest : List Entry) (text : List ℕ) (outcomes : List ℕ → Type 0)
-    → IsFinished base last (told ++ rest) text outcomes → last_end base told ≡ p
-    → Lasts base (1024 + length (entries_text base (told ++ rest))) (λ c. c ≡ text) p
+    → (f : IsFinished base last (told ++ rest) text outcomes) → last_end base told ≡ p
+    → Lasts base (1024 + length (entries_text f.bodies base (told ++ rest))) (λ c. c ≡ text) p
 finished_lasts base last p told rest text outcomes f ends =
-    let more : List ℕ = entries_text (last_end base told) rest in
-    let split : text ≡ (f.head ++ entries_text base told) ++ (more ++ closing_line last) =
-    f.file_is ∙ ap (λ xs. f.head ++ (xs ++ closing_line last)) (text_append base told rest)
-    ∙ ap (λ xs. f.head ++ xs) (append_assoc (entries_text base told) more (closing_line last))
-    ∙ sym (append_assoc f.head (entries_text base told) (more ++ closing_line last)) in (
-      f.head ++ entries_text base told,
+    let own : List ℕ = entries_text f.bodies base told in
+    let more : List ℕ = entries_text f.bodies (last_end base told) rest in
+    let split : text ≡ (f.head ++ own) ++ (more ++ closing_line last) =
+    f.file_is ∙ ap (λ xs. f.head ++ (xs ++ closing_line last)) (text_append f.bodies base told rest)
+    ∙ ap (λ xs. f.head ++ xs) (append_assoc own more (closing_line last))
+    ∙ sym (append_assoc f.head own (more ++ closing_line last)) in (
+      f.head ++ own,
       record {
         is_front = record {
           head = f.head;
+          bodies = f.bodies;
           told = told;
           is_head = f.is_head;
           entries = entries_front base told rest f.entries;
+          written = written_front f.bodies f.head base told rest f.written;
           ends = ends;
           front_is = refl;
         };
-        within = fits base told rest f.head f.is_head.size;
+        within = fits f.bodies base told rest f.head f.is_head.size;
         each = λ c same. (more ++ closing_line last, same ∙ split);
       },
     )
@@ -228,7 +233,7 @@ module _ {F D : Type 0} (seen : D → List ℕ) (may_leave : D → List ℕ → 
   -- An old feed of which something was left in a folder, and the feed that was opened on it.
   record Again (old new : Feed F D) (p : ℕ) (now : List Entry) (gone : List ℕ) (folder : F) : Type 0 where
     pub left : IsLeftIn seen may_leave is_clean is_true places has old p now gone folder
-    pub kept : KeepsEntries old.segment.base old.segment.last old.segment.size (seen old.segment.disk) now
+    pub kept : KeepsEntries old.segment.base old.segment.last old.segment.size old.segment.told.items (seen old.segment.disk) now
     pub up : p ≤ old.segment.last
     pub lasting : old.segment.base ≤ p → Lasts old.segment.base old.segment.size (may_leave old.segment.disk) p
     pub alone : new.ended.items ≡ []
@@ -242,7 +247,7 @@ module _ {F D : Type 0} (seen : D → List ℕ) (may_leave : D → List ℕ → 
     pub now : List Entry
     pub is : told ≡ before ++ now
     pub ended : AreEnded (LeavesAt may_leave has new) at bases new.segment.base before
-    pub kept : KeepsEntries new.segment.base new.segment.last new.segment.size (seen new.segment.disk) now
+    pub kept : KeepsEntries new.segment.base new.segment.last new.segment.size new.segment.told.items (seen new.segment.disk) now
     pub lasting : Lasts new.segment.base new.segment.size (may_leave new.segment.disk) p
 
   -- what the new one may have of another segment was found there
@@ -261,49 +266,55 @@ module _ {F D : Type 0} (seen : D → List ℕ) (may_leave : D → List ℕ → 
       let is : IsFront p p front = headed.1 in
       let begins : Begins front text = headed.2 in
       let bare : front ≡ is.head =
-      is.front_is ∙ ap (λ es. is.head ++ entries_text p es) (none_told p is.told is.entries is.ends) ∙ ap (λ xs. is.head ++ xs) (no_entry p)
-      ∙ append-nil is.head in
-      let kept : KeepsEntries p p 1024 text [] = record {
+      is.front_is ∙ ap (λ es. is.head ++ entries_text is.bodies p es) (none_told p is.told is.entries is.ends)
+      ∙ ap (λ xs. is.head ++ xs) (no_entry is.bodies p) ∙ append-nil is.head in
+      let kept : KeepsEntries p p 1024 [] text [] = record {
         head = is.head;
+        bodies = is.bodies;
         rest = begins.0;
         is_head = is.is_head;
-        file_is = begins.1 ∙ ap (λ xs. xs ++ begins.0) bare ∙ ap (λ xs. is.head ++ (xs ++ begins.0)) (sym (no_entry p));
-        size_is = ap (λ xs. 1024 + length {A = ℕ} xs) (sym (no_entry p));
+        file_is = begins.1 ∙ ap (λ xs. xs ++ begins.0) bare ∙ ap (λ xs. is.head ++ (xs ++ begins.0)) (sym (no_entry is.bodies p));
+        size_is = ap (λ xs. 1024 + length {A = ℕ} xs) (sym (no_entry is.bodies p));
         entries = tt;
+        written = tt;
+        stand = tt;
         last_is = refl;
       } in
       let lasting : Lasts p 1024 (λ c. c ≡ text) p = (
         front,
         record { is_front = is; within = omega (arith, ap length bare, is.is_head.size); each = λ c same. (begins.0, same ∙ begins.1) },
       ) in
-      let again : Reopens p 1024 (λ c. c ≡ text) p s.base s.last s.size (seen s.disk) (may_leave s.disk) = record {
+      let again : Reopens p 1024 (λ c. c ≡ text) p s.base s.last s.size s.told.items (seen s.disk) (may_leave s.disk) = record {
         text = text;
         has = λ front lasting. lasting.each text refl;
         base_is = at;
         last_is = last;
+        untold = cuts.untold;
         found = subst (λ b. IsFound b p text s.size) at cuts.found;
         cut = cuts.cut;
       } in
-      let cut = cut_at p p 1024 p s.base s.last s.size text (seen s.disk) (λ c. c ≡ text) (may_leave s.disk) [] [] refl again kept refl
-      lasting in
+      let cut = cut_at p p 1024 p s.base s.last s.size [] s.told.items text (seen s.disk) (λ c. c ≡ text) (may_leave s.disk) [] [] refl
+      again kept refl lasting in
       (cut.0, subst (λ q. Lasts s.base s.size (may_leave s.disk) q) (sym at) cut.2)
 
-  cut_text : (new : Feed F D) (at last size p : ℕ) (told rest : List Entry) (text file : List ℕ) (outcomes : List ℕ → Type 0)
+  cut_text : (new : Feed F D) (at last size p : ℕ) (known : List Told) (told rest : List Entry) (text file : List ℕ)
+      (outcomes : List ℕ → Type 0)
       → at ≡ new.segment.base → new.segment.last ≡ p → IsCutAt seen may_leave p text new.segment → outcomes file
-      → HasWhatLasts at size outcomes p text → KeepsEntries at last size file (told ++ rest) → last_end at told ≡ p
+      → HasWhatLasts at size outcomes p text → KeepsEntries at last size known file (told ++ rest) → last_end at told ≡ p
       → Lasts at size outcomes p → Cut at [] new p told
-  cut_text new at last size p told rest text file outcomes begins there cuts stays lasts keeps ends lasting =
-      let again : Reopens at size outcomes p new.segment.base new.segment.last new.segment.size (seen new.segment.disk)
-      (may_leave new.segment.disk) = record {
+  cut_text new at last size p known told rest text file outcomes begins there cuts stays lasts keeps ends lasting =
+      let again : Reopens at size outcomes p new.segment.base new.segment.last new.segment.size new.segment.told.items
+      (seen new.segment.disk) (may_leave new.segment.disk) = record {
         text = text;
         has = lasts;
         base_is = sym begins;
         last_is = there;
+        untold = cuts.untold;
         found = subst (λ b. IsFound b p text new.segment.size) (sym begins) cuts.found;
         cut = cuts.cut;
       } in
-      let cut = cut_at at last size p new.segment.base new.segment.last new.segment.size file (seen new.segment.disk) outcomes
-      (may_leave new.segment.disk) told rest stays again keeps ends lasting in
+      let cut = cut_at at last size p new.segment.base new.segment.last new.segment.size known new.segment.told.items file
+      (seen new.segment.disk) outcomes (may_leave new.segment.disk) told rest stays again keeps ends lasting in
       record { before = []; now = told; is = refl; ended = (begins, refl); kept = cut.0; lasting = cut.2 }
 
   -- the open segment is opened again
@@ -314,14 +325,17 @@ module _ {F D : Type 0} (seen : D → List ℕ) (may_leave : D → List ℕ → 
       → OpenedFrom seen may_leave has folder p new.segment → Cut at [] new p told
   cut_open stay old new p now gone folder at told later a begins same are ends split to cuts =
       let had : has folder old.segment.base cuts.0 = subst (λ b. has folder b cuts.0) (sym same) cuts.1 in
-      let kept : KeepsEntries at old.segment.last old.segment.size (seen old.segment.disk) (told ++ later) =
-      subst (λ b. KeepsEntries b old.segment.last old.segment.size (seen old.segment.disk) (told ++ later)) (sym begins)
-      (subst (KeepsEntries old.segment.base old.segment.last old.segment.size (seen old.segment.disk)) split a.kept) in
+      let kept : KeepsEntries at old.segment.last old.segment.size old.segment.told.items (seen old.segment.disk) (told ++ later) =
+      subst (λ b. KeepsEntries b old.segment.last old.segment.size old.segment.told.items (seen old.segment.disk) (told ++ later))
+      (sym begins)
+      (subst (KeepsEntries old.segment.base old.segment.last old.segment.size old.segment.told.items (seen old.segment.disk)) split
+      a.kept) in
       let lasts : HasWhatLasts at old.segment.size (may_leave old.segment.disk) p cuts.0 =
       subst (λ b. HasWhatLasts b old.segment.size (may_leave old.segment.disk) p cuts.0) (sym begins) (a.left.lasting cuts.0 had) in
       let lasting : Lasts at old.segment.size (may_leave old.segment.disk) p =
       subst (λ b. Lasts b old.segment.size (may_leave old.segment.disk) p) (sym begins) (a.lasting (omega (arith, same, to))) in
-      cut_text new at old.segment.last old.segment.size p told later cuts.0 (seen old.segment.disk) (may_leave old.segment.disk)
+      cut_text new at old.segment.last old.segment.size p old.segment.told.items told later cuts.0 (seen old.segment.disk)
+      (may_leave old.segment.disk)
       (begins ∙ same) a.last cuts.2 (stay old.segment.disk) lasts kept ends lasting
 
   next_above : (leaves : ℕ → List ℕ → Type 0) (last : ℕ) (stay : List ℕ) (base p : ℕ) (es : List Entry) (more : List ℕ)
@@ -343,9 +357,9 @@ module _ {F D : Type 0} (seen : D → List ℕ) (may_leave : D → List ℕ → 
       let rest = goes_on at told later own (more ++ now) are (sym split) (omega (arith, ends, there)) in
       let f : IsFinished b last (told ++ rest.0) e.text (LeavesAt may_leave has old b) =
       subst (λ es. IsFinished b last es e.text (LeavesAt may_leave has old b)) rest.1 e.finished in
-      let size : ℕ = 1024 + length (entries_text b (told ++ rest.0)) in
+      let size : ℕ = 1024 + length (entries_text f.bodies b (told ++ rest.0)) in
       let up : last_end b told ≡ p = ap (λ x. last_end x told) begins ∙ ends in
-      let cut = cut_text new b last size p told rest.0 cuts.0 e.text (λ c. c ≡ e.text) same a.last cuts.2 refl
+      let cut = cut_text new b last size p [] told rest.0 cuts.0 e.text (λ c. c ≡ e.text) same a.last cuts.2 refl
       (λ front lasting. lasting.each cuts.0 is) (finished_keeps b last (told ++ rest.0) e.text (LeavesAt may_leave has old b) f) up
       (finished_lasts b last p told rest.0 e.text (LeavesAt may_leave has old b) f up) in
       subst (λ x. Cut x [] new p told) begins cut

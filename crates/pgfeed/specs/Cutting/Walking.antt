@@ -7,9 +7,10 @@ use Rattle.std.proofs.Math.Seq.{take-append_seam, drop-append_seam}
 use Rattle.pgapply.specs.declared.commit.About.{About}
 use Rattle.pgledger.specs.Entries.{Entry, last_end}
 use Rattle.pgcrc.specs.Crc.{crc32}
-use Rattle.pgfeed.specs.Texts.{commit_front, commit_line, commit_object, commit_rest, commit_told}
-use Rattle.pgfeed.specs.Texts.{crc_text, entries_text, entry_body, entry_crc, entry_text}
-use Rattle.pgfeed.specs.Fits.{FitsLine}
+use Rattle.pgfeed.specs.Texts.{Bodies, commit_front, commit_line, commit_object, commit_rest}
+use Rattle.pgfeed.specs.Texts.{commit_told, crc_text, entries_text, entry_crc, entry_line}
+use Rattle.pgfeed.specs.Texts.{entry_text}
+use Rattle.pgfeed.specs.Fits.{FitsEntry}
 use Rattle.pgfeed.specs.declared.mark.Mark.{Mark}
 use Rattle.pgfeed.specs.Reading.{BeginsWith, EntriesHaveTheirCrc, HasItsCrc, LinesLeadOver}
 use Rattle.pgfeed.specs.Reading.{TextIsReadInOneWay, Walks, mark_of}
@@ -48,27 +49,22 @@ one_walk at place size other (mark ∷ marks) (second ∷ others) text small a b
     )
 
 -- an entry is its line, and then so many bytes
-entry_splits : (at : ℕ) (e : Entry)
-    → entry_text at e ≡ commit_line e.end at (length (entry_body e)) (length e.lines) e.about (entry_crc at e) ++ entry_body e
+pub entry_splits : (at : ℕ) (e : Entry) (body : List ℕ) → entry_text at e body ≡ entry_line at e body ++ body
 unfolding entry_text
-entry_splits at e = refl
+entry_splits at e body = refl
 
-entry_crc_small : (at : ℕ) (e : Entry) → entry_crc at e < 2 ^ 32
+entry_crc_small : (at : ℕ) (e : Entry) (body : List ℕ) → entry_crc at e body < 2 ^ 32
 unfolding entry_crc
-entry_crc_small at e = crc_small (commit_told e.end at (length (entry_body e)) (length e.lines) e.about ++ entry_body e)
+entry_crc_small at e body = crc_small (commit_told e.end at (length body) (length e.lines) e.about ++ body)
 
--- the line of an entry
-abbrev own_line : ℕ → Entry → List ℕ
-own_line at e = commit_line e.end at (length (entry_body e)) (length e.lines) e.about (entry_crc at e)
+pub own_length : (at : ℕ) (e : Entry) (body : List ℕ) → FitsEntry at e body → length (entry_line at e body) ≡ 256
+own_length at e body fits =
+    line_length e.end at (length body) (length e.lines) e.about (entry_crc at e body) fits (entry_crc_small at e body)
 
-own_length : (at : ℕ) (e : Entry) → FitsLine e.end at (length (entry_body e)) (length e.lines) e.about → length (own_line at e) ≡ 256
-own_length at e fits = line_length e.end at (length (entry_body e)) (length e.lines) e.about (entry_crc at e) fits (entry_crc_small at e)
-
-pub entry_length : (at : ℕ) (e : Entry) → FitsLine e.end at (length (entry_body e)) (length e.lines) e.about
-    → length (entry_text at e) ≡ 256 + length (entry_body e)
-entry_length at e fits =
-    ap length (entry_splits at e) ∙ length-append (own_line at e) (entry_body e)
-    ∙ ap (λ k. k + length (entry_body e)) (own_length at e fits)
+pub entry_length : (at : ℕ) (e : Entry) (body : List ℕ) → FitsEntry at e body → length (entry_text at e body) ≡ 256 + length body
+entry_length at e body fits =
+    ap length (entry_splits at e body) ∙ length-append (entry_line at e body) body
+    ∙ ap (λ k. k + length body) (own_length at e body fits)
 
 -- the front of a text, and what is behind it
 pub take_front : (n : ℕ) (xs ys : List ℕ) → length xs ≡ n → take n (xs ++ ys) ≡ xs
@@ -77,13 +73,14 @@ take_front n xs ys e = rw (← e) (take-append_seam xs ys)
 pub drop_front : (n : ℕ) (xs ys : List ℕ) → length xs ≡ n → drop n (xs ++ ys) ≡ ys
 drop_front n xs ys e = rw (← e) (drop-append_seam xs ys)
 
-pub next_entry : (at : ℕ) (e : Entry) (es : List Entry) → entries_text at (e ∷ es) ≡ entry_text at e ++ entries_text e.end es
+pub next_entry : (bodies : Bodies) (at : ℕ) (e : Entry) (es : List Entry)
+    → entries_text bodies at (e ∷ es) ≡ entry_text at e (bodies e.end) ++ entries_text bodies e.end es
 unfolding entries_text
-next_entry at e es = refl
+next_entry bodies at e es = refl
 
-pub no_entry : (at : ℕ) → entries_text at [] ≡ []
+pub no_entry : (bodies : Bodies) (at : ℕ) → entries_text bodies at [] ≡ []
 unfolding entries_text
-no_entry at = refl
+no_entry bodies at = refl
 
 -- the line of a commit is its front, and more
 line_more : (end prev bytes changes : ℕ) (about : Option About) (crc : ℕ)
@@ -96,22 +93,22 @@ line_more end prev bytes changes about crc =
     )
 
 -- a text that begins with an entry begins with its line
-pub begins : (at : ℕ) (e : Entry) (rest : List ℕ) → at < e.end → FitsLine e.end at (length (entry_body e)) (length e.lines) e.about
-    → BeginsWith at (mark_of e) (entry_text at e ++ rest)
-begins at e rest above fits =
-    let line : List ℕ = own_line at e in
-    let long = own_length at e fits in
-    let whole : entry_text at e ++ rest ≡ line ++ (entry_body e ++ rest) =
-    ap (λ text. text ++ rest) (entry_splits at e) ∙ append_assoc line (entry_body e) rest in
-    let parts = line_more e.end at (length (entry_body e)) (length e.lines) e.about (entry_crc at e) in
-    let size = entry_length at e fits in
+pub begins : (at : ℕ) (e : Entry) (body rest : List ℕ) → at < e.end → FitsEntry at e body
+    → BeginsWith at (record { end = e.end; bytes = length body }) (entry_text at e body ++ rest)
+begins at e body rest above fits =
+    let line : List ℕ = entry_line at e body in
+    let long = own_length at e body fits in
+    let whole : entry_text at e body ++ rest ≡ line ++ (body ++ rest) =
+    ap (λ text. text ++ rest) (entry_splits at e body) ∙ append_assoc line body rest in
+    let parts = line_more e.end at (length body) (length e.lines) e.about (entry_crc at e body) in
+    let size = entry_length at e body fits in
     record {
       above = above;
       end_fits = fits.end_fits;
       bytes_fit = fits.bytes_fit;
       more = parts.0;
-      line = ap (take 256) whole ∙ take_front 256 line (entry_body e ++ rest) long ∙ parts.1;
-      within = omega (arith, length-append (entry_text at e) rest);
+      line = ap (take 256) whole ∙ take_front 256 line (body ++ rest) long ∙ parts.1;
+      within = omega (arith, length-append (entry_text at e body) rest);
     }
 
 -- what stands behind the checksum
@@ -121,25 +118,24 @@ crc_more end prev bytes changes about crc =
     let blanks : List ℕ = replicate (256 - 1 - length (commit_object end prev bytes changes about crc)) 32 ++ 10 ∷ [] in
     (blanks, append_assoc (commit_told end prev bytes changes about) (crc_text crc) blanks)
 
-crc_is : (at : ℕ) (e : Entry)
-    → entry_crc at e ≡ crc32 (commit_told e.end at (length (entry_body e)) (length e.lines) e.about ++ entry_body e)
+crc_is : (at : ℕ) (e : Entry) (body : List ℕ)
+    → entry_crc at e body ≡ crc32 (commit_told e.end at (length body) (length e.lines) e.about ++ body)
 unfolding entry_crc
-crc_is at e = refl
+crc_is at e body = refl
 
 pub have_their_crc : EntriesHaveTheirCrc
-have_their_crc at e rest fits =
-    let body : List ℕ = entry_body e in
+have_their_crc at e body rest fits =
     let told : List ℕ = commit_told e.end at (length body) (length e.lines) e.about in
-    let line : List ℕ = own_line at e in
-    let long : length line ≡ 256 = own_length at e fits in
-    let whole : entry_text at e ++ rest ≡ line ++ (body ++ rest) =
-    ap (λ text. text ++ rest) (entry_splits at e) ∙ append_assoc line body rest in
-    let parts = crc_more e.end at (length body) (length e.lines) e.about (entry_crc at e) in
-    let behind : take (length body) (drop 256 (entry_text at e ++ rest)) ≡ body =
+    let line : List ℕ = entry_line at e body in
+    let long : length line ≡ 256 = own_length at e body fits in
+    let whole : entry_text at e body ++ rest ≡ line ++ (body ++ rest) =
+    ap (λ text. text ++ rest) (entry_splits at e body) ∙ append_assoc line body rest in
+    let parts = crc_more e.end at (length body) (length e.lines) e.about (entry_crc at e body) in
+    let behind : take (length body) (drop 256 (entry_text at e body ++ rest)) ≡ body =
     ap (λ text. take (length body) (drop 256 text)) whole
     ∙ ap (take (length body)) (drop_front 256 line (body ++ rest) long) ∙ take_front (length body) body rest refl in
-    let crc : entry_crc at e ≡ crc32 (told ++ take (length body) (drop 256 (entry_text at e ++ rest))) =
-    crc_is at e ∙ ap (λ text. crc32 (told ++ text)) (sym behind) in
+    let crc : entry_crc at e body ≡ crc32 (told ++ take (length body) (drop 256 (entry_text at e body ++ rest))) =
+    crc_is at e body ∙ ap (λ text. crc32 (told ++ text)) (sym behind) in
     record {
       told = told;
       more = parts.0;
@@ -148,21 +144,24 @@ have_their_crc at e rest fits =
     }
 
 pub over_entries : LinesLeadOver
-over_entries at [] rest are = (refl, ap length (no_entry at))
-over_entries at (e ∷ es) rest are =
-    let size = entry_length at e are.1 in
-    let text : entries_text at (e ∷ es) ++ rest ≡ entry_text at e ++ (entries_text e.end es ++ rest) =
-    ap (λ text. text ++ rest) (next_entry at e es) ∙ append_assoc (entry_text at e) (entries_text e.end es) rest in
-    let next : drop (256 + length (entry_body e)) (entries_text at (e ∷ es) ++ rest) ≡ entries_text e.end es ++ rest =
-    ap (drop (256 + length (entry_body e))) text
-    ∙ drop_front (256 + length (entry_body e)) (entry_text at e) (entries_text e.end es ++ rest) size in
-    let more : Walks e.end (map mark_of es) (entries_text e.end es ++ rest) (last_end e.end es) (length (entries_text e.end es)) =
-    over_entries e.end es rest are.2 in (
-      subst (BeginsWith at (mark_of e)) (sym text) (begins at e (entries_text e.end es ++ rest) are.0 are.1),
+over_entries bodies front at [] rest are written = (refl, ap length (no_entry bodies at))
+over_entries bodies front at (e ∷ es) rest are written =
+    let body : List ℕ = bodies e.end in
+    let size = entry_length at e body written.0 in
+    let text : entries_text bodies at (e ∷ es) ++ rest ≡ entry_text at e body ++ (entries_text bodies e.end es ++ rest) =
+    ap (λ text. text ++ rest) (next_entry bodies at e es) ∙ append_assoc (entry_text at e body) (entries_text bodies e.end es) rest in
+    let next : drop (256 + length body) (entries_text bodies at (e ∷ es) ++ rest) ≡ entries_text bodies e.end es ++ rest =
+    ap (drop (256 + length body)) text
+    ∙ drop_front (256 + length body) (entry_text at e body) (entries_text bodies e.end es ++ rest) size in
+    let more : Walks e.end (map (mark_of bodies) es) (entries_text bodies e.end es ++ rest) (last_end e.end es)
+    (length (entries_text bodies e.end es)) =
+    over_entries bodies (front ++ entry_text at e body) e.end es rest are.1 written.2 in (
+      subst (BeginsWith at (mark_of bodies e)) (sym text) (begins at e body (entries_text bodies e.end es ++ rest) are.0 written.0),
       (
-        length (entries_text e.end es),
-        ap length (next_entry at e es) ∙ length-append (entry_text at e) (entries_text e.end es)
-            ∙ ap (λ k. k + length (entries_text e.end es)) size,
-        subst (λ text. Walks e.end (map mark_of es) text (last_end e.end es) (length (entries_text e.end es))) (sym next) more,
+        length (entries_text bodies e.end es),
+        ap length (next_entry bodies at e es) ∙ length-append (entry_text at e body) (entries_text bodies e.end es)
+            ∙ ap (λ k. k + length (entries_text bodies e.end es)) size,
+        subst (λ text. Walks e.end (map (mark_of bodies) es) text (last_end e.end es) (length (entries_text bodies e.end es))) (sym next)
+            more,
       ),
     )

@@ -1,17 +1,22 @@
-use Rattle.std.proofs.Common.{◌≡◌, ◌++◌, [], map, reverse, string_bytes}
+use Rattle.std.proofs.Common.{◌≡◌, ◌++◌, ◌+◌, length, string_bytes}
 use Rattle.std.specs.List.{AllByRecursion}
 use Rattle.std.specs.Slice.Iter.{iter_rest}
 use Rattle.std.specs.Iterator.Adapters.{enumerate_count, enumerate_source, zip_first, zip_second}
 use Rattle.pgapply.specs.Works.{IsNumbered, change_values}
 use Rattle.pgledger.specs.Images.{lines}
-use Rattle.pgfeed.specs.Texts.{body_text}
+use Rattle.pgfeed.specs.Texts.{body_text, told_after}
 use Rattle.pgfeed.proofs.entries.body.Given as goal
 
 abbrev pub invariant-loop-n : goal.invariant-loop-n
 invariant-loop-n l = record {
-  text : string_bytes l.text ++ body_text (reverse (map (λ def. def.now) l.told.items)) (enumerate_count l.n-iterator)
+  text : string_bytes l.piece.text ++ body_text (l.told ++ l.piece.told.items) (l.start + length (string_bytes l.piece.text))
+      (enumerate_count l.n-iterator)
       (lines (change_values l.definitions (zip_first (enumerate_source l.n-iterator)))
       (iter_rest (zip_second (enumerate_source l.n-iterator))))
-      ≡ body_text [] 0 (lines (change_values l.definitions l.entries) l.images);
+      ≡ body_text l.told l.start 0 (lines (change_values l.definitions l.entries) l.images);
+  told : told_after (l.told ++ l.piece.told.items) (l.start + length (string_bytes l.piece.text)) (enumerate_count l.n-iterator)
+      (lines (change_values l.definitions (zip_first (enumerate_source l.n-iterator)))
+      (iter_rest (zip_second (enumerate_source l.n-iterator))))
+      ≡ told_after l.told l.start 0 (lines (change_values l.definitions l.entries) l.images);
   numbered : AllByRecursion (IsNumbered l.definitions) (zip_first (enumerate_source l.n-iterator));
 }

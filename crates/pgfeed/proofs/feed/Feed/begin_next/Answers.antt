@@ -21,7 +21,7 @@ returns-in_err-finish-clause-goes g c =
       writes = writes_line g.F.File.Disk.seen g.F.File.Disk.may_leave c.args.self.now.segment c.finish.new.self done.base done.last
           done.size done.behind;
       clean = done.clean;
-    }) c.requires.free done.size done.last
+    }) c.requires.free done.size done.last done.told
 
 pub returns-in_err-finish-clause-kept : goal.returns-in_err-finish-clause-kept
 returns-in_err-finish-clause-kept g c =
@@ -35,7 +35,7 @@ returns-in_err-finish-clause-kept g c =
       writes = writes_line g.F.File.Disk.seen g.F.File.Disk.may_leave c.args.self.now.segment c.finish.new.self done.base done.last
           done.size done.behind;
       clean = done.clean;
-    }) c.requires.free done.size done.last
+    }) c.requires.free done.size done.last done.told
 
 pub returns-in_err-reserve-clause-goes : goal.returns-in_err-reserve-clause-goes
 returns-in_err-reserve-clause-goes g c =
@@ -49,7 +49,7 @@ returns-in_err-reserve-clause-goes g c =
       writes = writes_line g.F.File.Disk.seen g.F.File.Disk.may_leave c.args.self.now.segment c.finish.new.self done.base done.last
           done.size done.behind;
       clean = done.clean;
-    }) c.requires.free done.size done.last
+    }) c.requires.free done.size done.last done.told
 
 pub returns-in_err-reserve-clause-kept : goal.returns-in_err-reserve-clause-kept
 returns-in_err-reserve-clause-kept g c =
@@ -63,7 +63,7 @@ returns-in_err-reserve-clause-kept g c =
       writes = writes_line g.F.File.Disk.seen g.F.File.Disk.may_leave c.args.self.now.segment c.finish.new.self done.base done.last
           done.size done.behind;
       clean = done.clean;
-    }) c.requires.free done.size done.last
+    }) c.requires.free done.size done.last done.told
 
 pub returns-in_err-segment-clause-goes : goal.returns-in_err-segment-clause-goes
 returns-in_err-segment-clause-goes g c =
@@ -77,6 +77,7 @@ returns-in_err-segment-clause-goes g c =
           done.size done.behind;
       size_is = done.size;
       last_is = done.last;
+      told_is = done.told;
       clean = done.clean;
       rises = c.requires.some;
       finished = done.finished;
@@ -98,6 +99,7 @@ returns-in_err-segment-clause-kept g c =
           done.size done.behind;
       size_is = done.size;
       last_is = done.last;
+      told_is = done.told;
       clean = done.clean;
       rises = c.requires.some;
       finished = done.finished;
@@ -126,7 +128,7 @@ returns-clause-goes g c =
       rises = c.requires.some;
       finished = subst (λ (s : Segment g.row.F-File.Denot). IsTrue (g.F.File.Disk.is_clean s.disk) → (es : List Entry)
           → KeepsEntries c.args.self.now.segment.base c.args.self.now.segment.last c.args.self.now.segment.size
-          (g.F.File.Disk.seen c.args.self.now.segment.disk) es
+          c.args.self.now.segment.told.items (g.F.File.Disk.seen c.args.self.now.segment.disk) es
           → IsFinished c.args.self.now.segment.base c.args.self.now.segment.last es (g.F.File.Disk.seen s.disk)
           (g.F.File.Disk.may_leave s.disk)) (sym is) done.finished;
       fresh = subst (IsFresh g.F.File.Disk.seen g.F.File.Disk.may_leave) (sym c.replace-ended.ensures.after) begun.fresh;
@@ -159,7 +161,7 @@ returns-clause-kept g c =
       rises = c.requires.some;
       finished = subst (λ (s : Segment g.row.F-File.Denot). IsTrue (g.F.File.Disk.is_clean s.disk) → (es : List Entry)
           → KeepsEntries c.args.self.now.segment.base c.args.self.now.segment.last c.args.self.now.segment.size
-          (g.F.File.Disk.seen c.args.self.now.segment.disk) es
+          c.args.self.now.segment.told.items (g.F.File.Disk.seen c.args.self.now.segment.disk) es
           → IsFinished c.args.self.now.segment.base c.args.self.now.segment.last es (g.F.File.Disk.seen s.disk)
           (g.F.File.Disk.may_leave s.disk)) (sym is) done.finished;
       fresh = subst (IsFresh g.F.File.Disk.seen g.F.File.Disk.may_leave) (sym c.replace-ended.ensures.after) begun.fresh;
@@ -186,7 +188,7 @@ returns-clause-ends g c =
       last_is = ap (λ (s : Segment g.row.F-File.Denot). s.last) is ∙ done.last;
       finished = subst (λ (s : Segment g.row.F-File.Denot). IsTrue (g.F.File.Disk.is_clean s.disk) → (es : List Entry)
           → KeepsEntries c.args.self.now.segment.base c.args.self.now.segment.last c.args.self.now.segment.size
-          (g.F.File.Disk.seen c.args.self.now.segment.disk) es
+          c.args.self.now.segment.told.items (g.F.File.Disk.seen c.args.self.now.segment.disk) es
           → IsFinished c.args.self.now.segment.base c.args.self.now.segment.last es (g.F.File.Disk.seen s.disk)
           (g.F.File.Disk.may_leave s.disk)) (sym is) done.finished;
     })

@@ -21,6 +21,7 @@ returns-clause-kept g c =
       };
       size_is = ap (λ (s : Segment g.row.F-File.Denot). s.size) c.stop.ensures;
       last_is = ap (λ (s : Segment g.row.F-File.Denot). s.last) c.stop.ensures;
+      told_is = ap (λ (s : Segment g.row.F-File.Denot). s.told.items) c.stop.ensures;
       less = λ text may. subst (λ (s : Segment g.row.F-File.Denot). g.F.File.Disk.may_leave s.disk text) c.stop.ensures may;
       stuck = λ free. absurd (true_false (sym (ap (λ (s : Segment g.row.F-File.Denot). s.is_stuck) c.stop.ensures) ∙ free));
     }))
@@ -39,6 +40,7 @@ returns-clause-rests g c =
       };
       size_is = ap (λ (s : Segment g.row.F-File.Denot). s.size) c.stop.ensures;
       last_is = ap (λ (s : Segment g.row.F-File.Denot). s.last) c.stop.ensures;
+      told_is = ap (λ (s : Segment g.row.F-File.Denot). s.told.items) c.stop.ensures;
       less = λ text may. subst (λ (s : Segment g.row.F-File.Denot). g.F.File.Disk.may_leave s.disk text) c.stop.ensures may;
       stuck = λ free. absurd (true_false (sym (ap (λ (s : Segment g.row.F-File.Denot). s.is_stuck) c.stop.ensures) ∙ free));
     }) in

@@ -18,6 +18,7 @@ returns-in_err-flush-clause-rests g c =
       };
       size_is = done.size;
       last_is = done.last;
+      told_is = done.told;
       less = done.crash;
       stuck = λ free. absurd (true_false (sym done.stuck ∙ free));
     }) in
@@ -49,6 +50,7 @@ returns-clause-rests g c =
       };
       size_is = done.size;
       last_is = done.last;
+      told_is = done.told;
       less = done.crash;
       stuck = λ _. done.was_free;
     }) in
@@ -72,6 +74,7 @@ returns-in_err-flush-clause-kept g c =
       };
       size_is = done.size;
       last_is = done.last;
+      told_is = done.told;
       less = done.crash;
       stuck = λ free. absurd (true_false (sym done.stuck ∙ free));
     }))
@@ -93,6 +96,7 @@ returns-clause-kept g c =
       };
       size_is = done.size;
       last_is = done.last;
+      told_is = done.told;
       less = done.crash;
       stuck = λ _. done.was_free;
     }))

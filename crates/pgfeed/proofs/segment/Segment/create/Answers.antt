@@ -12,8 +12,8 @@ returns-clause-keeps g c =
     let some : 0 < length c.as_str.result.now = omega (arith, ap length is) in
     let put = c.in_ok-put_head.ensures.put some in
     let file : g.D.Disk.seen c.of.result.disk ≡ head = ap g.D.Disk.seen c.of.ensures.disk ∙ put.0 ∙ is in
-    head_keeps c.args.base _ _ _ head _ _ _ _ c.in_ok-head.ensures.head size (search rules) c.of.ensures.base c.of.ensures.last
-    c.of.ensures.size file
+    head_keeps c.args.base _ _ _ _ head _ _ _ _ c.in_ok-head.ensures.head size (search rules) c.of.ensures.base c.of.ensures.last
+    c.of.ensures.size c.of.ensures.untold file
 
 pub returns-clause-lasts : goal.returns-clause-lasts
 returns-clause-lasts g c =

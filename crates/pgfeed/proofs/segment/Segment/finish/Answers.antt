@@ -19,5 +19,5 @@ returns-clause-finished g c =
     (subst (λ file. Torn c.args.self.now.size (length line) (g.D.Disk.seen c.len.new.self) file) (sym synced.seen) wrote.others) in
     let only : Only (g.D.Disk.seen c.sync_file.new.disk) (g.D.Disk.may_leave c.sync_file.new.disk) =
     subst (λ file. Only file (g.D.Disk.may_leave c.sync_file.new.disk)) (sym synced.seen) durable in
-    finished _ _ _ _ _ line (g.D.Disk.may_leave c.sync_file.new.disk) es kept long is torn (rw synced.seen wrote.written) only)
+    finished _ _ _ _ _ _ line (g.D.Disk.may_leave c.sync_file.new.disk) es kept long is torn (rw synced.seen wrote.written) only)
     synced.durable

@@ -8,7 +8,7 @@ returns-clause-synced g c =
     let done = c.flush.ensures in
     on_ok_weaker c.flush.result
     (λ only es kept. lasts_there _ _ _ _ _ _ done.base done.size
-    (synced_lasts _ _ _ _ (g.D.Disk.may_leave c.flush.new.self.disk) es kept only)) done.durable
+    (synced_lasts _ _ _ _ _ (g.D.Disk.may_leave c.flush.new.self.disk) es kept only)) done.durable
 
 pub returns-clause-rests : goal.returns-clause-rests
 returns-clause-rests g c =
@@ -19,5 +19,5 @@ returns-clause-rests g c =
       begins_is = done.base;
       wanting_is = refl;
       outlasts_more = λ p h. lasts_more _ _ _ _ _ _ _ _ _ done.base (omega (arith, done.size)) writes h;
-      reopens_less = λ p other h. reopens_less _ _ _ _ _ _ _ _ _ _ _ _ _ _ done.base (omega (arith, done.size)) writes h;
+      reopens_less = λ p other h. reopens_less _ _ _ _ _ _ _ _ _ _ _ _ _ _ _ done.base (omega (arith, done.size)) writes h;
     }

@@ -1,0 +1,33 @@
+-- What comes behind the entries of a segment.
+use Rattle.std.specs.Prelude.{◌≡◌, ◌<◌, ◌+◌, ◌++◌, ◌⊎◌, ℕ, List, [], string_bytes}
+use Rattle.pgledger.specs.Entries.{Entry}
+use Rattle.pgfeed.specs.declared.entries.Piece.{Piece}
+use Rattle.pgfeed.specs.declared.segment.Segment.{Segment}
+use Rattle.pgfeed.specs.declared.told.Told.{Told}
+use Rattle.pgfeed.specs.Fits.{FitsEntry}
+use Rattle.pgfeed.specs.Texts.{body_text, entry_text, told_after}
+
+-- the lines that an entry has there, and which definitions are told behind them
+abbrev pub next_body : {D : Type 0} → Segment D → Entry → List ℕ
+next_body s e = body_text s.told.items (s.size + 256) 0 e.lines
+
+abbrev pub next_told : {D : Type 0} → Segment D → Entry → List Told
+next_told s e = told_after s.told.items (s.size + 256) 0 e.lines
+
+abbrev pub FitsNext : {D : Type 0} → Segment D → Entry → Type 0
+FitsNext s e = FitsEntry s.last e (next_body s e)
+
+-- its text
+abbrev pub next_text : {D : Type 0} → Segment D → Entry → List ℕ
+next_text s e = entry_text s.last e (next_body s e)
+
+-- of definitions that stand in the segment all are remembered, or none
+abbrev pub Remembers : List Told → List Told → Type 0
+Remembers told now = (now ≡ told) ⊎ (now ≡ [])
+
+-- this is the text of the entry there, and these are the definitions that it tells
+pub record IsNext {D : Type 0} (s : Segment D) (e : Entry) (piece : Piece) : Type 0 where
+  pub above : s.last < e.end
+  pub fits : FitsNext s e
+  pub text : string_bytes piece.text ≡ next_text s e
+  pub told : s.told.items ++ piece.told.items ≡ next_told s e
