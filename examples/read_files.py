@@ -2,12 +2,15 @@
 """Keeps a feed's rows by the files that docs/FORMATS.md tells. Where it ends: start it again."""
 import json, os, pickle, sys, time, zlib
 
-feed, path = sys.argv[1:]
+(feed, path), segment, offset = sys.argv[1:], "", 0
 at, tables, rows = pickle.load(open(path, "rb")) if os.path.exists(path) else (None, {}, {})
-segment, offset = "", 0
 
 def number(lsn):
     return int("".join(it.zfill(8) for it in lsn.strip().split("/")), 16)
+
+def read(offset, size=None):  # of the segment so many bytes, or a line
+    with open(f"{feed}/{segment}", "rb") as file:
+        return file.seek(offset) and (file.readline() if size is None else file.read(size))
 
 def count(oid, cells, by, is_repair):
     row, keys = dict(zip([it[0] for it in tables[oid]["columns"]], cells)), tables[oid]["key"]
@@ -19,11 +22,11 @@ def count(oid, cells, by, is_repair):
 def keep(lsn, lines, is_repair=False):
     for it in map(json.loads, lines):
         it = {"op": "r", "oid": oid, "after": it} if isinstance(it, list) else it  # a first row
-        oid = it["oid"]
-        if it["op"] == "table" and it != tables.get(oid):  # columns keep their values by name
-            tables[oid], before, rows[oid] = it, rows.get(oid, {}), {}
+        oid, table = it["oid"], json.loads(read(it["at"])) if "at" in it else it
+        if table["op"] == "table" and table != tables.get(oid):  # columns keep values by name
+            tables[oid], before, rows[oid] = table, rows.get(oid, {}), {}
             for row, copies in before.values():
-                count(oid, [row.get(name) for name, *_ in it["columns"]], copies, False)
+                count(oid, [row.get(name) for name, *_ in table["columns"]], copies, False)
         rows[oid] = {} if it["op"] == "t" else rows[oid]
         for row, by in ((it.get("before"), -1), (it.get("after"), 1)):
             if row is not None:
@@ -31,8 +34,7 @@ def keep(lsn, lines, is_repair=False):
     with open(path + ".new", "wb") as file:
         pickle.dump((number(lsn), tables, rows), file)
         os.fsync(file.flush() or file.fileno())
-    os.replace(path + ".new", path)
-    return number(lsn)
+    return os.replace(path + ".new", path) or number(lsn)
 
 def first_rows(file=1):
     head, *lines = open(f"{feed}/base/{file:08}", "rb").read().splitlines(True)
@@ -43,12 +45,10 @@ def first_rows(file=1):
 while True:
     confirmed = open(f"{feed}/confirmed").read() if os.path.exists(f"{feed}/confirmed") else "0/0"
     at = at or (keep(*first_rows()) if os.path.exists(f"{feed}/base") else 0)
-    name = max(it for it in os.listdir(feed) if len(it) == 16 and int(it, 16) <= at)
-    segment, offset = name, 1024 if name != segment else offset
-    with open(f"{feed}/{name}", "rb") as file:
-        line = file.read(256) if file.seek(offset) else b""
-        told = json.loads(line) if len(line) == 256 and line.strip(b"\0") else {}
-        text = file.read(told.get("bytes", 0))
+    names = [it for it in os.listdir(feed) if len(it) == 16 and int(it, 16) <= at]
+    offset = offset if segment == (segment := max(names)) else 1024
+    told = json.loads(line) if len(line := read(offset, 256)) == 256 and line.strip(b"\0") else {}
+    text = read(offset + 256, told.get("bytes", 0))
     end, is_repair = number(told.get("end", "0/0")), told.get("xid") == 2
     if not end or len(text) < told["bytes"] or is_repair and number(confirmed) < end:
         time.sleep(0.02)

@@ -1814,6 +1814,27 @@ BUGS = (
         ("test_feed_reading", "test_piping"),
     ),
     Bug(
+        "a definition in a commit that was passed over isn't tested",
+        "pgsub_feed/reader/segments.py",
+        "if at < self.tested:",
+        "if False:",
+        ("test_feed_reading",),
+    ),
+    Bug(
+        "the definitions of a segment count in the next one",
+        "pgsub_feed/reader/segments.py",
+        "        self.decoder.forget()\n        return segment",
+        "        return segment",
+        ("test_feed_reading",),
+    ),
+    Bug(
+        "a reader elsewhere isn't told another definition of the same offset",
+        "pgsub_feed/formats/lines.py",
+        "if self.lines.get(at) == line:",
+        "if at in self.lines:",
+        ("test_piping",),
+    ),
+    Bug(
         "a commit that was spoiled on its way is passed on",
         "pgsub_feed/pipe/following.py",
         "for lines in whole_lines(pieces, lambda",

@@ -94,9 +94,20 @@ class Formats(PrintingCase):
         self.feed.commit(0x25504200, [insert("1", "b")])
         text = b"".join(it.read_bytes()[1024:] for it in sorted(self.path.iterdir()))
         closing = next(line for line in text.splitlines() if b'"last"' in line)
+        printed = self.print("--format", "lines").splitlines(keepends=True)
+        told = [it for it in printed if it.startswith('{"at":')]
         self.assertEqual(
-            self.print("--format", "lines"), text.replace(closing + b"\n", b"").decode()
+            "".join(it for it in printed if it not in told),
+            text.replace(closing + b"\n", b"").decode(),
         )
+        # (who reads them hasn't the segment; the second one has the same at the same offset)
+        first, _, _ = text.partition(closing)
+        tables = [it for it in first.splitlines(keepends=True) if it.startswith(b'{"op":"table"')]
+        self.assertEqual(
+            [(int(at[6:]), "{" + line) for at, _, line in (it.partition(",") for it in told)],
+            [(1024 + first.index(it), it.decode()) for it in tables],
+        )
+        self.assertEqual(printed[0], told[0])
 
     def test_chosen(self) -> None:
         ops = [json.loads(line)["op"] for line in self.print("--table", "stock").splitlines()]

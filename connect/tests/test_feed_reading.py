@@ -470,7 +470,7 @@ class Damage(Case):
         insert_at = self.text.index(b'{"op":"c"')
         delete_at = self.text.index(b'{"op":"d"')
         for old, new, told in (
-            (b'"feed":2', b'"feed":a', (1, 0)),
+            (b'"feed":3', b'"feed":a', (1, 0)),
             (b'"slot":"pgsub"', b'"slot":1', (1, 0)),
             (b'"base":"0/0"', b'"base":"0/1"', (2, 0)),
             (b'{"end":"0/100"', b'["end":"0/100"', (3, 1024)),
@@ -493,7 +493,11 @@ class Damage(Case):
             ),
             (b'"n":0', b'"n":1', (6, insert_at)),
             (b'"n":1', b'"n":7', (6, delete_at)),
-            (b'"oid":1,"n":0', b'"oid":2,"n":0', (7, insert_at)),
+            (b'"oid":1,"at"', b'"oid":2,"at"', (7, insert_at)),
+            (b'"at":1280', b'"at":1281', (7, insert_at)),
+            (b'"at":1280', b'"at":9999', (7, insert_at)),
+            (b'"at":1280', b'"at":1024', (7, insert_at)),
+            (b'"at":1280', b'"at":"ab', (5, insert_at)),
             (b'["1","abc"]', b'["1"]', (8, insert_at)),
         ):
             with self.subTest(old=old, new=new):
@@ -540,25 +544,35 @@ class Damage(Case):
             self.ends(0x200)
 
     def test_another_format(self) -> None:
-        for number, told in ((1, "an earlier version writes"), (3, "a later version writes")):
-            self.file().write_bytes(self.text.replace(b'"feed":2', b'"feed":%d' % number))
+        for number, told in ((2, "an earlier version writes"), (4, "a later version writes")):
+            self.file().write_bytes(self.text.replace(b'"feed":3', b'"feed":%d' % number))
             with self.assertRaisesRegex(
                 Damaged, f"a feed of format {number}, which {told}.* name an empty folder by --feed"
             ):
                 self.ends()
 
-    def test_a_commit_without_definitions(self) -> None:
-        described = self.text[self.text.index(b'{"op":"table"') : self.text.index(b'{"op":"c"')]
-        before, line, after = self.text.rpartition(b'{"end":"0/200"')
-        found = re.search(rb'"bytes":(\d+)', line + after)
-        assert found
-        shorter = (line + after).replace(
-            found[0], b'"bytes":%d' % (int(found[1]) - len(described))
-        )[:255].rstrip().ljust(255) + b"\n"
-        rest = after[256 - len(line) :].replace(described, b"")
-        self.file().write_bytes(before + summed(shorter + rest))
-        with self.assertRaisesRegex(Damaged, "the relation 1 isn't described in this commit"):
-            self.parts()
+    def test_definitions_of_segments(self) -> None:
+        """In each another one stands at the same offset."""
+        self.feed.end()
+        other = table(2, "other")
+        self.feed.commit(0x300, [insert("1", "abc", of=other), insert("1", "abc")])
+        found = [(it.relation.name, it.relation.oid) for it in self.parts()]
+        self.assertEqual(found[-4:], [("other", 2)] * 2 + [("stock", 1)] * 2)
+
+    def test_definitions_of_commits_that_were_passed_over(self) -> None:
+        """They are tested where a change names them."""
+        reader = self.reader(0x100)
+        commit = reader.next()
+        assert commit
+        described, change = reader.parts(commit)
+        assert isinstance(described, TableLine) and isinstance(change, Change)
+        self.assertEqual(described.relation.name, "stock")
+        self.file().write_bytes(self.changed(b'"table":"stock"', b'"table":"stick"'))
+        reader = self.reader(0x100)
+        commit = reader.next()
+        assert commit
+        with self.assertRaisesRegex(Damaged, "the commit that ends at 0/100 isn't as it was"):
+            list(reader.parts(commit))
 
     def test_what_isnt_json_here(self) -> None:
         for content in (b"[" * 100000, b'"\\ud800"', b'"\\uDC00x"', b'"\xff"', b"1e"):

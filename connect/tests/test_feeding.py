@@ -257,7 +257,7 @@ class Followed(Case):
     def test_a_feed_of_an_earlier_version(self) -> None:
         self.follow_once()
         (path,) = (Path(self.feed) / name for _, name in segments(self.feed))
-        text = path.read_bytes().replace(b'{"feed":2,', b'{"feed":1,')
+        text = path.read_bytes().replace(b'{"feed":3,', b'{"feed":2,')
         path.write_bytes(text)
         with self.assertRaises(FilterEnded) as ended:
             self.run_until(self.fed(), lambda: False)

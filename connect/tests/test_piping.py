@@ -24,6 +24,7 @@ import pgsub_feed
 from pgsub_feed import Commit, Damaged, FileError, Insert, Passing, Truncate, Unfit
 from pgsub_feed.column_types import KnownTypes
 from pgsub_feed.errors import Stopped, UsageError
+from pgsub_feed.formats.lines import Told
 from pgsub_feed.interruption import never
 from pgsub_feed.pipe import following
 from pgsub_feed.pipe.following import Address, Remote
@@ -94,8 +95,10 @@ class Pieces(FeedCase):
             commit = reader.next()
             assert commit
             expected = list(reader.parts(commit))
+            ((at, definition),) = reader.definitions(commit)
         about = "ssh://h/feed", 0, False, None, never
         remote = Remote(*about, lambda commit, parts: list(parts), KnownTypes())
+        remote.take_definition(Told().add(at, definition))
         pipes: Any = SimpleNamespace(pieces=pieces)
         self.assertEqual(list(remote.parts(pipes, commit)), expected)
         self.assertLess(sum(added), 1000)
@@ -252,7 +255,7 @@ class Faults(PipeCase):
         said = self.folder / "said"
         for text, error, told in (
             (b"hello\n", Damaged, "no line of a commit"),
-            (b'{"feed":2}\n', Damaged, "no head"),
+            (b'{"feed":3}\n', Damaged, "no head"),
             (b'{"feed":1,"base":"0/0"}\n', Damaged, "a feed of format 1, which an earlier version"),
             (b'{"feed', Passing, "it has ended"),
             (b"x" * (3 << 20), Passing, "a line is too long"),
@@ -271,7 +274,8 @@ class Faults(PipeCase):
         self.feed.commit(0x100, [insert("1", "a"), insert("2", "a")])
         self.feed.commit(0x200, [insert("3", "a")])
         text = self.feed.path.read_bytes()
-        head, commits = text[:1024].rstrip() + b"\n", text[1024:]
+        told = text[1280:].partition(b"\n")[0].replace(b"{", b'{"at":1280,', 1) + b"\n"
+        head, commits = text[:1024].rstrip() + b"\n" + told, text[1024:]
         at = commits.index(b'"3"')
         said.write_bytes(head + commits[:at] + b'"4"' + commits[at + 3 :])
         with mock.patch.dict(os.environ, {"PGSUB_SSH": f"/bin/sh -c 'read it; cat {said}; cat'"}):
@@ -281,6 +285,50 @@ class Faults(PipeCase):
                 Damaged, "reading 9 Checksum: the commit that ends at 0/200"
             ):
                 next(found)
+
+    def test_definitions(self) -> None:
+        """They are told once, and again where another one stands at the same offset."""
+        self.feed.commit(0x100, [insert("1", "a")])
+        self.feed.commit(0x200, [insert("2", "a")])
+        self.feed.end()
+        self.feed.commit(0x300, [insert("3", "a", of=OTHER)])
+        found = [
+            (change.table.name, change.after["id"])
+            for commit in pgsub_feed.read(self.url, 0)
+            for change in commit.changes
+            if isinstance(change, Insert)
+        ]
+        self.assertEqual(found, [("stock", "1"), ("stock", "2"), ("other", "3")])
+        for wrong in (b'{"at":1280}\n', b'{"at":a,"op":"table"}\n', b'{"at":1280,"op":"c"}\n'):
+            said = self.folder / "said"
+            said.write_bytes(self.feed.path.read_bytes()[:1024].rstrip() + b"\n" + wrong)
+            with self.subTest(wrong), mock.patch.dict(
+                os.environ, {"PGSUB_SSH": f"/bin/sh -c 'read it; cat {said}'"}
+            ), self.assertRaisesRegex(Damaged, "this is no definition"):
+                self.read(0)
+
+    def test_many_definitions(self) -> None:
+        """Both sides forget them at once, and none amid a commit."""
+        tables = [table(oid, f"t{oid}") for oid in range(1, 31)]
+        for end in range(1, 6):
+            rows = [insert(str(end), "a", of=it) for it in tables[: 10 * (end % 3 + 1)]]
+            self.feed.commit(0x100 * end, rows)
+        with mock.patch("pgsub_feed.reader.lines.MOST_DEFINITIONS", 12):
+            alone = Reader(str(self.path), 0)
+            wanted = [len(list(alone.parts(it))) for it in iter(alone.next, None)]
+            alone.close()
+        for most in (12, 10000):
+            limit = f"import pgsub_feed.formats.lines as it; it.MOST_DEFINITIONS = {most}; "
+            start = (
+                "import sys; from pgsub_feed import command; sys.exit(command.main(sys.argv[1:]))"
+            )
+            code = f"{limit}{start}"
+            run = f"/bin/sh -c 'exec {sys.executable} -c \"{code}\" --pipe --feed {self.path}'"
+            with mock.patch.dict(os.environ, {**self.environment, "PGSUB_SSH": run}), mock.patch(
+                "pgsub_feed.reader.lines.MOST_DEFINITIONS", most
+            ):
+                found = [len(it.changes) for it in pgsub_feed.read(self.url, 0)]
+            self.assertEqual([2 * it for it in found], wanted)
 
     def test_another_feed_in_its_place(self) -> None:
         """A cut, after which the other side has another one."""
@@ -332,11 +380,12 @@ class Serves(PipeCase):
         mine, theirs = socket.socketpair()
         command = [str(CONNECT / "pgsub-feed"), "--pipe", "--feed", str(self.path)]
         end = theirs.fileno()
-        with mine, theirs, subprocess.Popen(command, stdin=end, stdout=end) as child:
+        with subprocess.Popen(command, stdin=end, stdout=end) as child, mine, theirs:
             theirs.close()
             pipes = Pipes(mine.fileno(), mine.fileno(), lambda: None)
             pipes.put(b"0/0\n")
-            self.assertTrue(pipes.line().startswith(b'{"feed":2'))
+            self.assertTrue(pipes.line().startswith(b'{"feed":3'))
+            self.assertTrue(pipes.line().startswith(b'{"at":1280,"op":"table"'))
             size = json.loads(pipes.line())["bytes"]
             self.assertEqual(sum(map(len, pipes.pieces(size))), size)
             self.assertEqual(pipes.line(), b'{"done":"0/100"}\n')

@@ -2,7 +2,7 @@
 
 | Format | Prints |
 |---|---|
-| `lines` | the feed's own lines |
+| `lines` | the feed's own lines, before each commit with the definitions that its changes name |
 | `objects` | an object for each change, its rows by the names of the columns |
 
 Values are typed by the OID of the type: numbers where JSON has them, but a numeric, of which those
@@ -18,6 +18,7 @@ from typing import Any
 from ..errors import Unfit
 from ..json_texts import compact
 from ..reader.commits import Cell, Change, Commit, Missed, TableLine, Unsent
+from ..reader.lines import MOST_DEFINITIONS
 from ..reader.segments import Reader
 from ..relation import Relation
 from ..tables.floats import printed_float
@@ -97,10 +98,35 @@ class Objects(Selected):
         return bool(value) if kind == BOOL and value is not None else value
 
 
+class Told:
+    """Which definitions somebody was told who hasn't the feed, by the offsets that changes name."""
+
+    def __init__(self) -> None:
+        self.lines: dict[int, bytes] = {}
+
+    def begin(self) -> None:
+        """Begins a commit. Where there are too many, somebody elsewhere has forgotten them, too."""
+        if len(self.lines) >= MOST_DEFINITIONS:
+            self.lines.clear()
+
+    def add(self, at: int, line: bytes) -> bytes:
+        """The line of a definition with its offset, empty where it was told."""
+        if self.lines.get(at) == line:
+            return b""
+        self.lines[at] = line
+        return b'{"at":%d,%b\n' % (at, line[1:])
+
+
 class Lines:
     """The feed's own lines, whole commits."""
 
+    def __init__(self) -> None:
+        self.told = Told()
+
     def print(self, reader: Reader, commit: Commit) -> Iterator[bytes]:
+        self.told.begin()
+        for at, line in reader.definitions(commit):
+            yield self.told.add(at, line)
         yield reader.own_line(commit)
         for lines in reader.raw(commit):
             yield from (line + b"\n" for line in lines)

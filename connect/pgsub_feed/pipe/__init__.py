@@ -10,6 +10,7 @@
 | the feed first | the head of a segment, as in the file, without the blanks |
 | the feed | to who has 0 or nothing, the rows from before the first commit: `{"base":"0/1958B68","end":"0/0","n":0,"rows":2,"bytes":164}` and so many bytes of a definition and rows; `n` rows came before, and `end` isn't 0 where they are the last |
 | the feed | each commit that ends above, as in the file: its line, and as many bytes as that says |
+| the feed | before a commit, each definition that its changes name, unless this reader has it: `{"at":1280,"op":"table",..}`, the line with its offset, in place of another of that offset |
 | the feed | where its file `types` is new, before a commit that it is of: `{"types":1,"bytes":312}` and so many bytes of that file |
 | the feed last | `{"done":"0/1958C10"}` where it doesn't follow, or `{"fault":5,"text":".."}`, an exit status and why |
 

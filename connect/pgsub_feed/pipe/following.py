@@ -139,12 +139,15 @@ class Remote(Generic[Read]):
 
     def received(self, pipes: Pipes) -> Iterator[Read]:
         pipes.put(b"\n" if self.at is None else f"{lsn_text(self.at)}\n".encode())
+        self.decoder.forget()
         while True:
             line = pipes.line()
             if line.startswith(b'{"feed"'):
                 self.check_head(line)
             elif line.startswith(b'{"types"'):
                 self.take_types(pipes, line)
+            elif line.startswith(b'{"at"'):
+                self.take_definition(line)
             elif line.startswith((b'{"done"', b'{"fault"')):
                 self.end(line)
                 return
@@ -176,6 +179,15 @@ class Remote(Generic[Read]):
             self.types.take(b"".join(pipes.pieces(natural(read_object(line)["bytes"]))))
         except (KeyError, ValueError) as error:
             told = f"this says nothing of types: {error}: {shown(line)}"
+            raise errors.Damaged(errors.LINE, self.url, 0, told) from None
+
+    def take_definition(self, line: bytes) -> None:
+        """Takes what changes that follow name by its offset."""
+        try:
+            at, more = line[len(b'{"at":') :].strip().split(b",", 1)
+            self.decoder.tell(int(at), self.decoder.defined(b"{" + more))
+        except (KeyError, TypeError, ValueError):
+            told = f"this is no definition: {shown(line)}"
             raise errors.Damaged(errors.LINE, self.url, 0, told) from None
 
     def commit(self, line: bytes) -> Commit:
@@ -218,7 +230,11 @@ class Remote(Generic[Read]):
 
     def parts(self, pipes: Pipes, commit: Commit) -> Iterator[Part]:
         decoder, told = self.decoder, "the commit's last line has no end where its bytes end"
-        decoder.begin(commit, lambda number, at, what: errors.Damaged(number, self.url, at, what))
+        decoder.begin(
+            commit,
+            lambda number, at, what: errors.Damaged(number, self.url, at, what),
+            lambda at: None,
+        )
         at = commit.bytes
         # (nothing is made of a commit before all of it was read)
         pieces = summed(

@@ -5,10 +5,11 @@ import contextlib
 from ..column_types import FORMAT as TYPES_FORMAT
 from ..column_types import FeedTypes
 from ..errors import Damaged, Failure, Stopped, UsageError
+from ..formats.lines import Told
 from ..interruption import Check
 from ..json_texts import compact
 from ..reader.commits import Commit, Head
-from ..reader.lines import FORMAT, MOST_DEFINITIONS, parsed, read_relation
+from ..reader.lines import DEFINITION, FORMAT, MOST_DEFINITIONS, parsed, read_relation
 from ..reader.polling import Poll
 from ..reader.positions import noted_of
 from ..reader.whole import Whole
@@ -16,8 +17,8 @@ from ..relation import Relation
 from ..texts import lsn_text, parse_lsn
 from .pipes import Cut, Pipes
 
-# The mode of a reader's file, and how the line of a definition begins.
-MODE, DEFINITION = 0o600, b'{"op":"table",'
+# The mode of a reader's file.
+MODE = 0o600
 
 
 def head_line(head: Head) -> bytes:
@@ -43,10 +44,11 @@ class Serving:
         self.reader = Whole(feed, self.at)
         self.poll = Poll(self.reader, follows, self.check)
         self.sent = self.at or 0
-        # what the catalog says, and which of it the reader has; definitions by their lines
+        # what the catalog says, and which of it the reader has; definitions by their lines, and which
+        # of them the reader has
         self.types = FeedTypes(feed, self.check)
         self.given = self.types.text
-        self.definitions = dict[bytes, Relation]()
+        self.definitions, self.told = dict[bytes, Relation](), Told()
 
     def first(self) -> int | None:
         line = self.pipes.line().strip()
@@ -88,7 +90,7 @@ class Serving:
 
     def give(self, commit: Commit) -> None:
         try:
-            self.give_types(commit)
+            self.give_definitions(commit)
             self.sent = commit.end
             self.pipes.put(self.reader.own_line(commit))
             for lines in self.reader.raw(commit):
@@ -98,12 +100,22 @@ class Serving:
             raise Cut(damaged.told()) from None
         self.check()
 
-    def give_types(self, commit: Commit) -> None:
-        """Writes what is new of the catalog, as soon as the commit's tables are known."""
-        for lines in self.reader.raw(commit):
-            for line in lines:
-                if line.startswith(DEFINITION) and (relation := self.defined(line)):
-                    self.types.of(relation, commit)
+    def give_definitions(self, commit: Commit) -> None:
+        """Writes the definitions that the commit names and the reader lacks, and what is new of the
+        catalog."""
+        self.told.begin()
+        for at, line in self.reader.definitions(commit):
+            self.give_types(commit, line)
+            self.pipes.put(self.told.add(at, line))
+        if commit.base is not None:
+            for lines in self.reader.raw(commit):
+                for line in lines:
+                    self.give_types(commit, line)
+
+    def give_types(self, commit: Commit, line: bytes) -> None:
+        """Writes what is new of the catalog, where a line defines a table."""
+        if line.startswith(DEFINITION) and (relation := self.defined(line)):
+            self.types.of(relation, commit)
         if (content := self.types.text) is not self.given:
             self.pipes.put(told(types=TYPES_FORMAT, bytes=len(content)) + content)
             self.given = content

@@ -1,6 +1,7 @@
 """The lines of a feed, read."""
 
 import binascii
+import contextlib
 import functools
 import json
 import re
@@ -13,12 +14,14 @@ from ..relation import Column, Relation, Shape
 from ..texts import parse_lsn
 from .commits import UNSENT, Cells, Change, Closing, Commit, Head, Missed, Part, TableLine, Unsent
 
-FORMAT = 2
+FORMAT = 3
 # How many bytes the head of a segment has, and the line of a commit, or that which closes a
 # segment.
 HEAD_SIZE, COMMIT_SIZE = 1024, 256
-# How many definitions are kept read.
-MOST_DEFINITIONS = 10000
+# How many definitions are kept read, and how the line of one begins.
+MOST_DEFINITIONS, DEFINITION = 10000, b'{"op":"table",'
+# How the line of a change begins, as it is written: it names where its definition stands.
+NAMING = re.compile(rb'\{"op":"\w","oid":\d+,"at":(\d+),')
 # The line of a commit as it is written.
 LSN = rb'"([0-9A-F]{1,8}/[0-9A-F]{1,8})"'
 PLAIN = re.compile(
@@ -208,17 +211,37 @@ def whole_lines(pieces: Iterable[bytes], fault: Callable[[], Damaged]) -> Iterat
         raise fault()
 
 
+def named_by(line: bytes) -> int | None:
+    """The offset that a line names, None where it is no change. (Of one that is spoiled the reader
+    says so.)"""
+    if named := NAMING.match(line):
+        return int(named[1])
+    if line.startswith(DEFINITION):
+        return None
+    with contextlib.suppress(KeyError, TypeError, ValueError):
+        return natural(parsed(line)["at"])
+    return None
+
+
 class Decoder:
-    """Reads the lines of commits."""
+    """Reads the lines of commits. Before the first change of a relation in a commit it gives the
+    definition, wherever that stands."""
 
     def __init__(self) -> None:
-        # definitions by their lines: each commit has those of its relations once more
+        # definitions by their lines, and those of the segment by the offsets that changes name
         self.known: dict[bytes, TableLine] = {}
+        self.places: dict[int, TableLine] = {}
 
-    def begin(self, commit: Commit, fault: Callable[[int, int, str], Damaged]) -> None:
-        """Begins a commit. `fault` makes the error of a number, for the line at an offset of it."""
-        self.commit, self.fault = commit, fault
-        self.described: dict[int, Relation] = {}
+    def begin(
+        self,
+        commit: Commit,
+        fault: Callable[[int, int, str], Damaged],
+        find: Callable[[int], bytes | None],
+    ) -> None:
+        """Begins a commit. `fault` makes the error of a number, for the line at an offset of it;
+        `find` reads the line at an offset of the segment."""
+        self.commit, self.fault, self.find_line = commit, fault, find
+        self.described: dict[int, TableLine] = {}
         self.n = self.offset = 0
 
     def finish(self) -> None:
@@ -228,37 +251,39 @@ class Decoder:
                 self.offset,
                 f"the commit has {self.n} changes, and its line says {self.commit.changes}",
             )
+        # (amid a commit none goes: a reader elsewhere couldn't find it)
+        if len(self.places) >= MOST_DEFINITIONS:
+            self.forget()
 
     def read(self, lines: Sequence[bytes]) -> list[Part]:
         """What the next lines say, which have lost their ends."""
-        # (definitions come again and again)
-        tables, parts = [*map(self.known.get, lines)], list[Part]()
-        objects = self.objects(lines, tables)
-        for line, table in zip(lines, tables, strict=True):
-            if table:
-                self.described[table.relation.oid] = table.relation
-                parts.append(table)
-            else:
-                try:
-                    parts.append(self.part(line, next(objects)))
-                except (ValueError, KeyError, TypeError):
-                    raise self.fault(
-                        LINE, self.offset, f"this is no line of a commit: {shown(line)}"
-                    ) from None
+        parts, described = list[Part](), self.described
+        for line, found in zip(lines, self.objects(lines), strict=True):
+            try:
+                is_table = found["op"] == "table"
+                table = self.table(line, found) if is_table else self.table_of(found)
+                oid = table.relation.oid
+                if described.get(oid) is not table:
+                    described[oid] = table
+                    parts.append(table)
+                if not is_table:
+                    parts.append(self.change(table.relation, found))
+            except (ValueError, KeyError, TypeError):
+                raise self.fault(
+                    LINE, self.offset, f"this is no line of a commit: {shown(line)}"
+                ) from None
             self.offset += len(line) + 1
         return parts
 
-    def objects(self, lines: Sequence[bytes], tables: Sequence[TableLine | None]) -> Iterator[Any]:
-        """The objects of the lines that are no definitions known by now."""
-        rest = [line for line, table in zip(lines, tables, strict=True) if not table]
+    def objects(self, lines: Sequence[bytes]) -> list[Any]:
         try:
             # (no line has one in it: those of a text are escaped)
-            objects: list[Any] = parsed(b"[" + b",".join(rest) + b"]")
-            if len(objects) != len(rest):
+            objects: list[Any] = parsed(b"[" + b",".join(lines) + b"]")
+            if len(objects) != len(lines):
                 raise ValueError
         except ValueError:
             self.find(lines)
-        return iter(objects)
+        return objects
 
     def find(self, lines: Sequence[bytes]) -> NoReturn:
         """Raises for the first line that is no JSON."""
@@ -270,18 +295,40 @@ class Decoder:
             self.offset += len(line) + 1
         raise self.fault(LINE, self.offset, f"this is no line of a commit: {shown(line)}")
 
-    def part(self, line: bytes, found: dict[str, Any]) -> Part:
-        op = found["op"]
-        if op == "table":
-            return self.table(line, found)
-        relation = self.described.get(found["oid"])
-        if relation is None:
+    def table_of(self, found: dict[str, Any]) -> TableLine:
+        """The definition of a change."""
+        at = found["at"]
+        table = self.places.get(at) or self.read_table(natural(at))
+        if table is None or table.relation.oid != found["oid"]:
             raise self.fault(
                 UNDESCRIBED,
                 self.offset,
-                f"the relation {found['oid']} isn't described in this commit",
+                f"no definition of the relation {found['oid']} stands at {at}, where the change says so",
             )
-        n, told = self.n, found["n"]
+        return table
+
+    def read_table(self, at: int) -> TableLine | None:
+        """The definition at an offset of the segment, None where there is none."""
+        line = self.find_line(at)
+        if line is None or not line.startswith(DEFINITION):
+            return None
+        table = self.defined(line)
+        self.tell(at, table)
+        return table
+
+    def defined(self, line: bytes) -> TableLine:
+        return self.table(line, parsed(line))
+
+    def tell(self, at: int, table: TableLine) -> None:
+        """Says which definition stands at an offset of the segment."""
+        self.places[at] = table
+
+    def forget(self) -> None:
+        """Goes on in another segment."""
+        self.places.clear()
+
+    def change(self, relation: Relation, found: dict[str, Any]) -> Change | Missed:
+        op, n, told = found["op"], self.n, found["n"]
         if told != n or type(told) is not int:
             number(told)
             raise self.fault(
@@ -312,7 +359,6 @@ class Decoder:
             if len(self.known) >= MOST_DEFINITIONS:
                 self.known.clear()
             self.known[line] = table
-        self.described[table.relation.oid] = table.relation
         return table
 
     def refuse(self, row: Any, width: int) -> NoReturn:

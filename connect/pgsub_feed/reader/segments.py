@@ -3,14 +3,15 @@
 A segment's name is its base, in 16 hexadecimal digits. A reader has an LSN of its own: it passes
 over the commits that don't end above it, and the first that it takes must be the one after it. A
 commit whose bytes aren't all there yet is waited for; none is passed on whose bytes don't have the
-checksum that its line tells. Where the feed was written anew from some commit on, the reader goes
-on from its LSN.
+checksum that its line tells, nor one whose changes name a definition in such a commit. Where the
+feed was written anew from some commit on, the reader goes on from its LSN.
 
 A crash may cut off what isn't confirmed. The server sends its commits again, each with the same
 end; but the connector's own, of rows that are added or repaired, end at an LSN that doesn't come
 again. So these are taken once they are confirmed.
 """
 
+import bisect
 import contextlib
 import os
 from collections.abc import Iterable, Iterator
@@ -23,6 +24,7 @@ from .lines import (
     COMMIT_SIZE,
     HEAD_SIZE,
     Decoder,
+    named_by,
     no_head,
     read_commit,
     read_head,
@@ -32,6 +34,9 @@ from .lines import (
 )
 
 CHUNK = 1 << 20
+# How many bytes are read for the line of a definition, at first and at most: 1,600 columns with names
+# of 63 characters, of which each may be written as six.
+TABLE_SIZES = 1 << 13, 1 << 20
 
 
 class Segment:
@@ -105,6 +110,22 @@ class Segment:
             offset += len(piece)
             yield piece
 
+    def line(self, offset: int) -> bytes | None:
+        """The line at an offset without its end, None where it has none."""
+        for size in TABLE_SIZES:
+            line, end, _ = self.read(offset, size).partition(b"\n")
+            if end:
+                return line
+        return None
+
+    def starts(self, end: int) -> list[int]:
+        """Where the commits begin up to an offset, where one does."""
+        starts, offset = list[int](), HEAD_SIZE
+        while offset < end and isinstance(commit := self.commit(offset), Commit):
+            starts.append(offset)
+            offset += COMMIT_SIZE + commit.bytes
+        return starts
+
     def is_there(self) -> bool:
         """Whether the name is still that of the open file."""
         try:
@@ -141,6 +162,8 @@ class Reader:
         self.offset = self.last = 0
         # where the lines of the commit begin that was taken last, and its bytes, unless there are many
         self.body, self.kept = 0, list[bytes]()
+        # from where on the commits of the segment were tested, and where those before that begin
+        self.tested, self.untested = 0, list[int]()
 
     def cursor(self) -> Cursor | None:
         """Where it is: after the commit that was taken last, None where there is no segment yet."""
@@ -160,6 +183,7 @@ class Reader:
                     f"{self.folder}: the segment that begins at {lsn_text(cursor.segment)} is gone"
                 )
         self.offset, self.last, self.at = cursor.offset, cursor.at, cursor.at
+        self.tested, self.untested = 0, []
 
     def go_back(self, at: int) -> None:
         """Goes back to an LSN, where a commit ends."""
@@ -221,6 +245,7 @@ class Reader:
         body = self.offset + COMMIT_SIZE
         # (those below the LSN are passed over, whatever they have)
         kept = segment.check(commit, body) if commit.end > at else []
+        self.tested = (self.tested or self.offset) if commit.end > at else 0
         self.body, self.kept = body, kept
         self.offset, self.last = body + commit.bytes, commit.end
         if commit.end <= at:
@@ -255,6 +280,8 @@ class Reader:
         self.close()
         self.segment, self.head = segment, segment.head
         self.offset, self.last = HEAD_SIZE, base
+        self.tested, self.untested = 0, []
+        self.decoder.forget()
         return segment
 
     def go_on(self, segment: Segment, closing: Closing | None) -> bool:
@@ -309,13 +336,39 @@ class Reader:
                 return (lines,)
         return segment.lines(self.kept or segment.pieces(self.body, end), end)
 
+    def line_at(self, at: int) -> bytes | None:
+        """The line at an offset of the segment, in the commit that was taken last or before it."""
+        assert self.segment
+        if not HEAD_SIZE <= at < self.offset:
+            return None
+        if at < self.tested:
+            self.test(self.segment, at)
+        return self.segment.line(at)
+
+    def test(self, segment: Segment, at: int) -> None:
+        """Tests the commit that has an offset: one that was passed over."""
+        self.untested = self.untested or segment.starts(self.tested)
+        start = self.untested[bisect.bisect(self.untested, at) - 1]
+        if isinstance(commit := segment.commit(start), Commit):
+            segment.check(commit, start + COMMIT_SIZE)
+
+    def definitions(self, commit: Commit) -> Iterator[tuple[int, bytes]]:
+        """The offsets that the changes of the commit name which was taken last, each with the line
+        that stands there."""
+        named = dict.fromkeys(named_by(it) for lines in self.raw(commit) for it in lines)
+        for at in named:
+            if at is not None and (line := self.line_at(at)) is not None:
+                yield at, line
+
     def parts(self, commit: Commit) -> Iterator[Part]:
         """What the commit that was taken last has, in order."""
         assert self.segment
         segment, path, body = self.segment, self.segment.path, self.body
         decoder = self.decoder
         decoder.begin(
-            commit, lambda number, offset, what: Damaged(number, path, body + offset, what)
+            commit,
+            lambda number, offset, what: Damaged(number, path, body + offset, what),
+            self.line_at,
         )
         for lines in self.lines(segment, commit):
             yield from decoder.read(lines)

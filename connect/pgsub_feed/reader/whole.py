@@ -126,6 +126,9 @@ class Whole(Reader):
         assert self.sections
         return iter([list(self.sections.lines())])
 
+    def definitions(self, commit: Commit) -> Iterator[tuple[int, bytes]]:
+        return super().definitions(commit) if commit.base is None else iter(())
+
     def close(self) -> None:
         super().close()
         if not self.at:
