@@ -12,6 +12,7 @@ from feed_text import (
     SEGMENT_SIZE,
     About,
     Line,
+    Told,
     closing_line,
     entry_text,
     segment_head,
@@ -55,14 +56,22 @@ class Segment:
     to there."""
 
     def __init__(self, head: bytes) -> None:
-        self.text, self.ends = head, dict[int, int]()
+        self.text, self.ends, self.told = head, dict[int, int](), Told()
+
+    def entry(
+        self, at: int, end: int, lines: Sequence[Line], about: About | None, told: Told
+    ) -> bytes:
+        """The text of a commit here. What it tells is told then."""
+        return entry_text(at, end, lines, about, told, len(self.text))
 
     def add(self, end: int, text: bytes) -> None:
         self.text += text
         self.ends[end] = len(self.text)
 
     def cut(self, end: int) -> None:
-        """Takes away all behind the commit that ends there, or where it begins there, its head."""
+        """Takes away all behind the commit that ends there, or where it begins there, its head. From
+        now on definitions are told anew."""
+        self.told = Told()
         self.text = self.text[: self.ends.get(end, SEGMENT_SIZE)]
         self.ends = {it: length for it, length in self.ends.items() if it <= end}
 
@@ -112,11 +121,15 @@ class Folder:
         self.last().text += closing_line(self.at)
 
     def commit(self, end: int, lines: Sequence[Line] = (), about: About | None = None) -> None:
-        text = entry_text(self.at, end, lines, about)
+        told = self.last().told.copy()
+        text = self.last().entry(self.at, end, lines, about, told)
         if self.is_full(len(text)) or self.is_late(about):
             self.end()
             self.begin()
+            told = Told()
+            text = self.last().entry(self.at, end, lines, about, told)
         self.last().add(end, text)
+        self.last().told = told
         self.at = end
         if self.first is None and about:
             self.first = about.time

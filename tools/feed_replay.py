@@ -108,8 +108,32 @@ class Replay:
         self.at, self.changes = end, self.changes + n
 
 
+def told_lines(text: bytes, start: int, body: bytes) -> bytes:
+    """The lines of a commit, which begin at an offset of the segment, with the definitions that they
+    name before them."""
+    lines, told, offset = list[bytes](), dict[int, bytes](), start
+    for line in body.splitlines(keepends=True):
+        it = definition = json.loads(line)
+        named = line
+        if it["op"] != "table":
+            at = it["at"]
+            need(HEAD + COMMIT <= at < offset, f"a definition isn't before its change: {it}")
+            named = text[at : text.index(b"\n", at) + 1]
+            definition = json.loads(named)
+            is_its = definition["op"] == "table" and definition["oid"] == it["oid"]
+            need(is_its and text[at - 1 : at] == b"\n", f"no definition stands at {at}: {it}")
+        if told.get(definition["oid"]) != named:
+            told[definition["oid"]] = named
+            lines.append(named)
+        if it["op"] != "table":
+            lines.append(line)
+        offset += len(line)
+    return b"".join(lines)
+
+
 def commits(path: Path) -> Iterator[tuple[dict[str, Any], bytes]]:
-    """The commits of a segment, with their lines. What isn't all there is left."""
+    """The commits of a segment, with their lines and the definitions that these name. What isn't all
+    there is left."""
     text = path.read_bytes()
     at, last = HEAD, lsn_of(json.loads(text[:HEAD])["base"])
     need(last == int(path.name, 16), f"{path}: another base")
@@ -124,7 +148,7 @@ def commits(path: Path) -> Iterator[tuple[dict[str, Any], bytes]]:
             return
         crc = zlib.crc32(line[: line.index(b',"crc":')] + body)
         need(crc == commit["crc"], f"{path}: {commit['end']} has the checksum {crc}")
-        yield commit, body
+        yield commit, told_lines(text, at + COMMIT, body)
         at, last = at + COMMIT + len(body), lsn_of(commit["end"])
 
 

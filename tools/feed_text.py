@@ -92,7 +92,7 @@ def segment_name(base: int) -> str:
 
 def segment_head(base: int, system: str, database: str, slot: str) -> bytes:
     what = f'"system":{compact(system)},"database":{compact(database)},"slot":{compact(slot)}'
-    return padded(SEGMENT_SIZE, f'{{"feed":2,"base":"{lsn_text(base)}",{what}}}')
+    return padded(SEGMENT_SIZE, f'{{"feed":3,"base":"{lsn_text(base)}",{what}}}')
 
 
 def closing_line(end: int) -> bytes:
@@ -141,8 +141,8 @@ def table_line(it: Definition) -> bytes:
     return f'{{"op":"table","oid":{it.oid},{named},"key":{compact(key)},"columns":{compact(columns)}}}\n'.encode()
 
 
-def change_line(n: int, it: Line) -> bytes:
-    front = f'{{"op":"{it.op}","oid":{it.definition.oid},"n":{n},'
+def change_line(at: int, n: int, it: Line) -> bytes:
+    front = f'{{"op":"{it.op}","oid":{it.definition.oid},"at":{at},"n":{n},'
     if it.op == "x":
         old = None if it.kind is None else [it.kind, [cell_value(cell) for cell in it.before or ()]]
         sent = "d" if it.after is None else "u"
@@ -152,21 +152,35 @@ def change_line(n: int, it: Line) -> bytes:
     return f'{front}"before":{row_text(it.before)},"after":{row_text(it.after)}}}\n'.encode()
 
 
-def body_text(lines: Sequence[Line]) -> bytes:
-    """The lines of a commit: before the first change of a relation its definition, and once more
-    where that changes."""
-    told = dict[int, Definition]()
-    parts = []
+# The definition of each relation that a segment told last, and at which offset its line begins.
+Told = dict[int, tuple[Definition, int]]
+
+
+def body_text(lines: Sequence[Line], told: Told, start: int) -> bytes:
+    """The lines of a commit, which begin at an offset of the segment: before a change its definition,
+    unless it is told. What they tell is told then."""
+    body = b""
     for n, line in enumerate(lines):
-        if told.get(line.definition.oid) != line.definition:
-            told[line.definition.oid] = line.definition
-            parts.append(table_line(line.definition))
-        parts.append(change_line(n, line))
-    return b"".join(parts)
+        definition = line.definition
+        known, at = told.get(definition.oid, (None, 0))
+        if known != definition:
+            at = start + len(body)
+            told[definition.oid] = definition, at
+            body += table_line(definition)
+        body += change_line(at, n, line)
+    return body
 
 
-def entry_text(prev: int, end: int, lines: Sequence[Line], about: About | None = None) -> bytes:
-    body = body_text(lines)
+def entry_text(
+    prev: int,
+    end: int,
+    lines: Sequence[Line],
+    about: About | None = None,
+    told: Told | None = None,
+    size: int = SEGMENT_SIZE,
+) -> bytes:
+    """The text of a commit behind so many bytes of a segment, which has told these definitions."""
+    body = body_text(lines, {} if told is None else told, size + COMMIT_SIZE)
     return commit_line(end, prev, body, len(lines), about) + body
 
 
@@ -189,6 +203,7 @@ class Writer:
         self.path, new = self.folder / segment_name(self.at), self.folder / NEW_NAME
         self.size = new.write_bytes(segment_head(self.at, *self.named))
         self.is_empty = True
+        self.told: Told = {}
         new.replace(self.path)
 
     def put(self, text: bytes) -> None:
@@ -198,10 +213,13 @@ class Writer:
 
     def text(self, end: int, lines: Sequence[Line], about: About | None = None) -> bytes:
         """Makes room for a commit; its text, which is to be put next."""
-        text = entry_text(self.at, end, lines, about)
+        told = self.told.copy()
+        text = entry_text(self.at, end, lines, about, told, self.size)
         if not self.is_empty and self.size + len(text) > self.most:
             self.end()
-        self.at, self.is_empty = end, False
+            told = self.told.copy()
+            text = entry_text(self.at, end, lines, about, told, self.size)
+        self.at, self.is_empty, self.told = end, False, told
         return text
 
     def commit(self, end: int, lines: Sequence[Line] = (), about: About | None = None) -> None:

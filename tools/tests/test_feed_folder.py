@@ -24,7 +24,13 @@ SECOND = (0x230, [Line(STOCK, "x", ["B", None], None, "K")], About(0x200, 741, 2
 THIRD = (0x330, list[Line](), About(0x300, 742, 3_000_000))
 COMMITS = (FIRST, SECOND, THIRD)
 HEAD = segment_head(0, "7", "shop", "pgsub")
-TEXTS = [entry_text(prev, *commit) for prev, commit in zip((0, 0x130, 0x230), COMMITS)]
+# the text of each where it is the first in a segment
+ALONE = [entry_text(prev, *commit) for prev, commit in zip((0, 0x130, 0x230), COMMITS)]
+# the second behind the first, where its definition is told, and where it isn't
+SIZE = len(HEAD + ALONE[0])
+TOLD = entry_text(0x130, *SECOND, {STOCK.oid: (STOCK, 1280)}, SIZE)
+AGAIN = entry_text(0x130, *SECOND, {}, SIZE)
+TEXTS = [ALONE[0], TOLD, ALONE[2]]
 
 
 def one(base: int, *texts: bytes, ends: int | None = None) -> dict[str, bytes]:
@@ -64,7 +70,7 @@ class Case(unittest.TestCase):
     def test_a_segment_for_each_commit(self) -> None:
         self.run_once(0, *COMMITS, segment_bytes=0)
         self.check(
-            one(0, TEXTS[0], ends=0x130), one(0x130, TEXTS[1], ends=0x230), one(0x230, TEXTS[2])
+            one(0, TEXTS[0], ends=0x130), one(0x130, ALONE[1], ends=0x230), one(0x230, TEXTS[2])
         )
 
     def test_bytes_of_a_segment(self) -> None:
@@ -73,7 +79,7 @@ class Case(unittest.TestCase):
         self.check(one(0, *TEXTS[:2], ends=0x230), one(0x230, TEXTS[2]))
         self.setUp()
         self.run_once(0, *COMMITS, segment_bytes=length - 1)
-        self.check(one(0, TEXTS[0], ends=0x130), one(0x130, *TEXTS[1:]))
+        self.check(one(0, TEXTS[0], ends=0x130), one(0x130, *ALONE[1:]))
 
     def test_age_of_a_segment(self) -> None:
         self.run_once(0, *COMMITS, segment_seconds=2)
@@ -82,18 +88,18 @@ class Case(unittest.TestCase):
         self.setUp()
         self.run_once(0, FIRST, segment_seconds=2)
         self.run_once(0x130, SECOND, THIRD, segment_seconds=2)
-        self.check(one(0, *TEXTS))
+        self.check(one(0, TEXTS[0], AGAIN, TEXTS[2]))
 
     def test_runs_go_on(self) -> None:
         self.run_once(0, FIRST)
         self.run_once(0x130)
         self.check(one(0, TEXTS[0]))
         self.run_once(0x130, SECOND, segment_bytes=1)
-        self.check(one(0, TEXTS[0], ends=0x130), one(0x130, TEXTS[1]))
+        self.check(one(0, TEXTS[0], ends=0x130), one(0x130, ALONE[1]))
 
     def test_it_begins_where_the_store_is(self) -> None:
         self.run_once(0x130, SECOND)
-        self.check(one(0x130, TEXTS[1]))
+        self.check(one(0x130, ALONE[1]))
 
     def test_what_the_store_lacks_goes(self) -> None:
         self.run_once(0, *COMMITS)
@@ -108,13 +114,13 @@ class Case(unittest.TestCase):
         self.run_once(0x130)
         self.check(one(0, TEXTS[0], ends=0x130), one(0x130))
         self.run_once(0x130, SECOND)
-        self.check(one(0, TEXTS[0], ends=0x130), one(0x130, TEXTS[1]))
+        self.check(one(0, TEXTS[0], ends=0x130), one(0x130, ALONE[1]))
 
     def test_a_segment_that_had_ended(self) -> None:
         self.run_once(0, FIRST, SECOND)
         self.run_once(0x230, THIRD, segment_bytes=1)
         self.run_once(0x130, SECOND)
-        self.check(one(0, *TEXTS[:2]))
+        self.check(one(0, TEXTS[0], AGAIN))
 
     def refuses(self, position: int, asked: Asked, told: str) -> None:
         before = self.folder.files()
@@ -173,11 +179,11 @@ class Differences(unittest.TestCase):
         self.check(
             '"before":["A","5"]',
             '"before":["A","4"]',
-            r'line 5 from byte 43: .*"before":\["A","4"\],',
+            r'line 5 from byte 53: .*"before":\["A","4"\],',
         )
         self.check('"after":["A","4"]', '"after":["A","5"]', r'line 5 .*"after":\["A","5"\]}')
         self.check('"before":null,"after":["A","5"]', '"before":["A","5"],"after":null', "line 4 ")
-        self.check('["K",["B",null]]', '["O",["B",null]]', r'line 8 .*"old":\["O",\["B",null\]\]')
+        self.check('["K",["B",null]]', '["O",["B",null]]', r'line 7 .*"old":\["O",\["B",null\]\]')
         self.check('"n":1', '"n":0', 'line 5 .*"n":0')
 
     def test_of_a_definition(self) -> None:
@@ -189,7 +195,7 @@ class Differences(unittest.TestCase):
         self.check(
             '{"last":"0/230"}',
             '{"last":"0/130"}',
-            'line 9 from byte 11: {"last":"0/130"}\n   and not {"last":"0/230"}',
+            'line 8 from byte 11: {"last":"0/130"}\n   and not {"last":"0/230"}',
         )
 
     def found(self, text: bytes, told: str) -> None:
@@ -213,12 +219,12 @@ class Differences(unittest.TestCase):
             HEAD + TEXTS[0] + closing_line(0x230),
             'line 6 from byte 2: {"last".*\n   and not {"end":"0/230"',
         )
-        self.found(HEAD + b"".join(TEXTS[:2]), 'line 9 from byte 0: nothing\n   and not {"last"')
+        self.found(HEAD + b"".join(TEXTS[:2]), 'line 8 from byte 0: nothing\n   and not {"last"')
 
     def test_something_more(self) -> None:
         self.found(
             self.wanted[self.name] + TEXTS[2],
-            'line 10 from byte 0: {"end":"0/330".*\n   and not nothing',
+            'line 9 from byte 0: {"end":"0/330".*\n   and not nothing',
         )
         self.found(self.wanted[self.name] + b"\n", r"^0{16}, \d+ bytes and not \d+$")
         self.found(self.wanted[self.name][:-1], r"^0{16}, \d+ bytes and not \d+$")

@@ -204,7 +204,14 @@ class OfTables(unittest.TestCase):
         definition = self.replayed("1").definitions[1]
         text = json.dumps({"base": "0/100"}).ljust(1023) + "\n"
         for at, b in ((0x200, "2"), (0x300, "3")):
-            change = {"op": "c", "oid": 1, "n": 0, "before": None, "after": ["1", b]}
+            change = {
+                "op": "c",
+                "oid": 1,
+                "at": len(text) + 256,
+                "n": 0,
+                "before": None,
+                "after": ["1", b],
+            }
             lines = "".join(json.dumps(it) + "\n" for it in ({"op": "table", **definition}, change))
             commit = {"end": f"0/{at:X}", "prev": f"0/{at - 0x100:X}", "changes": 1}
             line = compact({**commit, "bytes": len(lines), "crc": 0}).ljust(255) + "\n"

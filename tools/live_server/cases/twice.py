@@ -19,8 +19,8 @@ from ..load import SCHEMA, Mix, Mixed
 from ..place import OK, Place
 from .case import Case
 
-# Of a commit: its line without where the one before it ends and the number of its bytes, its
-# changes, and its definitions.
+# Of a commit: its line without where the one before it ends, the number of its bytes and their
+# checksum, its changes, and its definitions.
 Told = Tuple[Any, Any, Any]
 
 
@@ -32,7 +32,10 @@ def told(feed: Path) -> Iterator[Told]:
             lines = [json.loads(it) for it in body.splitlines()]
             if not commit["changes"]:
                 continue
-            del commit["bytes"], commit["prev"]
+            del commit["bytes"], commit["prev"], commit["crc"]
+            for it in lines:
+                # (where a definition stands depends on what else the segment has)
+                it.pop("at", None)
             yield commit, [it for it in lines if it["op"] != "table"], [
                 it for it in lines if it["op"] == "table"
             ]
