@@ -171,7 +171,9 @@ class FollowingCase(FeedCase):
                 return
             os.truncate(self.feed.path, size)
             self.feed.size = size
-        self.feed.put(entry_text(prev, end, lines))
+        # (as of a program that was started anew, which has told nothing)
+        self.feed.told = {}
+        self.feed.put(entry_text(prev, end, lines, None, self.feed.told, size))
 
 
 class Following(FollowingCase):

@@ -262,7 +262,7 @@ class Followed(Case):
         with self.assertRaises(FilterEnded) as ended:
             self.run_until(self.fed(), lambda: False)
         self.assertEqual(ended.exception.status, 3)
-        told = "a feed of format 1, which an earlier version writes"
+        told = "a feed of format 2, which an earlier version writes"
         self.assertTrue(any(told in it and "--without-feed" in it for it in self.said), self.said)
         self.assertEqual(path.read_bytes(), text)
 
