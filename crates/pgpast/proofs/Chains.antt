@@ -6,7 +6,7 @@ use Rattle.std.proofs.lemmas.List.{map-append, take_more}
 use Rattle.pgrepeats.specs.declared.commit.Commit.{Commit}
 use Rattle.pgrepeats.specs.declared.past.Answer.{Answer}
 use Rattle.pgrepeats.specs.declared.past.Past.{Past}
-use Rattle.std.specs.Prelude.{Ok, Some, slice_get, unwrap_or, Option}
+use Rattle.std.specs.Prelude.{None, Ok, Some, slice_get, unwrap_or, Option}
 use Rattle.pgrepeats.specs.Past.{Answers}
 use Rattle.pgpast.specs.declared.record.Record.{Record}
 use Rattle.pgpast.specs.Loaded.{AreLinked, Follows, HearsAll, IsAt, IsChain, MayFollow}
@@ -40,6 +40,18 @@ may_follow (s ∷ []) last older e f = subst (Follows older) (ap (λ (o : Option
 may_follow (s ∷ (t ∷ rs)) last older e f =
     let next : length (s ∷ (t ∷ rs)) - 1 ≡ suc (length (t ∷ rs) - 1) = omega arith in
     may_follow (t ∷ rs) last older (e ∙ ap (slice_get (s ∷ (t ∷ rs))) next) f
+
+-- and only then
+pub follows_last : (rs : List Record) (last older : Record) → Some last ≡ slice_get rs (length rs - 1) → MayFollow rs older
+    → Follows older last
+follows_last [] last older e may = absurd (none_there e)
+  where
+    none_there : Some last ≡ slice_get [] 0 → ⊥
+    none_there e = let bad : Some last ≡ None = e in cc
+follows_last (s ∷ []) last older e may = subst (Follows older) (sym (ap (λ (o : Option Record). unwrap_or o last) e)) may
+follows_last (s ∷ (t ∷ rs)) last older e may =
+    let next : length (s ∷ (t ∷ rs)) - 1 ≡ suc (length (t ∷ rs) - 1) = omega arith in
+    follows_last (t ∷ rs) last older (e ∙ ap (slice_get (s ∷ (t ∷ rs))) next) may
 
 abbrev pub commits_of : List Record → List Commit
 commits_of rs = map (λ (r : Record). r.commit) rs

@@ -2,3 +2,4 @@ pub mod Fields
 pub mod Chains
 pub mod Handings
 pub mod Keeping
+mod Slots

@@ -6,15 +6,18 @@ use Rattle.pgrepeats.specs.declared.commit.Commit.{Commit}
 use Rattle.pgrepeats.specs.declared.past.Past.{Past}
 use Rattle.pgpast.specs.declared.record.Record.{Record}
 use Rattle.pgpast.specs.Records.{IsRecord, encoded, written}
-use Rattle.pgpast.specs.Loaded.{IsChain, IsPastOf, newest_crc}
+use Rattle.pgpast.specs.Loaded.{AreUpTo, AreWhole, IsChain, IsPastOf, newest_crc}
 
 abbrev pub head : List ℕ
 head = codes "pgsub repeats 1\n"
 
--- the past has heard the commits of the file's newest chain
+-- The past has heard the commits of the file's newest chain: of the record that ends last, and of
+-- all that were noted one behind the other up to it.
 pub record IsLoaded (bytes : List ℕ) (p : Past) (newest : ℕ) : Type 0 where
   pub records : List Record
   pub chain : IsChain bytes (reverse records)
+  pub last : AreUpTo bytes (reverse records)
+  pub whole : AreWhole bytes (reverse records)
   pub newest_is : newest ≡ newest_crc (reverse records)
   pub past : IsPastOf records p
 

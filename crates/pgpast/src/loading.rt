@@ -4,8 +4,10 @@ ghost use Rattle.std.specs.Prelude.{◌≡◌, ◌≤◌, ◌<◌, ◌+◌, ◌*
 ghost use Rattle.std.specs.Prelude.{IfOk, IfSome, IsTrue, OnOk, Some, None, Ok, true};
 ghost use Rattle.pgrepeats.specs.Past.{Answers};
 ghost use Rattle.pgrepeats.specs.declared.past.Answer.{Answer};
-ghost use Rattle.pgpast.specs.Loaded.{Follows, IsAt, IsChain, IsPastOf, MayFollow, newest_crc};
-ghost use Rattle.pgpast.specs.Loaded.{slots_of};
+ghost use Rattle.pgpast.specs.Loaded.{AreUpTo, AreWhole, Follows, IsAt, IsChain, IsFirstOf, IsLast};
+ghost use Rattle.pgpast.specs.Loaded.{IsNone, IsPastOf, IsWhole, MayFollow, later, newest_crc};
+ghost use Rattle.pgpast.specs.Loaded.{slot_under, slots_of};
+ghost use Rattle.pgpast.specs.Records.{IsFit};
 
 use crate::fault::NotesFault;
 use crate::record::{RECORD_LEN, Record};
@@ -53,6 +55,7 @@ fn count_of(bytes: &[u8]) -> usize
 fn record_at(bytes: &[u8], slot: usize) -> Option<Record>
     requires { 16 + slot * 48 + 48 ≤ length bytes.now }
     ensures some { IfSome result (IsAt bytes.now slot) }
+    ensures fit { IfSome result IsFit }
     ensures none { result ≡ None → (r : Record) → IsAt bytes.now slot r → ⊥ }
 {
     let from = HEAD_LEN + slot * RECORD_LEN;
@@ -62,8 +65,8 @@ fn record_at(bytes: &[u8], slot: usize) -> Option<Record>
 /// What is found in all slots.
 #[derive(Clone, Copy, Debug)]
 struct Survey {
-    /// The slot of the record whose commit ends last, and where.
-    newest: Option<(usize, u64)>,
+    /// The slot of the record whose commit ends last, and that record.
+    newest: Option<(usize, Record)>,
     /// How many can't be read.
     unreadable: u64,
 }
@@ -71,28 +74,33 @@ struct Survey {
 impl Survey {
     // Of the slots of these bytes.
     fn of(bytes: &[u8]) -> Survey
-        ensures { IfSome result.newest (λ it. it.0 < slots_of bytes.now) }
+        ensures some { IfSome result.newest (λ it. (it.0 < slots_of bytes.now)
+            × IsAt bytes.now it.0 it.1) }
+        ensures last { IsLast bytes.now (slots_of bytes.now) result.newest }
     {
         let mut survey = Survey {
             newest: None,
             unreadable: 0,
         };
-        for slot in 0..count_of(bytes) {
+        let count = count_of(bytes);
+        let mut slot = 0;
+        while slot < count {
             match record_at(bytes, slot) {
-                Some(record) => survey.see(slot, record.commit.end),
+                Some(record) => survey.see(slot, record),
                 None => survey.unreadable = survey.unreadable.saturating_add(1),
             }
+            slot += 1;
         }
         survey
     }
 
     // A record in a slot.
-    fn see(&mut self, slot: usize, end: u64)
-        ensures { (self.new.newest ≡ self.old.newest) ⊎ (self.new.newest ≡ Some (slot, end)) }
+    fn see(&mut self, slot: usize, seen: Record)
+        ensures { self.new.newest ≡ later self.old.newest slot seen }
     {
         match self.newest {
-            Some((_, last)) if end <= last => {}
-            _ => self.newest = Some((slot, end)),
+            Some((_, last)) if seen.commit.end <= last.commit.end => {}
+            _ => self.newest = Some((slot, seen)),
         }
     }
 }
@@ -116,14 +124,15 @@ pub(crate) fn slot_behind(slot: usize) -> usize
 // The slot before this one in a ring of so many.
 fn slot_before(slot: usize, count: usize) -> usize
     requires { slot < count }
-    ensures { result < count }
+    ensures below { result < count }
+    ensures is { result ≡ slot_under count slot }
 {
     if slot == 0 { count - 1 } else { slot - 1 }
 }
 
 // Whether a record may be added to a chain: it is the first, or the last one was noted behind it.
 fn goes_on(chain: &Vec<Record>, older: &Record) -> bool
-    ensures { result ≡ true → MayFollow chain.now.items older.now }
+    ensures { IsTrue result ↔ MayFollow chain.now.items older.now }
 {
     match chain.last() {
         Some(last) => follows(older, last),
@@ -131,23 +140,43 @@ fn goes_on(chain: &Vec<Record>, older: &Record) -> bool
     }
 }
 
-// The records that were noted one behind the other, from the one in this slot down.
-fn chain_from(alloc: Global, bytes: &[u8], newest: usize) -> Result<Vec<Record>, AllocError>
-    requires { newest < slots_of bytes.now }
-    ensures { IfOk result (λ it. IsChain bytes.now it.items) }
+// The record in a slot, if it may be added to a chain.
+#[tactic(auto, using(crate::proofs::Slots::none_goes))]
+fn next_in(bytes: &[u8], slot: usize, chain: &Vec<Record>) -> Option<Record>
+    requires { slot < slots_of bytes.now }
+    ensures some { IfSome result (λ it. IsAt bytes.now slot it × MayFollow chain.now.items it) }
+    ensures none { result ≡ None → IsNone bytes.now slot chain.now.items }
+{
+    let record = record_at(bytes, slot)?;
+    if goes_on(chain, &record) {
+        Some(record)
+    } else {
+        None
+    }
+}
+
+// The records that were noted one behind the other, from this one in this slot down.
+fn chain_from(
+    alloc: Global,
+    bytes: &[u8],
+    newest: usize,
+    first: Record,
+) -> Result<Vec<Record>, AllocError>
+    requires { (newest < slots_of bytes.now) × IsAt bytes.now newest first }
+    ensures chain { IfOk result (λ it. IsChain bytes.now it.items) }
+    ensures first { IfOk result (λ it. IsFirstOf it.items first) }
+    ensures whole { IfOk result (λ it. IsWhole bytes.now newest it.items) }
 {
     let count = count_of(bytes);
     let mut chain = Vec::new(alloc);
+    chain.push(first)?;
     let mut slot = newest;
-    for _ in 0..count {
-        let Some(record) = record_at(bytes, slot) else {
-            break;
-        };
-        if !goes_on(&chain, &record) {
-            break;
-        }
-        chain.push(record)?;
+    while chain.len() < count {
         slot = slot_before(slot, count);
+        let Some(record) = next_in(bytes, slot, &chain) else {
+            return Ok(chain);
+        };
+        chain.push(record)?;
     }
     Ok(chain)
 }
@@ -167,13 +196,16 @@ pub(crate) struct Loaded {
 
 impl Loaded {
     /// What is found in these bytes.
+    #[tactic(auto, using(crate::proofs::Slots::are_up_to, crate::proofs::Slots::are_whole))]
     pub(crate) fn of(alloc: Global, bytes: &[u8]) -> Result<Loaded, AllocError>
         ensures chain { IfOk result (λ it. IsChain bytes.now (reverse it.chain.items)
             × (it.newest ≡ newest_crc (reverse it.chain.items))) }
+        ensures last { IfOk result (λ it. AreUpTo bytes.now (reverse it.chain.items)) }
+        ensures whole { IfOk result (λ it. AreWhole bytes.now (reverse it.chain.items)) }
         ensures next { IfOk result (λ it. it.next < 65536) }
     {
         let survey = Survey::of(bytes);
-        let Some((slot, _)) = survey.newest else {
+        let Some((slot, first)) = survey.newest else {
             return Ok(Loaded {
                 chain: Vec::new(alloc),
                 next: 0,
@@ -181,7 +213,7 @@ impl Loaded {
                 unreadable: survey.unreadable,
             });
         };
-        let mut chain = chain_from(alloc, bytes, slot)?;
+        let mut chain = chain_from(alloc, bytes, slot, first)?;
         let newest = newest_crc(&chain);
         chain.reverse();
         Ok(Loaded {

@@ -4,7 +4,7 @@ ghost use Rattle.std.specs.Prelude.{◌≡◌, ◌≢◌, ◌++◌, ◌<◌, ℕ
 ghost use Rattle.std.specs.Prelude.{MatchOption, None};
 ghost use Rattle.std.specs.Int.{to_be_bytes, w32, w64};
 ghost use Rattle.pgcrc.specs.Crc.{crc32};
-ghost use Rattle.pgpast.specs.Records.{IsRecord, body, encoded};
+ghost use Rattle.pgpast.specs.Records.{IsFit, IsRecord, body, encoded};
 
 use pgcrc::Crc32;
 use pgrepeats::{Commit, Digest};
@@ -96,6 +96,7 @@ impl Record {
     /// The record with these bytes, if they are one's.
     pub(crate) fn of_bytes(bytes: &[u8]) -> Option<Record>
         ensures some { IfSome result (λ it. IsRecord it × (bytes.now ≡ encoded it)) }
+        ensures fit { IfSome result IsFit }
         ensures none { result ≡ None → (r : Record) → IsRecord r → bytes.now ≢ encoded r }
     {
         let record = fields_of(bytes)?;
