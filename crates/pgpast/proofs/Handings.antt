@@ -13,7 +13,12 @@ use Rattle.pgrepeats.specs.declared.past.Past.{Past}
 use Rattle.pgcompared.specs.declared.compared.Compared.{Compared}
 use Rattle.pgcompared.specs.declared.noting.Told.{Told}
 use Rattle.pgcompared.specs.Live.{IsCompared, spoken}
-use Rattle.pgpast.specs.Handing.{HasHeard, HasStopped, IsAgreed, IsHanded, IsOpen}
+use Rattle.pgcompared.specs.declared.finding.Finding.{Finding}
+use Rattle.pgpast.specs.declared.file.NotesFile as notes_file
+use Rattle.pgpast.specs.declared.notes.Notes.{Notes}
+use Rattle.pgpast.specs.Noting.{IsKept}
+use Rattle.pgpast.specs.Handing.{Goes, HasHeard, HasStopped, IsAgreed, IsHanded, IsOpen, KeepsTold}
+use Rattle.pgpast.specs.Handing.{Tells}
 use Rattle.pgpast.specs.Handing.{ahead_of, behind_of, contradicts, part_of}
 
 -- ---- what a front gives
@@ -32,75 +37,118 @@ heard_push v limit max past bytes c hs h is =
 none_before : (part rest : List ℕ) → 1 ≤ length part → [] ≡ part ++ rest → ⊥
 none_before part rest some e = omega (arith, some, ap (λ (xs : List ℕ). length xs) e, length-append part rest)
 
-module _ (v : Version) (limit max : ℕ) (past : Past) (stops : Bool) (given : List ℕ) where
-  -- at the start
-  pub begins : (now : Compared) → IsCompared v limit max past [] now [] → given ≡ []
-      → IsHanded v limit max past stops given [] [] now
-  begins now is none = record {
-    before = now;
-    well = [];
-    compared = subst (λ (xs : List ℕ). HasHeard v limit max past (xs ++ []) now []) (sym none) is;
-    agreed = λ asked. tt;
-    state = inl (refl, refl);
-  }
+module _ {F L : Type 0} {ghosts : notes_file.Ghosts F} (holds : F → List ℕ → Type 0) (hears : L → Finding → L → Type 0)
+    (loses : L → L → Type 0) where
+  goes_push : (ts : List Told) (t : Told) (old mid : Notes F ghosts × L) (l : L) (new : Notes F ghosts × L)
+      → Goes holds hears loses ts old mid
+      → Tells hears t.found mid.1 l → KeepsTold holds loses t (mid.0, l) new → Goes holds hears loses (ts ++ t ∷ []) old new
+  goes_push [] t old mid l new e tells keeps = (
+    l,
+    new,
+    subst (λ (x : Notes F ghosts × L). Tells hears t.found x.1 l) e tells,
+    subst (λ (x : Notes F ghosts × L). KeepsTold holds loses t (x.0, l) new) e keeps,
+    refl,
+  )
+  goes_push (s ∷ ts) t old mid l new g tells keeps = (g.0, g.1, g.2, g.3, goes_push ts t g.1 mid l new g.4 tells keeps)
 
-  -- what is handed on isn't ahead any more
-  pub handed : (front ahead behind : List ℕ) (now : Compared) → IsHanded v limit max past stops given (front ++ ahead) behind now
-      → IsHanded v limit max past stops (given ++ front) ahead behind now
-  handed front ahead behind now g =
-      let same = sym (append_assoc given front ahead) in record {
-        before = g.before;
-        well = g.well;
-        compared = subst (λ (xs : List ℕ). HasHeard v limit max past xs g.before g.well) same g.compared;
-        agreed = g.agreed;
-        state = subst (λ (xs : List ℕ). IsOpen behind g.before now ⊎ HasStopped v limit max past stops xs behind now g.well) same g.state;
+  -- where no error came, all is noted, or nothing is noted any more
+  pub keeps_ok : (t : Told) (old new : Notes F ghosts) (l : L)
+      → (old.is_kept ≡ true
+      → (new.is_kept ≡ true) × IsKept holds old.file old.next old.newest t.forgot t.noted new.file new.next new.newest)
+      → (old.is_kept ≡ false → new ≡ old) → KeepsTold holds loses t (old, l) (new, l)
+  keeps_ok t old new l ok ended = go old.is_kept refl
+    where
+      go : (b : Bool) → old.is_kept ≡ b → KeepsTold holds loses t (old, l) (new, l)
+      go true e = inl (e, (ok e).0, (ok e).1, refl)
+      go false e = inr (inr (e, ap (λ (n : Notes F ghosts). (n, l)) (ended e)))
+
+  module _ (v : Version) (limit max : ℕ) (past : Past) (first : Notes F ghosts × L) (stops : Bool) (given : List ℕ) where
+    -- at the start
+    pub begins : (now : Compared) → IsCompared v limit max past [] now [] → given ≡ []
+        → IsHanded holds hears loses v limit max past first stops given [] [] now first
+    begins now is none = record {
+      before = now;
+      well = [];
+      mid = first;
+      goes = refl;
+      compared = subst (λ (xs : List ℕ). HasHeard v limit max past (xs ++ []) now []) (sym none) is;
+      agreed = λ asked. tt;
+      state = inl (refl, refl, refl);
+    }
+
+    -- what is handed on isn't ahead any more
+    pub handed : (front ahead behind : List ℕ) (now : Compared) (kept : Notes F ghosts × L)
+        → IsHanded holds hears loses v limit max past first stops given (front ++ ahead) behind now kept
+        → IsHanded holds hears loses v limit max past first stops (given ++ front) ahead behind now kept
+    handed front ahead behind now kept g =
+        let same = sym (append_assoc given front ahead) in record {
+          before = g.before;
+          well = g.well;
+          mid = g.mid;
+          goes = g.goes;
+          compared = subst (λ (xs : List ℕ). HasHeard v limit max past xs g.before g.well) same g.compared;
+          agreed = g.agreed;
+          state = subst (λ (xs : List ℕ). IsOpen behind g.before now g.mid kept
+              ⊎ HasStopped hears v limit max past stops xs behind now g.well g.mid kept) same g.state;
+        }
+
+    module _ (ahead : List ℕ) (now : Compared) (kept : Notes F ghosts × L)
+        (g : IsHanded holds hears loses v limit max past first stops given ahead [] now kept) where
+      open_is : IsOpen [] g.before now g.mid kept
+      open_is = go g.state
+        where
+          go : IsOpen [] g.before now g.mid kept ⊎ HasStopped hears v limit max past stops (given ++ ahead) [] now g.well g.mid kept
+              → IsOpen [] g.before now g.mid kept
+          go (inl it) = it
+          go (inr s) = absurd (none_before s.part s.rest s.some s.parts)
+
+      pub compared_now : HasHeard v limit max past (given ++ ahead) now g.well
+      compared_now = subst (λ x. HasHeard v limit max past (given ++ ahead) x g.well) (sym open_is.1) g.compared
+
+      goes_now : Goes holds hears loses g.well first kept
+      goes_now = subst (λ (x : Notes F ghosts × L). Goes holds hears loses g.well first x) (sym open_is.2) g.goes
+
+      -- it goes on
+      pub goes_on : (part : List ℕ) (next : Compared) (h : Told) (l : L) (new : Notes F ghosts × L)
+          → IsCompared v limit max past ((given ++ ahead) ++ part) next (flat_map spoken g.well ++ spoken h)
+          → (stops ≡ true → contradicts h.found ≡ false) → Tells hears h.found kept.1 l → KeepsTold holds loses h (kept.0, l) new
+          → IsHanded holds hears loses v limit max past first stops given (ahead ++ part) [] next new
+      goes_on part next h l new is whole tells keeps = record {
+        before = next;
+        well = g.well ++ h ∷ [];
+        mid = new;
+        goes = goes_push g.well h first kept l new goes_now tells keeps;
+        compared = subst (λ (xs : List ℕ). HasHeard v limit max past xs next (g.well ++ h ∷ [])) (append_assoc given ahead part)
+            (heard_push v limit max past ((given ++ ahead) ++ part) next g.well h is);
+        agreed = λ asked. all_push g.well h (g.agreed asked) (whole asked);
+        state = inl (refl, refl, refl);
       }
 
-  module _ (ahead : List ℕ) (now : Compared) (g : IsHanded v limit max past stops given ahead [] now) where
-    open_is : IsOpen [] g.before now
-    open_is = go g.state
-      where
-        go : IsOpen [] g.before now ⊎ HasStopped v limit max past stops (given ++ ahead) [] now g.well → IsOpen [] g.before now
-        go (inl it) = it
-        go (inr s) = absurd (none_before s.part s.rest s.some s.parts)
-
-    pub compared_now : HasHeard v limit max past (given ++ ahead) now g.well
-    compared_now = subst (λ x. HasHeard v limit max past (given ++ ahead) x g.well) (sym open_is.1) g.compared
-
-    -- it goes on
-    pub goes_on : (part : List ℕ) (next : Compared) (h : Told) → IsCompared v limit max past ((given ++ ahead) ++ part) next
-        (flat_map spoken g.well ++ spoken h)
-        → (stops ≡ true → contradicts h.found ≡ false) → IsHanded v limit max past stops given (ahead ++ part) [] next
-    goes_on part next h is whole = record {
-      before = next;
-      well = g.well ++ h ∷ [];
-      compared = subst (λ (xs : List ℕ). HasHeard v limit max past xs next (g.well ++ h ∷ [])) (append_assoc given ahead part)
-          (heard_push v limit max past ((given ++ ahead) ++ part) next g.well h is);
-      agreed = λ asked. all_push g.well h (g.agreed asked) (whole asked);
-      state = inl (refl, refl);
-    }
-
-    -- a commit contradicts those before it, and it stops
-    pub stops_here : (part rest : List ℕ) (next : Compared) (h : Told) → 1 ≤ length part
-        → IsCompared v limit max past ((given ++ ahead) ++ part) next
-        (flat_map spoken g.well ++ spoken h) → stops ≡ true
-        → contradicts h.found ≡ true → IsHanded v limit max past stops given ahead (part ++ rest) next
-    stops_here part rest next h some is asked breaks = record {
-      before = now;
-      well = g.well;
-      compared = compared_now;
-      agreed = g.agreed;
-      state = inr (record {
-        asked = asked;
-        last = h;
-        part = part;
-        rest = rest;
-        some = some;
-        parts = refl;
-        compared = heard_push v limit max past ((given ++ ahead) ++ part) next g.well h is;
-        breaks = breaks;
-      });
-    }
+      -- a commit contradicts those before it, and it stops
+      pub stops_here : (part rest : List ℕ) (next : Compared) (h : Told) (l : L) → 1 ≤ length part
+          → IsCompared v limit max past ((given ++ ahead) ++ part) next (flat_map spoken g.well ++ spoken h) → stops ≡ true
+          → contradicts h.found ≡ true → Tells hears h.found kept.1 l
+          → IsHanded holds hears loses v limit max past first stops given ahead (part ++ rest) next (kept.0, l)
+      stops_here part rest next h l some is asked breaks tells = record {
+        before = now;
+        well = g.well;
+        mid = kept;
+        goes = goes_now;
+        compared = compared_now;
+        agreed = g.agreed;
+        state = inr (record {
+          asked = asked;
+          last = h;
+          part = part;
+          rest = rest;
+          some = some;
+          parts = refl;
+          compared = heard_push v limit max past ((given ++ ahead) ++ part) next g.well h is;
+          breaks = breaks;
+          notes_are = refl;
+          told = tells;
+        });
+      }
 
 -- ---- the bytes of a piece
 

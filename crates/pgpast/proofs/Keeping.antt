@@ -8,6 +8,9 @@ use Rattle.std.proofs.lemmas.List.{take-take}
 use Rattle.pgorder.specs.declared.Version.{Version}
 use Rattle.pgrepeats.specs.declared.past.Past.{Past}
 use Rattle.pgcompared.specs.declared.compared.Compared.{Compared}
+use Rattle.pgcompared.specs.declared.finding.Finding.{Finding}
+use Rattle.pgpast.specs.declared.file.NotesFile as notes_file
+use Rattle.pgpast.specs.declared.notes.Notes.{Notes}
 use Rattle.pgpast.specs.Handing.{IsHanded, ahead_of, behind_of, part_of}
 use Rattle.pgpast.proofs.Handings.{fits_is, handed, part_there}
 
@@ -31,42 +34,51 @@ part_read room len le =
     let all : len - 0 ≡ len = omega arith in
     part_there room 0 len (fits_is room 0 len (omega arith) le) ∙ ap (λ k. take k room) all
 
-module _ (v : Version) (limit max : ℕ) (past : Past) (stops : Bool) (given : List ℕ) (now : Compared) where
+module _ {F L : Type 0} {g : notes_file.Ghosts F} (holds : F → List ℕ → Type 0) (hears : L → Finding → L → Type 0)
+    (loses : L → L → Type 0) (v : Version) (limit max : ℕ) (past : Past) (first : Notes F g × L) (stops : Bool) (given : List ℕ)
+    (now : Compared) (kept : Notes F g × L) where
   -- nothing is ahead, and nothing kept back, where nothing is kept
   pub nothing_ahead : (room : List ℕ) (from safe len : ℕ) → part_of room from len ≡ []
-      → IsHanded v limit max past stops given [] [] now
-      → IsHanded v limit max past stops given (ahead_of room from safe len) (behind_of room from safe len) now
+      → IsHanded holds hears loses v limit max past first stops given [] [] now kept
+      → IsHanded holds hears loses v limit max past first stops given (ahead_of room from safe len) (behind_of room from safe len) now kept
   nothing_ahead room from safe len none g =
-      subst (λ (xs : List ℕ). IsHanded v limit max past stops given (take (safe - from) xs) (drop (safe - from) xs) now) (sym
+      subst (λ (xs : List ℕ). IsHanded holds hears loses v limit max past first stops given (take (safe - from) xs) (drop
+      (safe - from) xs) now kept) (sym
       none)
-      (subst (λ (xs : List ℕ). IsHanded v limit max past stops given xs (drop (safe - from) []) now) (sym (take_none (safe -
+      (subst (λ (xs : List ℕ). IsHanded holds hears loses v limit max past first stops given xs (drop (safe - from) []) now kept) (sym
+      (take_none (safe -
       from)))
-      (subst (λ (xs : List ℕ). IsHanded v limit max past stops given [] xs now) (sym (drop_none (safe - from))) g))
+      (subst (λ (xs : List ℕ). IsHanded holds hears loses v limit max past first stops given [] xs now kept) (sym (drop_none
+      (safe - from))) g))
 
   pub was_nothing : (room : List ℕ) (from safe len : ℕ) → part_of room from len ≡ []
-      → IsHanded v limit max past stops given (ahead_of room from safe len) (behind_of room from safe len) now
-      → IsHanded v limit max past stops given [] [] now
+      → IsHanded holds hears loses v limit max past first stops given (ahead_of room from safe len) (behind_of room from safe len) now kept
+      → IsHanded holds hears loses v limit max past first stops given [] [] now kept
   was_nothing room from safe len none g =
-      subst (λ (xs : List ℕ). IsHanded v limit max past stops given [] xs now) (drop_none (safe - from))
-      (subst (λ (xs : List ℕ). IsHanded v limit max past stops given xs (drop (safe - from) []) now) (take_none (safe - from))
-      (subst (λ (xs : List ℕ). IsHanded v limit max past stops given (take (safe - from) xs) (drop (safe - from) xs) now) none g))
+      subst (λ (xs : List ℕ). IsHanded holds hears loses v limit max past first stops given [] xs now kept) (drop_none (safe - from))
+      (subst (λ (xs : List ℕ). IsHanded holds hears loses v limit max past first stops given xs (drop (safe - from) []) now kept)
+      (take_none (safe - from))
+      (subst (λ (xs : List ℕ). IsHanded holds hears loses v limit max past first stops given (take (safe - from) xs) (drop
+      (safe - from) xs) now kept) none g))
 
   -- what was read is ahead, up to the frame that is kept back
   pub read_ahead : (room : List ℕ) (safe len : ℕ) → len ≤ length room → safe ≤ len
-      → IsHanded v limit max past stops given (take safe room) (drop safe (take len room)) now
-      → IsHanded v limit max past stops given (ahead_of room 0 safe len) (behind_of room 0 safe len) now
+      → IsHanded holds hears loses v limit max past first stops given (take safe room) (drop safe (take len room)) now kept
+      → IsHanded holds hears loses v limit max past first stops given (ahead_of room 0 safe len) (behind_of room 0 safe len) now kept
   read_ahead room safe len le few g =
       let all : safe ≡ safe - 0 = omega arith in
-      subst (λ k. IsHanded v limit max past stops given (take k (part_of room 0 len)) (drop k (part_of room 0 len)) now) all
-      (subst (λ (xs : List ℕ). IsHanded v limit max past stops given (take safe xs) (drop safe xs) now) (sym (part_read room
+      subst (λ k. IsHanded holds hears loses v limit max past first stops given (take k (part_of room 0 len)) (drop k
+      (part_of room 0 len)) now kept) all
+      (subst (λ (xs : List ℕ). IsHanded holds hears loses v limit max past first stops given (take safe xs) (drop safe xs) now kept)
+      (sym (part_read room
       len le))
-      (subst (λ (xs : List ℕ). IsHanded v limit max past stops given xs (drop safe (take len room)) now)
+      (subst (λ (xs : List ℕ). IsHanded holds hears loses v limit max past first stops given xs (drop safe (take len room)) now kept)
       (sym (take-take safe len room few)) g))
 
   pub moved : (front ahead ahead' behind behind' : List ℕ) → ahead ≡ front ++ ahead' → behind' ≡ behind
-      → IsHanded v limit max past stops given ahead behind now
-      → IsHanded v limit max past stops (given ++ front) ahead' behind' now
+      → IsHanded holds hears loses v limit max past first stops given ahead behind now kept
+      → IsHanded holds hears loses v limit max past first stops (given ++ front) ahead' behind' now kept
   moved front ahead ahead' behind behind' a b g =
-      handed v limit max past stops given front ahead' behind' now
-      (subst (λ (xs : List ℕ). IsHanded v limit max past stops given (front ++ ahead') xs now) (sym b)
-      (subst (λ (xs : List ℕ). IsHanded v limit max past stops given xs behind now) a g))
+      handed holds hears loses v limit max past first stops given front ahead' behind' now kept
+      (subst (λ (xs : List ℕ). IsHanded holds hears loses v limit max past first stops given (front ++ ahead') xs now kept) (sym b)
+      (subst (λ (xs : List ℕ). IsHanded holds hears loses v limit max past first stops given xs behind now kept) a g))

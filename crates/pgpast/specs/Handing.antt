@@ -9,6 +9,9 @@ use Rattle.pgcompared.specs.declared.noting.Told.{Told}
 use Rattle.pgcompared.specs.declared.finding.Finding.{Finding}
 use Rattle.pgcompared.specs.declared.finding.Finding.TheVariants as finding
 use Rattle.pgcompared.specs.Live.{IsCompared, spoken}
+use Rattle.pgpast.specs.declared.file.NotesFile as notes_file
+use Rattle.pgpast.specs.declared.notes.Notes.{Notes}
+use Rattle.pgpast.specs.Noting.{IsKept}
 
 -- the bytes from one place to another, where there are such
 abbrev pub part_of : List ℕ → ℕ → ℕ → List ℕ
@@ -34,13 +37,37 @@ IsAgreed t = contradicts t.found ≡ false
 abbrev pub HasHeard : Version → ℕ → ℕ → Past → List ℕ → Compared → List Told → Type 0
 HasHeard v limit max past all c told = IsCompared v limit max past all c (flat_map spoken told)
 
--- All that was read is compared, and may be handed on.
-abbrev pub IsOpen : List ℕ → Compared → Compared → Type 0
-IsOpen behind before now = (behind ≡ []) × (now ≡ before)
+-- a listener is told what is found
+abbrev pub Tells : {L : Type 0} → (L → Finding → L → Type 0) → Option Finding → L → L → Type 0
+Tells hears None old new = new ≡ old
+Tells hears (Some found) old new = hears old found new
+
+-- What is told of a frame is noted. Once it can't be, the listener is told so, and no more is.
+abbrev pub KeepsTold : {F L : Type 0} {g : notes_file.Ghosts F} → (F → List ℕ → Type 0) → (L → L → Type 0) → Told → Notes F g × L
+    → Notes F g × L → Type 0
+KeepsTold holds loses t old new =
+    ((old.0.is_kept ≡ true) × (new.0.is_kept ≡ true)
+    × IsKept holds old.0.file old.0.next old.0.newest t.forgot t.noted new.0.file new.0.next new.0.newest × (new.1 ≡ old.1))
+    ⊎ ((old.0.is_kept ≡ true) × (new.0.is_kept ≡ false) × loses old.1 new.1)
+    ⊎ ((old.0.is_kept ≡ false) × (new ≡ old))
+
+-- all that was told is passed on, and noted
+abbrev pub Goes : {F L : Type 0} {g : notes_file.Ghosts F} → (F → List ℕ → Type 0) → (L → Finding → L → Type 0) → (L → L → Type 0)
+    → List Told → Notes F g × L → Notes F g × L → Type 0
+Goes holds hears loses [] old new = new ≡ old
+Goes {F} {L} {g} holds hears loses (t ∷ ts) old new =
+    (mid : L) × (next : Notes F g × L) × Tells hears t.found old.1 mid × KeepsTold holds loses t (old.0, mid) next
+    × Goes holds hears loses ts next new
+
+-- All that was read is compared and noted, and may be handed on.
+abbrev pub IsOpen : {K : Type 0} → List ℕ → Compared → Compared → K → K → Type 0
+IsOpen behind before now mid kept = (behind ≡ []) × (now ≡ before) × (kept ≡ mid)
 
 -- It has stopped: what is kept back begins with the bytes that complete the frame of a commit that
--- contradicts those before it.
-pub record HasStopped (v : Version) (limit max : ℕ) (past : Past) (stops : Bool) (safe behind : List ℕ) (now : Compared) (well : List Told)
+-- contradicts those before it. That was told, and the commit isn't noted.
+pub record HasStopped {F L : Type 0} {g : notes_file.Ghosts F} (hears : L → Finding → L → Type 0) (v : Version) (limit max : ℕ)
+    (past : Past) (stops : Bool)
+    (safe behind : List ℕ) (now : Compared) (well : List Told) (mid kept : Notes F g × L)
     : Type 0 where
   pub asked : stops ≡ true
   pub last : Told
@@ -50,13 +77,20 @@ pub record HasStopped (v : Version) (limit max : ℕ) (past : Past) (stops : Boo
   pub parts : behind ≡ part ++ rest
   pub compared : HasHeard v limit max past (safe ++ part) now (well ++ last ∷ [])
   pub breaks : contradicts last.found ≡ true
+  pub notes_are : kept.0 ≡ mid.0
+  pub told : Tells hears last.found mid.1 kept.1
 
 -- These bytes were handed on, these may be next, and these were read and are kept back: the first
--- two are compared, each session from its first byte on. Where it is asked to stop, no commit of
--- them contradicts those before it.
-pub record IsHanded (v : Version) (limit max : ℕ) (past : Past) (stops : Bool) (given ahead behind : List ℕ) (now : Compared) : Type 0 where
+-- two are compared, each session from its first byte on, and what was told of them was passed on
+-- and noted, from the notes and the listener that were there at first. Where it is asked to stop,
+-- no commit of them contradicts those before it.
+pub record IsHanded {F L : Type 0} {g : notes_file.Ghosts F} (holds : F → List ℕ → Type 0) (hears : L → Finding → L → Type 0)
+    (loses : L → L → Type 0) (v : Version) (limit max : ℕ) (past : Past) (first : Notes F g × L) (stops : Bool)
+    (given ahead behind : List ℕ) (now : Compared) (kept : Notes F g × L) : Type 0 where
   pub before : Compared
   pub well : List Told
+  pub mid : Notes F g × L
+  pub goes : Goes holds hears loses well first mid
   pub compared : HasHeard v limit max past (given ++ ahead) before well
   pub agreed : stops ≡ true → AllByRecursion IsAgreed well
-  pub state : IsOpen behind before now ⊎ HasStopped v limit max past stops (given ++ ahead) behind now well
+  pub state : IsOpen behind before now mid kept ⊎ HasStopped hears v limit max past stops (given ++ ahead) behind now well mid kept

@@ -10,7 +10,9 @@ ghost use Rattle.std.specs.Io.{ReadsAtMost};
 ghost use Rattle.pgorder.specs.declared.Version.{Version};
 ghost use Rattle.pgrepeats.specs.declared.past.Past.{Past as Noted};
 ghost use Rattle.pgcompared.specs.Live.{IsCompared};
-ghost use Rattle.pgpast.specs.Handing.{IsHanded, ahead_of, behind_of, contradicts, part_of};
+ghost use Rattle.pgcompared.specs.declared.finding.Finding.{Finding as Found};
+ghost use Rattle.pgpast.specs.Handing.{IsHanded, KeepsTold, Tells, ahead_of, behind_of};
+ghost use Rattle.pgpast.specs.Handing.{contradicts, part_of};
 
 use crate::file::NotesFile;
 use crate::lines::Counts;
@@ -25,11 +27,19 @@ const ROOM_LEN: usize = 65536;
 
 /// Hears what is found of commits.
 pub trait RepeatListener {
+    /// That hearing this took it from one state to another.
+    ghost hears: { Self → Found → Self → Type 0 };
+
+    /// That hearing that no more is noted did.
+    ghost loses: { Self → Self → Type 0 };
+
     /// This was found.
-    fn hear(&mut self, found: &Finding);
+    fn hear(&mut self, found: &Finding)
+        ensures { hears self.old found.now self.new };
 
     /// Commits can't be noted in the file any more.
-    fn hear_unkept(&mut self);
+    fn hear_unkept(&mut self)
+        ensures { loses self.old self.new };
 }
 
 /// A reader that hands on what another one gives, compares the commits that come with those that
@@ -67,20 +77,22 @@ fn stops_at(stops: bool, found: &Option<Finding>) -> bool
 }
 
 // Tells what was found.
-fn tell<L: RepeatListener>(listener: &mut L, told: &Told) {
+fn tell<L: RepeatListener>(listener: &mut L, told: &Told)
+    ensures { Tells L.hears told.now.found listener.old listener.new }
+{
     if let Some(found) = &told.found {
         listener.hear(found);
     }
 }
 
 // Notes what was heard.
-fn keep<F: NotesFile + Drop, L: RepeatListener>(
-    notes: &mut Notes<F>,
-    listener: &mut L,
-    told: &Told,
-) {
-    if notes.keep(told.forgot, told.noted).is_err() {
-        listener.hear_unkept();
+fn keep<F: NotesFile + Drop, L: RepeatListener>(notes: &mut Notes<F>, listener: &mut L, told: &Told)
+    ensures { KeepsTold F.holds L.loses told.now (notes.old, listener.old)
+        (notes.new, listener.new) }
+{
+    match notes.keep(told.forgot, told.noted) {
+        Ok(()) => {}
+        Err(_) => listener.hear_unkept(),
     }
 }
 
@@ -101,9 +113,10 @@ impl<R: Read + Drop, F: NotesFile + Drop, L: RepeatListener + Drop> Comparing<R,
         ensures reader { IfOk result (λ it. (it.reader ≡ reader) × (it.stops ≡ stops)) }
         ensures handed { (v : Version) (limit max : ℕ) (past : Noted) →
             IsCompared v limit max past [] compared [] →
-            IfOk result (λ it. IsHanded v limit max past stops []
+            IfOk result (λ it. IsHanded F.holds L.hears L.loses v limit max past
+            (notes, listener) stops []
             (ahead_of it.room.items it.from it.safe it.len)
-            (behind_of it.room.items it.from it.safe it.len) it.compared) }
+            (behind_of it.room.items it.from it.safe it.len) it.compared (it.notes, it.listener)) }
     {
         let room = vec![in alloc; 0u8; ROOM_LEN]?;
         Ok(Comparing {
@@ -152,16 +165,24 @@ impl<R: Read + Drop, F: NotesFile + Drop, L: RepeatListener + Drop> Comparing<R,
           notes = self.new.notes;
           listener = self.new.listener;
         } }
-        ensures goes_on { (v : Version) (limit max : ℕ) (past : Noted) (given : List ℕ) →
-            IsHanded v limit max past self.old.stops given (take taken self.old.room.items) []
-            self.old.compared →
-            IfSome result (λ n. IsHanded v limit max past self.old.stops given
-            (take (taken + n) self.old.room.items) [] self.new.compared) }
-        ensures stops { (v : Version) (limit max : ℕ) (past : Noted) (given : List ℕ) →
-            IsHanded v limit max past self.old.stops given (take taken self.old.room.items) []
-            self.old.compared → result ≡ None →
-            IsHanded v limit max past self.old.stops given (take taken self.old.room.items)
-            (drop taken (take len self.old.room.items)) self.new.compared }
+        ensures goes_on { (v : Version) (limit max : ℕ) (past : Noted) (first : _)
+            (given : List ℕ) →
+            IsHanded F.holds L.hears L.loses v limit max past first
+            self.old.stops given (take taken self.old.room.items) []
+            self.old.compared (self.old.notes, self.old.listener) →
+            IfSome result (λ n. IsHanded F.holds L.hears L.loses v limit max past first
+            self.old.stops given
+            (take (taken + n) self.old.room.items) [] self.new.compared
+            (self.new.notes, self.new.listener)) }
+        ensures stops { (v : Version) (limit max : ℕ) (past : Noted) (first : _)
+            (given : List ℕ) →
+            IsHanded F.holds L.hears L.loses v limit max past first
+            self.old.stops given (take taken self.old.room.items) []
+            self.old.compared (self.old.notes, self.old.listener) → result ≡ None →
+            IsHanded F.holds L.hears L.loses v limit max past first
+            self.old.stops given (take taken self.old.room.items)
+            (drop taken (take len self.old.room.items)) self.new.compared
+            (self.new.notes, self.new.listener) }
     {
         let mut told = Told::nothing(false);
         let count = self.compared.hear_front(&self.room[taken..len], &mut told);
@@ -184,10 +205,15 @@ impl<R: Read + Drop, F: NotesFile + Drop, L: RepeatListener + Drop> Comparing<R,
           notes = self.new.notes;
           listener = self.new.listener;
         } }
-        ensures handed { (v : Version) (limit max : ℕ) (past : Noted) (given : List ℕ) →
-            IsHanded v limit max past self.old.stops given [] [] self.old.compared →
-            IsHanded v limit max past self.old.stops given (take result self.old.room.items)
-            (drop result (take len self.old.room.items)) self.new.compared }
+        ensures handed { (v : Version) (limit max : ℕ) (past : Noted) (first : _)
+            (given : List ℕ) →
+            IsHanded F.holds L.hears L.loses v limit max past first
+            self.old.stops given [] [] self.old.compared
+            (self.old.notes, self.old.listener) →
+            IsHanded F.holds L.hears L.loses v limit max past first
+            self.old.stops given (take result self.old.room.items)
+            (drop result (take len self.old.room.items)) self.new.compared
+            (self.new.notes, self.new.listener) }
     {
         let mut taken = 0;
         while taken < len {
@@ -223,12 +249,16 @@ impl<R: Read + Drop, F: NotesFile + Drop, L: RepeatListener + Drop> Comparing<R,
         ensures none { result ≡ Ok false →
             part_of self.new.room.items self.new.from self.new.len ≡ [] }
         ensures stops { self.new.stops ≡ self.old.stops }
-        ensures handed { (v : Version) (limit max : ℕ) (past : Noted) (given : List ℕ) →
-            IsHanded v limit max past self.old.stops given [] [] self.old.compared →
-            IsHanded v limit max past self.old.stops given
+        ensures handed { (v : Version) (limit max : ℕ) (past : Noted) (first : _)
+            (given : List ℕ) →
+            IsHanded F.holds L.hears L.loses v limit max past first
+            self.old.stops given [] [] self.old.compared
+            (self.old.notes, self.old.listener) →
+            IsHanded F.holds L.hears L.loses v limit max past first
+            self.old.stops given
             (ahead_of self.new.room.items self.new.from self.new.safe self.new.len)
             (behind_of self.new.room.items self.new.from self.new.safe self.new.len)
-            self.new.compared }
+            self.new.compared (self.new.notes, self.new.listener) }
     {
         if self.room.is_empty() {
             return Err(ErrorKind::OutOfMemory.into());
@@ -250,15 +280,18 @@ impl<R: Read + Drop, F: NotesFile + Drop, L: RepeatListener + Drop> Comparing<R,
         ensures none { result ≡ Ok false → IsAtEnd (R.remaining self.new.reader)
             × (part_of self.new.room.items self.new.from self.new.len ≡ []) }
         ensures stops { self.new.stops ≡ self.old.stops }
-        ensures handed { (v : Version) (limit max : ℕ) (past : Noted) (given : List ℕ) →
-            IsHanded v limit max past self.old.stops given
+        ensures handed { (v : Version) (limit max : ℕ) (past : Noted) (first : _)
+            (given : List ℕ) →
+            IsHanded F.holds L.hears L.loses v limit max past first
+            self.old.stops given
             (ahead_of self.old.room.items self.old.from self.old.safe self.old.len)
             (behind_of self.old.room.items self.old.from self.old.safe self.old.len)
-            self.old.compared →
-            IsHanded v limit max past self.old.stops given
+            self.old.compared (self.old.notes, self.old.listener) →
+            IsHanded F.holds L.hears L.loses v limit max past first
+            self.old.stops given
             (ahead_of self.new.room.items self.new.from self.new.safe self.new.len)
             (behind_of self.new.room.items self.new.from self.new.safe self.new.len)
-            self.new.compared }
+            self.new.compared (self.new.notes, self.new.listener) }
     {
         if !self.kept().is_empty() {
             return Ok(true);
@@ -277,7 +310,8 @@ impl<R: Read + Drop, F: NotesFile + Drop, L: RepeatListener + Drop> Comparing<R,
         ensures behind { behind_of self.new.room.items self.new.from self.new.safe self.new.len
             ≡ behind_of self.old.room.items self.old.from self.old.safe self.old.len }
         ensures same { self.new ≡ record self.old { from = self.new.from } }
-        ensures compared { self.new.compared ≡ self.old.compared }
+        ensures compared { (self.new.compared ≡ self.old.compared)
+            × (self.new.notes ≡ self.old.notes) × (self.new.listener ≡ self.old.listener) }
     {
         let kept = self.kept();
         let count = self
@@ -303,25 +337,31 @@ impl<R: Read + Drop, F: NotesFile + Drop, L: RepeatListener + Drop> Read for Com
             (prepend_known (part_of self.new.room.items self.new.from self.new.len)
             (R.remaining self.new.reader)) result buf.new }
         ensures stops { self.new.stops ≡ self.old.stops }
-        ensures handed { (v : Version) (limit max : ℕ) (past : Noted) (given : List ℕ) →
-            IsHanded v limit max past self.old.stops given
+        ensures handed { (v : Version) (limit max : ℕ) (past : Noted) (first : _)
+            (given : List ℕ) →
+            IsHanded F.holds L.hears L.loses v limit max past first
+            self.old.stops given
             (ahead_of self.old.room.items self.old.from self.old.safe self.old.len)
             (behind_of self.old.room.items self.old.from self.old.safe self.old.len)
-            self.old.compared →
-            IfOk result (λ n. IsHanded v limit max past self.old.stops
+            self.old.compared (self.old.notes, self.old.listener) →
+            IfOk result (λ n. IsHanded F.holds L.hears L.loses v limit max past first
+            self.old.stops
             (given ++ take n buf.new)
             (ahead_of self.new.room.items self.new.from self.new.safe self.new.len)
             (behind_of self.new.room.items self.new.from self.new.safe self.new.len)
-            self.new.compared) }
-        ensures failed { (v : Version) (limit max : ℕ) (past : Noted) (given : List ℕ) →
-            IsHanded v limit max past self.old.stops given
+            self.new.compared (self.new.notes, self.new.listener)) }
+        ensures failed { (v : Version) (limit max : ℕ) (past : Noted) (first : _)
+            (given : List ℕ) →
+            IsHanded F.holds L.hears L.loses v limit max past first
+            self.old.stops given
             (ahead_of self.old.room.items self.old.from self.old.safe self.old.len)
             (behind_of self.old.room.items self.old.from self.old.safe self.old.len)
-            self.old.compared →
-            OnErr result (IsHanded v limit max past self.old.stops given
+            self.old.compared (self.old.notes, self.old.listener) →
+            OnErr result (IsHanded F.holds L.hears L.loses v limit max past first
+            self.old.stops given
             (ahead_of self.new.room.items self.new.from self.new.safe self.new.len)
             (behind_of self.new.room.items self.new.from self.new.safe self.new.len)
-            self.new.compared) }
+            self.new.compared (self.new.notes, self.new.listener)) }
     {
         if !self.ready()? {
             return Ok(0);

@@ -1,6 +1,6 @@
 //! What is told of noted commits.
 
-ghost use Rattle.std.specs.Prelude.{◌≡◌, IfOk, string_bytes};
+ghost use Rattle.std.specs.Prelude.{◌≡◌, ⊤, IfOk, string_bytes};
 
 use crate::comparing::RepeatListener;
 use pgcompared::Finding;
@@ -46,7 +46,12 @@ impl<E: Write + Drop> RepeatLines<E> {
     }
 }
 
+/// What a writer takes isn't known, so no clause is said of it.
 impl<E: Write + Drop> RepeatListener for RepeatLines<E> {
+    ghost hears = { λ _ _ _. ⊤ };
+
+    ghost loses = { λ _ _. ⊤ };
+
     fn hear(&mut self, found: &Finding) {
         let found = *found;
         if let Ok(line) = format!(in self.alloc; "pgsub: repeats: {found}\n") {

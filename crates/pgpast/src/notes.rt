@@ -172,7 +172,7 @@ impl<F: NotesFile + Drop> Notes<F> {
         ensures ok { self.old.is_kept ≡ true → OnOk result ((self.new.is_kept ≡ true)
             × IsKept F.holds self.old.file self.old.next self.old.newest
             forgot noted self.new.file self.new.next self.new.newest) }
-        ensures err { OnErr result (self.new.is_kept ≡ false) }
+        ensures err { OnErr result ((self.old.is_kept ≡ true) × (self.new.is_kept ≡ false)) }
         ensures ended { self.old.is_kept ≡ false → self.new ≡ self.old }
     {
         if !self.is_kept {

@@ -1,5 +1,7 @@
 //! Bytes that are handed on while their commits are compared.
 
+ghost use Rattle.std.specs.Prelude.{⊤};
+
 use crate::memory::MemoryFile;
 use pgcompared::{Compared, Finding};
 use pgorder::Version;
@@ -15,6 +17,10 @@ struct Count<'a> {
 }
 
 impl RepeatListener for Count<'_> {
+    ghost hears = { λ _ _ _. ⊤ };
+
+    ghost loses = { λ _ _. ⊤ };
+
     fn hear(&mut self, _found: &Finding) {
         *self.found = self.found.saturating_add(1);
     }

@@ -5,5 +5,10 @@ use Rattle.pgpast.proofs.comparing.Comparing.new.Goals as goal
 
 pub returns-clause-handed : goal.returns-clause-handed
 returns-clause-handed g c v limit max past is =
-    subst (λ (behind : List ℕ). IsHanded v limit max past c.args.stops [] [] behind c.args.compared)
-    (sym (part_empty c.in_ok-room.room.items)) (begins v limit max past c.args.stops [] c.args.compared is refl)
+    let holds = g.F.NotesFile.holds in
+    let hears = g.L.RepeatListener.hears in
+    let loses = g.L.RepeatListener.loses in
+    subst (λ (behind : List ℕ). IsHanded holds hears loses v limit max past
+    (c.args.notes, c.args.listener) c.args.stops [] [] behind c.args.compared (c.args.notes, c.args.listener))
+    (sym (part_empty c.in_ok-room.room.items)) (begins holds hears loses v limit max past
+    (c.args.notes, c.args.listener) c.args.stops [] c.args.compared is refl)
