@@ -56,7 +56,8 @@ class Segment:
     to there."""
 
     def __init__(self, head: bytes) -> None:
-        self.text, self.ends, self.told = head, dict[int, int](), Told()
+        self.text, self.ends = head, dict[int, int]()
+        self.told: Told = {}
 
     def entry(
         self, at: int, end: int, lines: Sequence[Line], about: About | None, told: Told

@@ -141,7 +141,9 @@ class Case(unittest.TestCase):
         self.write("second", -1.0)
         status, out, err = self.run_it("--build")
         self.assertEqual((status, out), (0, ""))
-        self.assertIn("pgsub: pgsub is proved, 1 of 1 crates, compiling it takes some minutes more\n", err)
+        self.assertIn(
+            "pgsub: pgsub is proved, 1 of 1 crates, compiling it takes some minutes more\n", err
+        )
         self.assertEqual(self.run_it("a"), (0, "second a\n", ""))
         self.assertEqual(self.builds(), 2)
 
