@@ -463,6 +463,13 @@ BUGS = (
         ("test_following",),
     ),
     Bug(
+        "status doesn't tell what a limit asks for",
+        "pgsub_connect/stream/filter_end.py",
+        'return f"{self}: {self.cure}" if self.cure else str(self)',
+        "return str(self)",
+        ("test_sizes",),
+    ),
+    Bug(
         "the filter's kill in one transaction is taken for another one's",
         "pgsub_connect/stream/memory_limit.py",
         "if xid != self.xid:",

@@ -99,6 +99,10 @@ class Texts(unittest.TestCase):
         for status in (1, 3, 12, 13, MEMORY, 15, -9):
             self.assertEqual(limit_text(FilterEnded(status, ""), self.LIMITS, (7, 1200), 600), "")
 
+    def test_memory(self) -> None:
+        text = limit_text(FilterEnded(MEMORY, ""), self.LIMITS, (7, SMALL), 600)
+        self.assertIn(f"transaction 7 had {SMALL} bytes so far: it needs more memory", text)
+
 
 class Follows(Case):
     def end(self, status: int, said: str = "") -> list[str]:
@@ -142,12 +146,12 @@ class Follows(Case):
             self.end(SPOOL_FULL),
             ["warning: open transactions were too much at a time: they come whole from now on"],
         )
-        with logged() as lines, self.assertRaises(FilterEnded):
+        with logged() as lines, self.assertRaises(FilterEnded) as raised:
             self.follower.life.note_end(FilterEnded(SPOOL_FULL, "pgsub: spool 1 SpoolFull"))
-        self.assertIn(
-            f"error: transaction 7 had {10 * len(insert(1))} bytes so far, and 100 may be buffered",
-            lines[0],
-        )
+        text = f"transaction 7 had {10 * len(insert(1))} bytes so far, and 100 may be buffered"
+        self.assertIn(f"error: {text}", lines[0])
+        # (the last error of the status file)
+        self.assertIn(f"SpoolFull: {text}", raised.exception.with_cure())
 
     def test_frame(self) -> None:
         long = insert(1) + bytes(1 << 17)

@@ -39,6 +39,7 @@ from ..store.placing import OF_STORE, check_meant
 from ..store.repeats_file import RepeatsFile
 from ..stream.common import Common, Tolerance
 from ..stream.filter import WATCH, Filter
+from ..stream.filter_end import FilterEnded
 from .arguments import words
 from .arguments.feed import FeedOptions, settled_feed
 from .arguments.following import check_numeric
@@ -196,7 +197,7 @@ def follow_locked(options: Options, checkpoint: Checkpoint, check: Check) -> int
         parts.feeding.check_read()
         progress.enter("stopped")
     except Exception as error:
-        progress.note_error(str(error))
+        progress.note_error(error.with_cure() if isinstance(error, FilterEnded) else str(error))
         if isinstance(error, LostSlot):
             progress.slot.note("lost", None)
         progress.enter("failed")

@@ -145,8 +145,9 @@ class Copier(Worker):
             self.attempt()
             is_made = True
         except FilterEnded as ended:
-            if text := limit_text(ended, self.settings.limits, (0, 0), self.sender.longest):
-                log.error(text)
+            ended.cure = limit_text(ended, self.settings.limits, (0, 0), self.sender.longest)
+            if ended.cure:
+                log.error(ended.cure)
             if ended.is_rejection():
                 raise
             tries.note("", ended)

@@ -160,10 +160,11 @@ class FilterLife:
         why = "open transactions were too much at a time"
         if not (ended.is_full() and self.form.stop_streaming(why)):
             largest = self.noting.largest()
-            if text := limit_text(ended, self.limits, largest, self.noting.longest):
-                log.error(text)
-            if self.feeding and (text := self.feeding.text_of(ended.said)):
-                log.error(text)
+            ended.cure = limit_text(ended, self.limits, largest, self.noting.longest)
+            if self.feeding and not ended.cure:
+                ended.cure = self.feeding.text_of(ended.said)
+            if ended.cure:
+                (log.error if ended.is_rejection() else log.warning)(ended.cure)
             if ended.is_rejection():
                 self.tell_rejected(ended)
                 # (what it told last, it may have told just now)
@@ -174,7 +175,7 @@ class FilterLife:
                 raise ended
             self.kills.note(ended, *largest)
             log.warning(f"{ended}: it is started again")
-        self.progress.note_restart(str(ended))
+        self.progress.note_restart(ended.with_cure())
 
     def tell_rejected(self, ended: FilterEnded) -> None:
         """Tells which commit, the first above its store's position, the filter has rejected."""

@@ -37,6 +37,8 @@ class FilterEnded(Failure):
         why = room or (BUSY if is_busy else "")
         super().__init__(f"{ended} ({why})" if why else ended)
         self.status, self.said = status, said
+        # what is to be done where it ended at a limit
+        self.cure = ""
 
     def is_rejection(self) -> bool:
         """Whether the same would come of another try; a full disk or memory may pass."""
@@ -51,6 +53,10 @@ class FilterEnded(Failure):
 
     def told(self) -> str:
         return f"stopped: {self}"
+
+    def with_cure(self) -> str:
+        """What a status file says of it: its log has two lines."""
+        return f"{self}: {self.cure}" if self.cure else str(self)
 
     def is_of_stream(self) -> bool:
         """Whether what was rejected is something that came, and not the words or the store."""

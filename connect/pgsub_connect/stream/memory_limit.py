@@ -4,7 +4,7 @@ import contextlib
 import dataclasses
 import os
 
-from .filter_end import FRAME_TOO_LARGE, REJECTED, SPOOL_FULL, FilterEnded
+from .filter_end import FRAME_TOO_LARGE, MEMORY, REJECTED, SPOOL_FULL, FilterEnded
 
 # The longest frame that PostgreSQL can send, with its length.
 LONGEST_FRAME = 2147483643
@@ -61,8 +61,9 @@ def default_buffered() -> int:
 
 # How the filter's line ends on a row of a load that is too long.
 LINE_TOO_LONG = ": 6 TooLong"
-# Below so many bytes no transaction is why a filter is killed.
+# Below so many bytes no transaction is why a filter is killed, or runs out of memory.
 SMALL = 1 << 20
+SCARCE = "it needs more memory than there was (a unit's MemoryMax)"
 
 
 class KilledTwice(FilterEnded):
@@ -86,8 +87,8 @@ class Kills:
             self.xid = xid
             return
         told = f"twice in the transaction {xid}, of which {size} bytes were passed on"
-        wants = f"It needs more memory than there was (a unit's MemoryMax), and --max-buffered of {size} bytes at least"
-        raise KilledTwice(ended.status, f"{told}. {wants}")
+        wants = f"{SCARCE}, and --max-buffered of {size} bytes at least"
+        raise KilledTwice(ended.status, f"{told}: {wants}")
 
 
 def limit_text(
@@ -104,6 +105,9 @@ def limit_text(
         return frame_text(limits, longest)
     if ended.status == REJECTED and ended.said.endswith(LINE_TOO_LONG):
         return frame_text(limits, longest, "row")
+    if ended.status == MEMORY and transaction[1] >= SMALL:
+        xid, size = transaction
+        return f"transaction {xid} had {size} bytes so far: {SCARCE}"
     return ""
 
 
