@@ -93,13 +93,13 @@ def kill_all(pids: Sequence[int]) -> bool:
     return killed
 
 
-def check_rules(log: Path) -> None:
+def check_rules(log: Path, of_rules: Sequence[str] = OF_RULES) -> None:
     """Fails where connectors have told that the server broke a rule of docs/PROTOCOL.md, or wasn't
     watched all the time."""
     if not log.exists():
         return
     lines = log.read_text(encoding="utf-8", errors="replace").splitlines()
-    told = [line for line in lines if any(it in line for it in OF_RULES)]
+    told = [line for line in lines if any(it in line for it in of_rules)]
     if told:
         raise Failed("\n".join(("the server didn't keep the rules, or wasn't watched:", *told)))
 
@@ -118,6 +118,8 @@ class Supervisor(threading.Thread):
         self.killed = False
         self.failure = ""
         self.starts = 0
+        # what its log may not have
+        self.of_rules: Sequence[str] = OF_RULES
 
     def run(self) -> None:
         while not self.ended.is_set() and not self.failure:
@@ -192,7 +194,7 @@ class Supervisor(threading.Thread):
             raise Failed(
                 f"the connector ended with status {status} after SIGTERM: {self.last_said()}"
             )
-        check_rules(self.log)
+        check_rules(self.log, self.of_rules)
 
     def kill(self) -> None:
         """Ends what still runs."""

@@ -3,6 +3,7 @@ killed once, a comparison, and README's walkthrough."""
 
 from __future__ import annotations
 
+import contextlib
 import dataclasses
 import time
 
@@ -13,10 +14,15 @@ from .killing import Run, mixed
 from .load import Mixed
 from .options import Options
 from .patience import Patience
+from .place import Place
+from .sizes import Form, Large, Size, run_steps, server_of
 from .walking import walk
 
 # What takes longer, in seconds, doesn't come: a busy machine gets on in this time.
 LATE = 300
+# What is done of `tools/large`, and by how many its sizes are divided.
+LARGE = ("inserts", "identity-full", "update", "subtransactions", "delete")
+OF = 1000
 
 
 def run(options: Options, checks: Checks) -> None:
@@ -32,6 +38,7 @@ def run(options: Options, checks: Checks) -> None:
             checks.run("its tables answer as the server", lambda: answers(run))
     finally:
         run.close()
+    checks.run("follows large transactions", lambda: large(options))
     checks.run("README's walkthrough with a server", lambda: walk(options))
 
 
@@ -61,6 +68,14 @@ def goes_on(run: Run, victim: str) -> None:
 def equal(run: Run) -> str:
     committed = run.load.end()
     return f"{run.compare()}; {committed} transactions"
+
+
+def large(options: Options) -> str:
+    """Large transactions, with a kill in each."""
+    form = Form(options.proto or 2, kills=1)
+    with contextlib.closing(Place(options, server_of(options, form))) as place:
+        place.closing.callback(place.cluster.remove)
+        return run_steps(Large(place, Size(OF), form), LARGE)
 
 
 def answers(run: Run) -> str:

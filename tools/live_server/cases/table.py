@@ -45,6 +45,7 @@ from . import (
     sink_ends,
     sink_keys,
     sinking,
+    sizes,
     slots,
     standbys,
     starts,
@@ -107,6 +108,7 @@ THEMES: dict[str, Sequence[Case]] = {
     "privacy": privacy.CASES,
     "operating": (*operating.CASES, *confining.CASES),
     "waiting": waiting.CASES,
+    "sizes": sizes.CASES,
     "altering": (*altering.CASES, *healing.CASES),
 }
 

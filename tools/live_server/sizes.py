@@ -1,0 +1,460 @@
+"""Transactions and changes of shape that are large, each in one step, and what it takes.
+
+A table is filled by one transaction, updated and deleted by one each, and altered; another gets
+subtransactions. After each step the copy has to hold the server's rows.
+"""
+
+from __future__ import annotations
+
+import dataclasses
+import hashlib
+import json
+import random
+import re
+import subprocess
+import time
+from collections.abc import Callable, Iterable
+from concurrent.futures import Future, ThreadPoolExecutor
+
+from .cases import adding
+from .cases.common import rows_file, verify_words
+from .cluster import Cluster
+from .errors import Failed
+from .feeds import columns_of, reading
+from .follower import OF_RULES, Supervisor, is_adding, wait_until
+from .options import Options
+from .peaks import Group, Peaks
+from .place import OK, PASSING, Place
+from .rows import Row, quoted
+
+# What is done at full size.
+ROWS, SUBTRANSACTIONS, WIDE = 10_000_000, 1_000_000, 1_000_000_000
+OTHERS, WIDEST = 50, 100_000_000
+SCHEMA = (
+    "CREATE TABLE large (id bigint PRIMARY KEY, other bigint NOT NULL, part int, word text, note text)",
+    "CREATE UNIQUE INDEX large_other ON large (other)",
+    "CREATE TABLE nested (id int PRIMARY KEY, word text)",
+    "CREATE TABLE beside (id int, at int, word text, PRIMARY KEY (id, at))",
+    "CREATE TABLE wide (id int PRIMARY KEY, word text)",
+    "CREATE TABLE mark (id int)",
+    "ALTER TABLE wide ALTER word SET STORAGE EXTERNAL",
+    # (a block with EXCEPTION is a subtransaction)
+    "CREATE FUNCTION nest(count int) RETURNS void LANGUAGE plpgsql AS $$ BEGIN FOR it IN 1..count LOOP"
+    " BEGIN INSERT INTO nested VALUES (it, md5(it::text)); IF it % 3 = 0 THEN RAISE EXCEPTION 'back'; END IF;"
+    " EXCEPTION WHEN raise_exception THEN NULL; END; END LOOP; END $$",
+)
+# What is said of a limit, with what it takes to go on.
+BUFFERED = re.compile(r"--max-buffered (\d+)")
+FRAME = re.compile(r"--max-frame (\d+)")
+TOO_LARGE = re.compile(r"has (?:at least )?(\d+) bytes, and \d+ may be buffered")
+KILLED_TWICE = "twice in the transaction"
+NOBODY = "nobody follows into"
+# How often one step may reach a limit, or be started again because it was killed twice.
+MOST_TRIES = 30
+# For how many seconds at most locks are waited for to compare.
+MOST_HELD = 600
+
+
+@dataclasses.dataclass(frozen=True)
+class Size:
+    """How much there is, by how many full sizes are divided."""
+
+    of: int
+
+    @property
+    def rows(self) -> int:
+        return ROWS // self.of
+
+    @property
+    def subtransactions(self) -> int:
+        return SUBTRANSACTIONS // self.of
+
+    @property
+    def wide(self) -> int:
+        """The bytes of a row's text."""
+        return min(WIDE // self.of, WIDEST)
+
+
+@dataclasses.dataclass(frozen=True)
+class Form:
+    """How it is followed. `memory`: how many megabytes connector and filter may take, 0 for any."""
+
+    proto: int = 2
+    fed: bool = True
+    kills: int = 0
+    memory: int = 0
+
+
+@dataclasses.dataclass
+class Digest:
+    """How many rows there are, and the sum of their digests, which doesn't depend on their order.
+    (A server finds them by itself: no value has one of these two characters.)"""
+
+    rows: int = 0
+    total: int = 0
+
+    def add(self, row: Row, copies: int = 1) -> None:
+        line = "|".join("~" if it is None else it for it in row)
+        self.rows += copies
+        self.total += copies * int(hashlib.md5(line.encode()).hexdigest()[:15], 16)
+
+
+Digests = dict[str, Digest]
+
+
+TABLES = ("large", "nested", "beside", "wide", "mark")
+
+
+def digests_of(server: Cluster) -> Digests:
+    """Those of a server's tables."""
+    found = {}
+    with server.connect() as session:
+        for table in TABLES:
+            columns = columns_of(session, table)
+            cells = ", ".join(f"coalesce({quoted(name)}::text, '~')" for name, _ in columns)
+            digest = f"('x' || left(md5(concat_ws('|', {cells})), 15))::bit(60)::bigint"
+            query = f"SELECT count(*), coalesce(sum({digest}), 0) FROM {table}"
+            (values,) = session.rows(query)
+            found[table] = Digest(*(int(it or 0) for it in values))
+    return found
+
+
+def digests_of_store(place: Place) -> Digests:
+    """Those of the rows that the program dumps, line by line."""
+    found: Digests = {}
+    words = [str(place.options.program), "dump", "--store", str(place.store)]
+    with subprocess.Popen(words, stdout=subprocess.PIPE) as dump:
+        assert dump.stdout
+        for line in dump.stdout:
+            if line.startswith(b"["):
+                _, table, values, copies = json.loads(line)
+                found.setdefault(table, Digest()).add(tuple(values), copies)
+    if dump.returncode:
+        raise Failed(f"dump: status {dump.returncode}")
+    return found
+
+
+def digests_of_tables(place: Place) -> Digests:
+    """Those of the tables of SQLite."""
+    found = {}
+    with place.cluster.connect(place.database) as session, reading(rows_file(place)) as base:
+        for table in TABLES:
+            found[table] = Digest()
+            names = ", ".join(quoted(name) for name, _ in columns_of(session, table))
+            for row in base.execute(f"SELECT {names} FROM {table}"):
+                found[table].add(tuple(None if it is None else str(it) for it in row))
+    return found
+
+
+def compare(server: Digests, copy: Digests, what: str) -> int:
+    """Fails at the first table whose digests differ. Returns how many rows there are."""
+    for table, expected in server.items():
+        found = copy.get(table, Digest())
+        if found != expected:
+            raise Failed(
+                f"{what}: {table} has {found.rows} rows in place of {expected.rows}, and another digest"
+            )
+    return sum(it.rows for it in server.values())
+
+
+def server_of(options: Options, form: Form) -> Cluster:
+    """A server that runs, with an empty database, whose log has room for all."""
+    # (where nothing is streamed, PostgreSQL 15 looks through all subtransactions each time that
+    # their changes are more than that)
+    kept = "64kB" if form.proto > 1 else "64MB"
+    settings = {
+        "max_wal_size": "8GB",
+        "wal_sender_timeout": "60s",
+        "logical_decoding_work_mem": kept,
+    }
+    cluster = Cluster(options.installed, options.folder, settings)
+    cluster.start()
+    cluster.run("CREATE DATABASE shop", database="postgres")
+    return cluster
+
+
+class Tables:
+    """Tables at a server, to which much is done at a time."""
+
+    def __init__(self, place: Place, size: Size) -> None:
+        self.place, self.size = place, size
+        place.run(*SCHEMA, "CREATE PUBLICATION pgsub FOR TABLE large, nested, beside, wide, mark")
+
+    def alter(self, *commands: str) -> None:
+        """Alters the table, and makes one change of it, so that its definition comes."""
+        self.sql(*commands)
+        self.sql("UPDATE large SET part = part + 1 WHERE id = 1")
+
+    def add(self) -> None:
+        """Has the table's rows copied anew."""
+        raise NotImplementedError
+
+    def end(self) -> str:
+        """The LSN behind all that is committed by now. (A commit with changes after it is confirmed
+        at once.)"""
+        end = self.place.cluster.log_end()
+        self.place.run("INSERT INTO mark VALUES (1)")
+        return end
+
+    def seconds(self) -> float:
+        """How long a step may take."""
+        return 120 + self.size.rows / 2000
+
+    def sql(self, *commands: str) -> None:
+        self.place.run(*commands)
+
+    def subtransactions(self) -> None:
+        """One transaction with many, of which a third is rolled back, beside others."""
+        connect, sessions = self.place.cluster.connect, []
+        try:
+            for at in range(OTHERS):
+                sessions.append(connect(self.place.database))
+                sessions[-1].run("BEGIN", rows_beside(at, 0))
+            with ThreadPoolExecutor(1) as pool:
+                nesting = pool.submit(
+                    self.sql, "BEGIN", f"SELECT nest({self.size.subtransactions})", "COMMIT"
+                )
+                for at, session in enumerate(sessions):
+                    session.run(rows_beside(at, 500))
+                for session in sessions[::2]:
+                    session.run("COMMIT")
+                nesting.result()
+            for at, session in enumerate(sessions[1::2]):
+                session.run("ROLLBACK" if at % 3 == 0 else "COMMIT")
+        finally:
+            for session in sessions:
+                session.close()
+
+
+class Large(Tables):
+    """A follower of tables to which much is done at a time. It is started again where it ends at a
+    limit, with what it says that it needs."""
+
+    def __init__(self, place: Place, size: Size, form: Form) -> None:
+        super().__init__(place, size)
+        self.form = form
+        self.rng = random.Random(f"large {place.options.seed} {size.of} {form}")
+        self.limits: list[str] = []
+        self.more = {} if not form.memory else {"--max-buffered": form.memory << 19}
+        self.group: Group | None = None
+        if form.memory and Group.can_be_made():
+            # (half of the group's memory is what the connector takes by itself)
+            self.group, self.more = Group(f"pgsub-{place.folder.name}", form.memory), {}
+            place.closing.callback(self.group.remove)
+        self.starts = self.killed = 0
+        # whether the copy had the server's rows after the last step
+        self.is_equal = True
+        self.supervisor = self.started("--create")
+        place.closing.callback(lambda: self.supervisor.kill())
+        self.peaks = Peaks(lambda: self.supervisor.child.pid)
+        self.peaks.start()
+        place.closing.callback(self.peaks.end)
+        self.wait_for(self.end())
+
+    # the follower
+
+    def words(self, *more: str) -> list[str]:
+        fed = ["--tables", str(rows_file(self.place))] if self.form.fed else []
+        limits = [word for name, most in self.more.items() for word in (name, str(most))]
+        words = self.place.words("--proto", str(self.form.proto), *fed, *limits, *more)
+        return self.group.words(words) if self.group else words
+
+    def started(self, *more: str) -> Supervisor:
+        self.starts += 1
+        log = self.place.folder / f"said-{self.starts}"
+        supervisor = Supervisor(self.words(*more), log)
+        # (a million changes at once aren't watched)
+        supervisor.of_rules = OF_RULES[:2]
+        supervisor.begin()
+        return supervisor
+
+    def restart(self) -> None:
+        """Ends the connector in the orderly way, and starts it again."""
+        self.supervisor.finish()
+        self.supervisor = self.started()
+
+    def go_on(self) -> None:
+        """Starts a connector again that has ended: as it was where it was killed twice in one
+        transaction, else with what it says that it needs."""
+        said = self.supervisor.last_said()
+        if KILLED_TWICE not in said:
+            self.raise_limits(said)
+        if self.starts > MOST_TRIES:
+            raise Failed(f"it was started {self.starts} times: {said}")
+        self.supervisor = self.started()
+
+    def raise_limits(self, said: str) -> None:
+        asked = {"--max-buffered": BUFFERED.findall(said), "--max-frame": FRAME.findall(said)}
+        if TOO_LARGE.search(said):
+            asked["--max-buffered"] = [str(2 * int(TOO_LARGE.findall(said)[-1]))]
+        told = {name: int(found[-1]) for name, found in asked.items() if found}
+        if not told:
+            raise Failed(f"it ended, and doesn't say what it needs: {said}")
+        self.limits.append(f"{said.strip().splitlines()[-1]} -> {told}")
+        self.more.update(told)
+
+    def wait_for(self, lsn: str) -> None:
+        """Waits until all up to there is stored, and in the tables."""
+
+        def is_there() -> bool:
+            if self.supervisor.failure:
+                self.go_on()
+            return self.place.has_confirmed(lsn) and not is_adding(self.place.store)
+
+        wait_until(is_there, f"confirming {lsn}", self.seconds())
+        if self.form.fed:
+            wait_until(rows_file(self.place).exists, "making the tables", self.seconds())
+            waits = [str(self.place.options.connect), "wait", lsn]
+            waits += ["--tables", str(rows_file(self.place)), "--within", f"{self.seconds():.0f}"]
+            self.place.has_ended(self.place.started(waits), OK, "", self.seconds() + 10)
+
+    # the steps
+
+    def run(self, name: str) -> str:
+        """Runs a step to its end. Returns what it took."""
+        self.wait_for(self.end())
+        self.limits.clear()
+        self.peaks.begin()
+        began, ended = time.monotonic(), []
+        with ThreadPoolExecutor(1) as pool:
+            doing = pool.submit(STEPS[name], self)
+            doing.add_done_callback(lambda _: ended.append(time.monotonic()))
+            self.kill_often(doing)
+            doing.result()
+        made = ended[0] - began
+        self.wait_for(self.end())
+        took = time.monotonic() - began
+        return f"{took:.1f} s, {made:.1f} of them the server's; {self.peaks.text()}"
+
+    def step(self, name: str) -> str:
+        """Runs a step, and compares after it. Fails where a limit was reached, too. Returns what
+        it took."""
+        self.is_equal = False
+        took = self.run(name)
+        self.verify()
+        took = f"{took}; {self.compare()}"
+        self.supervisor = self.started()
+        self.is_equal = True
+        if exceeded := self.exceeded():
+            raise Failed(f"{exceeded}; {took}")
+        return took
+
+    def exceeded(self) -> str:
+        """What is above its limit in the last step, "" where nothing is."""
+        if self.limits:
+            return f"it ended at a limit, and went on with more: {'; '.join(self.limits)}"
+        if self.form.memory and (taken := self.peaks.together()) > self.form.memory:
+            return f"connector and filter took {taken} of {self.form.memory} MB"
+        return ""
+
+    def about(self) -> str:
+        """How it is followed."""
+        limit = "a control group's" if self.group else "compared with VmHWM"
+        limit = f"{self.form.memory} MB, {limit}" if self.form.memory else "none"
+        fed = "with a feed and tables" if self.form.fed else "without a feed"
+        return f"{self.size.rows} rows, version {self.form.proto}, {fed}; limit of memory: {limit}"
+
+    def kill_often(self, doing: Future[None]) -> None:
+        """Kills filter and connector at random moments, some of them once the server has done its
+        part."""
+        reach = 0.5 + self.size.rows / 50_000
+        for at in range(self.form.kills):
+            time.sleep(self.rng.random() * reach)
+            if doing.done() and doing.exception():
+                return
+            self.kill("connector" if (at + self.starts) % 2 else "filter")
+
+    def kill(self, victim: str) -> None:
+        def is_killed() -> bool:
+            if self.supervisor.failure:
+                self.go_on()
+            it = self.supervisor
+            return it.kill_connector() if victim == "connector" else it.kill_filter()
+
+        wait_until(is_killed, f"finding a {victim} that runs", self.seconds())
+        self.killed += 1
+
+    def add(self) -> None:
+        """Again where a kill comes between."""
+        for _ in range(MOST_TRIES):
+            child = self.place.started(adding.words(self.place, "large"))
+            status = child.end(self.seconds())
+            if status == OK:
+                return
+            if TOO_LARGE.search(child.said()):
+                self.raise_limits(child.said())
+                self.restart()
+            elif not self.form.kills:
+                raise Failed(f"add: status {status}: {child.said()}")
+            time.sleep(0.2)
+        raise Failed(f"add: {child.said()}")
+
+    # what is compared
+
+    def verify(self) -> None:
+        """Has the connector compare while it follows."""
+        words = verify_words(self.place, "--hold", f"{min(self.seconds(), MOST_HELD):.0f}")
+
+        def is_compared() -> bool:
+            child = self.place.started(words)
+            status = child.end(self.seconds())
+            if status == PASSING and NOBODY in child.said():
+                # (it was killed a moment ago, after it had confirmed all)
+                return False
+            return bool(self.place.has_ended(child, OK, ""))
+
+        wait_until(is_compared, "comparing", self.seconds())
+
+    def compare(self) -> str:
+        """Ends the connector, and compares the digests of all rows. Returns how many there are."""
+        self.supervisor.finish()
+        server = digests_of(self.place.cluster)
+        count = compare(server, digests_of_store(self.place), "the store")
+        if self.form.fed:
+            compare(server, digests_of_tables(self.place), "the tables")
+        spool = self.place.beside(".spool")
+        if left := sorted(spool.iterdir()) if spool.exists() else []:
+            raise Failed(f"the spool's folder has {left[:3]}")
+        return f"{count} rows are equal"
+
+
+def rows_beside(at: int, first: int) -> str:
+    """Inserts 500 rows of another transaction."""
+    return f"INSERT INTO beside SELECT {at}, it, repeat('b', 150) FROM generate_series({first + 1}, {first + 500}) it"
+
+
+def sql(command: str) -> Callable[[Tables], None]:
+    return lambda tables: tables.sql(command.format(size=tables.size))
+
+
+def altered(command: str) -> Callable[[Tables], None]:
+    return lambda tables: tables.alter(f"ALTER TABLE large {command}")
+
+
+# In this order: each but the first needs the rows of those before.
+STEPS: dict[str, Callable[[Tables], None]] = {
+    "inserts": sql(
+        "INSERT INTO large SELECT it, -it, it % 1000, repeat(md5(it::text), 4), 'note ' || it"
+        " FROM generate_series(1, {size.rows}) it"
+    ),
+    "identity-full": altered("REPLICA IDENTITY FULL"),
+    "update": sql("UPDATE large SET part = part + 1, note = note || '.'"),
+    "identity-index": altered("REPLICA IDENTITY USING INDEX large_other"),
+    "add-column": altered("ADD COLUMN added int"),
+    "drop-column": altered("DROP COLUMN note"),
+    "subtransactions": Tables.subtransactions,
+    "wide": sql("INSERT INTO wide SELECT 1, repeat(md5('1'), {size.wide} / 32)"),
+    "add": lambda tables: tables.add(),
+    "delete": sql("DELETE FROM large"),
+}
+
+
+def run_steps(large: Large, names: Iterable[str]) -> str:
+    """Runs steps one after the other, none of which may reach a limit, and compares at the end.
+    Returns what there is to say."""
+    for name in names:
+        took = large.run(name)
+        if exceeded := large.exceeded():
+            raise Failed(f"{name}: {exceeded}; {took}")
+    large.verify()
+    return f"{large.compare()}, after {large.killed} kills"

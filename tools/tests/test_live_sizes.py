@@ -1,0 +1,89 @@
+"""How much memory processes take, and the digests by which large copies are compared."""
+
+from __future__ import annotations
+
+import subprocess
+import sys
+import tempfile
+import unittest
+from pathlib import Path
+
+try:
+    from live_server.errors import Failed
+    from live_server.peaks import Group, forget_peak, peak_of
+    from live_server.sizes import Digest, compare
+except ModuleNotFoundError:
+    raise unittest.SkipTest("psycopg is needed") from None
+
+# Takes 50 MB and gives them back, at each line that it reads.
+TAKES = "import sys\nfor _ in sys.stdin:\n    bytearray(b'x' * (50 << 20))\n    print(flush=True)\n"
+MOST = 40 << 10
+
+
+class Peaks(unittest.TestCase):
+    def test_told_from_now_on(self) -> None:
+        words = [sys.executable, "-c", TAKES]
+        with subprocess.Popen(words, stdin=subprocess.PIPE, stdout=subprocess.PIPE) as child:
+            assert child.stdin and child.stdout
+            for _ in range(2):
+                child.stdin.write(b"\n")
+                child.stdin.flush()
+                child.stdout.readline()
+                self.assertGreater(peak_of(child.pid), MOST)
+                forget_peak(child.pid)
+                self.assertLess(peak_of(child.pid), MOST)
+            child.stdin.close()
+            child.wait()
+            self.assertEqual(peak_of(child.pid), 0)
+
+
+class Groups(unittest.TestCase):
+    """The files are those of a folder here."""
+
+    def setUp(self) -> None:
+        folder = tempfile.TemporaryDirectory()
+        self.addCleanup(folder.cleanup)
+        self.top = Path(folder.name)
+
+    def test_where_none_can_be_made(self) -> None:
+        self.assertFalse(Group.can_be_made(self.top))
+        (self.top / "cgroup.subtree_control").write_text("cpu pids\n")
+        self.assertFalse(Group.can_be_made(self.top))
+
+    def test_what_runs_in_it(self) -> None:
+        (self.top / "cgroup.subtree_control").write_text("cpu memory pids\n")
+        self.assertTrue(Group.can_be_made(self.top))
+        group = Group("group", 512, self.top)
+        self.assertEqual((group.folder / "memory.max").read_text(), str(512 << 20))
+        words = group.words([sys.executable, "-c", "import os; print(os.getpid())"])
+        said = subprocess.run(words, capture_output=True, text=True, check=True).stdout
+        self.assertEqual((group.folder / "cgroup.procs").read_text(), said)
+
+
+class Digests(unittest.TestCase):
+    def digest(self, *rows: tuple[str | None, ...]) -> Digest:
+        found = Digest()
+        for row in rows:
+            found.add(row)
+        return found
+
+    def test_any_order(self) -> None:
+        a, b = ("1", "x"), ("2", None)
+        self.assertEqual(self.digest(a, b), self.digest(b, a))
+        twice = self.digest(a)
+        twice.add(b, 2)
+        self.assertEqual(self.digest(b, a, b), twice)
+
+    def test_others(self) -> None:
+        found = self.digest(("1", None), ("2", "x"))
+        others: tuple[list[tuple[str | None, ...]], ...] = (
+            [("1", None)],
+            [("1", None), ("2", "y")],
+            [("1", "None"), ("2", "x")],
+            [("1", "x"), ("2", None)],
+            [("1", None), ("2", "x"), ("2", "x")],
+        )
+        for rows in others:
+            with self.assertRaises(Failed):
+                compare({"t": found}, {"t": self.digest(*rows)}, "a copy")
+        self.assertEqual(compare({"t": found, "u": Digest()}, {"t": found}, "a copy"), 2)
