@@ -145,7 +145,7 @@ class Copier(Worker):
             self.attempt()
             is_made = True
         except FilterEnded as ended:
-            ended.cure = limit_text(ended, self.settings.limits, (0, 0), self.sender.longest)
+            ended.note_cure(limit_text(ended, self.settings.limits, (0, 0), self.sender.longest))
             if ended.cure:
                 log.error(ended.cure)
             if ended.is_rejection():

@@ -160,9 +160,10 @@ class FilterLife:
         why = "open transactions were too much at a time"
         if not (ended.is_full() and self.form.stop_streaming(why)):
             largest = self.noting.largest()
-            ended.cure = limit_text(ended, self.limits, largest, self.noting.longest)
-            if self.feeding and not ended.cure:
-                ended.cure = self.feeding.text_of(ended.said)
+            cure = limit_text(ended, self.limits, largest, self.noting.longest)
+            if self.feeding and not cure:
+                cure = self.feeding.text_of(ended.said)
+            ended.note_cure(cure)
             if ended.cure:
                 (log.error if ended.is_rejection() else log.warning)(ended.cure)
             if ended.is_rejection():

@@ -54,6 +54,10 @@ class FilterEnded(Failure):
     def told(self) -> str:
         return f"stopped: {self}"
 
+    def note_cure(self, cure: str) -> None:
+        """Notes what is to be done, "" where nothing is known."""
+        self.cure = cure
+
     def with_cure(self) -> str:
         """What a status file says of it: its log has two lines."""
         return f"{self}: {self.cure}" if self.cure else str(self)
