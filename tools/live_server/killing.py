@@ -255,6 +255,8 @@ class Fed:
         seen = {it for it in self.reader.seen if it >= above}
         rows, state = self.replay()
         compare(rows_of_server(self.run.cluster, "pgsub"), rows)
+        # (an altered table may have come anew while the follower ended)
+        self.call("tables", "--feed", self.feed, "--into", self.rows, "--once")
         count, images = compare_tables(self.run.cluster, self.rows, "pgsub"), check_images(
             self.feed, *self.logged, above=above
         )

@@ -20,6 +20,7 @@ from feed_replay import Replay, lsn_of, row_of
 
 from ..errors import Failed
 from ..feeds import compare_tables, rows_of_feed
+from ..follower import is_adding, wait_until
 from ..load import SCHEMA, Worker, final_statements
 from ..patience import Patience
 from ..place import OK, Place
@@ -161,6 +162,8 @@ def cut(place: Place) -> None:
         child.wait_for("following slot")
     finally:
         end(workers)
+    # (a copy that goes on adds what wasn't stored whole)
+    wait_until(lambda: not is_adding(place.store), "adding tables", 120, child.check)
     place.run(*final_statements())
     place.catch_up(child)
     child.stop()
