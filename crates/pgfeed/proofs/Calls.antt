@@ -76,7 +76,7 @@ lasts_there base new_base size new_size place after same stays lasting =
 -- it keeps as many where definitions are forgotten
 kept_told : (base last size : ℕ) (told now : List Told) (file : List ℕ) (es : List Entry) → Remembers told now
     → KeepsEntries base last size told file es → KeepsEntries base last size now file es
-kept_told base last size told now file es (inl all) k = subst (λ t. KeepsEntries base last size t file es) (sym all) k
+kept_told base last size told now file es (inl all) k = subst (λ t. KeepsEntries base last size t file es) (sym all.1) k
 kept_told base last size told now file es (inr none) k = record {
   head = k.head;
   bodies = k.bodies;
@@ -86,7 +86,7 @@ kept_told base last size told now file es (inr none) k = record {
   size_is = k.size_is;
   entries = k.entries;
   written = k.written;
-  stand = subst (AllByRecursion (Stands (k.head ++ entries_text k.bodies base es))) (sym none) tt;
+  stand = subst (AllByRecursion (Stands (k.head ++ entries_text k.bodies base es))) (sym none.1) tt;
   last_is = k.last_is;
 }
 

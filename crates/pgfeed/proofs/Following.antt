@@ -71,8 +71,8 @@ pub record Adds {D : Type 0} (seen : D → List ℕ) (old new : Segment D) (e : 
   pub told_is : Remembers (next_told old e) new.told.items
 
 pub remembers_as : (told other now : List Told) → told ≡ other → Remembers told now → Remembers other now
-remembers_as told other now same (inl all) = inl (all ∙ same)
-remembers_as told other now same (inr none) = inr none
+remembers_as told other now same (inl all) = inl (subst (λ (ts : List Told). length ts ≤ 1024) same all.0, all.1 ∙ same)
+remembers_as told other now same (inr none) = inr (subst (λ (ts : List Told). 1024 < length ts) same none.0, none.1)
 
 pub adds_piece : {D : Type 0} (seen : D → List ℕ) (old new : Segment D) (e : Entry) (piece : Piece) → IsNext old e piece
     → (0 < length (string_bytes piece.text) → Holds (seen new.disk) old.size (string_bytes piece.text))

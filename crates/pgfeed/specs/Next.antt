@@ -1,5 +1,5 @@
 -- What comes behind the entries of a segment.
-use Rattle.std.specs.Prelude.{◌≡◌, ◌<◌, ◌+◌, ◌++◌, ◌⊎◌, ℕ, List, [], string_bytes}
+use Rattle.std.specs.Prelude.{◌≡◌, ◌<◌, ◌≤◌, ◌+◌, ◌++◌, ◌⊎◌, ℕ, List, [], length, string_bytes}
 use Rattle.pgledger.specs.Entries.{Entry}
 use Rattle.pgfeed.specs.declared.entries.Piece.{Piece}
 use Rattle.pgfeed.specs.declared.segment.Segment.{Segment}
@@ -21,9 +21,9 @@ FitsNext s e = FitsEntry s.last e (next_body s e)
 abbrev pub next_text : {D : Type 0} → Segment D → Entry → List ℕ
 next_text s e = entry_text s.last e (next_body s e)
 
--- of definitions that stand in the segment all are remembered, or none
+-- of definitions that stand in the segment all are remembered, or none where they are too many
 abbrev pub Remembers : List Told → List Told → Type 0
-Remembers told now = (now ≡ told) ⊎ (now ≡ [])
+Remembers told now = ((length told ≤ 1024) × (now ≡ told)) ⊎ ((1024 < length told) × (now ≡ []))
 
 -- this is the text of the entry there, and these are the definitions that it tells
 pub record IsNext {D : Type 0} (s : Segment D) (e : Entry) (piece : Piece) : Type 0 where
