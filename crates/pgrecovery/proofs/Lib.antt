@@ -3,6 +3,7 @@ mod Life
 mod FedLife
 mod StoredOnce
 mod LifeSessions
+mod LifeEntries
 mod LifeFeeds
 mod LifeTakes
 mod LifeFed

@@ -34,7 +34,7 @@ use Rattle.pgrecovery.proofs.LifeSessions.{complete_3, history, session_1}
 use Rattle.pgrecovery.proofs.LifeSessions.{complete_12, data_at, fits_1, fits_2, fits_3, frame_of}
 use Rattle.pgrecovery.proofs.LifeSessions.{handled_1}
 use Rattle.pgrecovery.proofs.LifeSessions.{next_13, tables_304, tables_448, tables_672, tx_11}
-use Rattle.pgrecovery.proofs.LifeFeeds.{folds_11}
+use Rattle.pgrecovery.proofs.LifeEntries.{folds_11}
 use Rattle.pgrecovery.proofs.LifeTakes.{at, clock, commit_taken, described_11, taken_1, taken_1_all}
 use Rattle.pgrecovery.proofs.LifeTakes.{taken_2, taken_3, takes_1_all}
 use Rattle.pgrecovery.proofs.LifeTakes.{takes_1, takes_2, takes_3, told_t}

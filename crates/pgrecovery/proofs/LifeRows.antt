@@ -55,7 +55,8 @@ use Rattle.pgrecovery.proofs.LifeSessions.{tables_672, tables_816}
 use Rattle.pgrecovery.proofs.LifeFeeds.{Folder, MemoryFeed, feed_1, feed_1_ended, feed_2}
 use Rattle.pgrecovery.proofs.LifeFeeds.{feed_2_ended}
 use Rattle.pgrecovery.proofs.LifeFeeds.{feed_3, feed_3_ended, file, folder_1, folder_3, has, honest}
-use Rattle.pgrecovery.proofs.LifeFeeds.{entry_10, entry_13, is_clean, is_true, left_1, left_2}
+use Rattle.pgrecovery.proofs.LifeEntries.{entry_10, entry_13}
+use Rattle.pgrecovery.proofs.LifeFeeds.{is_clean, is_true, left_1, left_2}
 use Rattle.pgrecovery.proofs.LifeFeeds.{may_leave}
 use Rattle.pgrecovery.proofs.LifeFeeds.{opened_1, opened_2, opened_3, places, recorded_1}
 use Rattle.pgrecovery.proofs.LifeFeeds.{recorded_1_all}

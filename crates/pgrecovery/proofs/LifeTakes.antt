@@ -30,7 +30,7 @@ use Rattle.pgrecovery.proofs.LifeSessions.{complete_3}
 use Rattle.pgrecovery.proofs.LifeSessions.{data_at, handled_1}
 use Rattle.pgrecovery.proofs.LifeSessions.{tables_304, tables_448, tables_560, tables_672}
 use Rattle.pgrecovery.proofs.LifeSessions.{tables_816, tx_10, tx_11, tx_12, tx_13, tx_14}
-use Rattle.pgrecovery.proofs.LifeFeeds.{folds_10, folds_11, folds_12, folds_13, folds_14}
+use Rattle.pgrecovery.proofs.LifeEntries.{folds_10, folds_11, folds_12, folds_13, folds_14}
 
 -- the time at which all is fed
 abbrev pub clock : ℤ

@@ -3,6 +3,7 @@ pub mod Describing
 pub mod Fitting
 pub mod Framing
 pub mod Kept
+pub mod KnownCauses
 pub mod Messages
 pub mod Nested
 pub mod Orders
