@@ -1,5 +1,5 @@
 -- What the calls of a feed leave of it as the ledger of the store beside it.
-use Rattle.std.proofs.Common.{◌≡◌, ◌≤◌, ◌<◌, ◌⊎◌, inl, inr, ℕ, List, [], ◌∷◌, ◌++◌, append-nil}
+use Rattle.std.proofs.Common.{◌≡◌, ◌<◌, ◌⊎◌, inl, inr, ℕ, List, [], ◌∷◌, ◌++◌, append-nil}
 use Rattle.std.proofs.Common.{append_assoc, ap, refl, sym, ◌∙◌, subst, arith, Bool, true, None}
 use Rattle.std.specs.List.{AllByRecursion}
 use Rattle.std.proofs.lemmas.Bool.{cases_lt}

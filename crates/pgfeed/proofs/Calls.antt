@@ -1,5 +1,5 @@
 -- What the calls of a segment leave.
-use Rattle.std.proofs.Common.{◌≡◌, ◌<◌, ◌≤◌, ◌+◌, ℕ, List, [], ◌∷◌, ◌++◌, drop, length, ◌⊎◌, inl}
+use Rattle.std.proofs.Common.{◌≡◌, ◌<◌, ◌≤◌, ◌+◌, ℕ, List, [], ◌∷◌, ◌++◌, drop, length, inl}
 use Rattle.std.proofs.Common.{inr}
 use Rattle.std.proofs.Common.{length-append, length-drop, append-nil, ap, ◌^◌, refl, sym, ◌∙◌}
 use Rattle.std.proofs.Common.{subst, arith}

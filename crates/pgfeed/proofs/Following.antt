@@ -1,30 +1,25 @@
 -- What the calls of a feed leave of its segments.
 use Rattle.std.proofs.Common.{◌≡◌, ◌≢◌, ◌⊎◌, inl, inr, ◌<◌, ◌≤◌, ◌+◌, ℕ, List, [], ◌∷◌, ◌++◌}
 use Rattle.std.proofs.Common.{length, append-nil, append_assoc, ap, refl, sym, ◌∙◌, subst, arith}
-use Rattle.std.proofs.Common.{Result, Ok, Err, true, false, Option, ℤ}
-use Rattle.pgapply.specs.declared.commit.About.{About}
+use Rattle.std.proofs.Common.{Result, Ok, Err, true, false}
 use Rattle.std.specs.Prelude.{Bool, IsTrue, OnErr, string_bytes}
 use Rattle.std.specs.List.{AllByRecursion}
 use Rattle.sqlite_disk.specs.Disk.{Holds, Only}
 use Rattle.pgledger.specs.Entries.{Entry, last_end}
 use Rattle.pgfeed.specs.declared.feed.Feed.{Feed}
 use Rattle.pgfeed.specs.declared.segment.Segment.{Segment}
-use Rattle.pgfeed.specs.Folders.{AreBelow, HasNoMoreElse, MakesAtMost}
 use Rattle.pgfeed.specs.Reading.{AreEntries}
-use Rattle.pgfeed.specs.Segments.{IsEnded, IsFinished, KeepsEntries, Lasts, LastsAs}
+use Rattle.pgfeed.specs.Segments.{IsEnded, KeepsEntries, Lasts, LastsAs}
 use Rattle.pgfeed.specs.Segments.{HasWhatLasts, WritesBehind}
 use Rattle.pgfeed.specs.declared.told.Told.{Told}
 use Rattle.pgfeed.specs.Next.{FitsNext, IsNext, Remembers, next_body, next_text, next_told}
 use Rattle.pgfeed.specs.declared.entries.Piece.{Piece}
 use Rattle.pgfeed.specs.Cutting.Walking.{entry_length}
-use Rattle.pgfeed.specs.Feeds.{AreEnded, BeginAt, BeginBelow, Ends, Follow, Goes, HasHeadAt}
-use Rattle.pgfeed.specs.Feeds.{IsFresh}
-use Rattle.pgfeed.specs.Feeds.{IsHonestFeed, IsLeftIn, IsWhole, KeepsAll, LastsUpTo, LeavesAt}
-use Rattle.pgfeed.specs.Feeds.{IsTimed, MayEnd, MayHave, NoneAt, ReopensAt, SomeLeaves, StaysTimed}
-use Rattle.pgfeed.specs.Feeds.{TakesAllBack, first_time}
-use Rattle.pgfeed.specs.Cutting.Kept.{end_append, entries_append}
+use Rattle.pgfeed.specs.Feeds.{AreEnded, BeginAt, Follow, Goes, HasHeadAt}
+use Rattle.pgfeed.specs.Feeds.{IsHonestFeed, IsLeftIn, KeepsAll, LastsUpTo, LeavesAt}
+use Rattle.pgfeed.specs.Feeds.{MayHave, ReopensAt, SomeLeaves}
+use Rattle.pgfeed.specs.Feeds.{TakesAllBack}
 use Rattle.pgfeed.specs.Cutting.Following.{all_last, ended_below, ended_less}
-use Rattle.pgfeed.specs.Cutting.Following.{one_split}
 use Rattle.pgfeed.specs.Cutting.Opened.{lasts_as}
 use Rattle.pgfeed.proofs.Calls.{appended, lasts_more, lasts_there, synced_lasts, untold}
 use Rattle.pgfeed.proofs.Calls.{writes_same}

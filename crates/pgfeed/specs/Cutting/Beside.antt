@@ -6,7 +6,7 @@ use Rattle.std.specs.List.{AllByRecursion}
 use Rattle.pgledger.specs.Entries.{Entry, last_end}
 use Rattle.pgfeed.specs.declared.feed.Feed.{Feed}
 use Rattle.pgfeed.specs.Beside.{KeepsRest, LastsFrom, told_from}
-use Rattle.pgfeed.specs.Feeds.{KeepsAll, KeepsLast, ReopensAt}
+use Rattle.pgfeed.specs.Feeds.{KeepsAll, ReopensAt}
 use Rattle.pgfeed.specs.Cutting.Following.{all_entries, cut_last}
 use Rattle.pgfeed.specs.Cutting.Written.{ends_up}
 use Rattle.pgfeed.specs.Cutting.Kept.{end_append}

@@ -12,7 +12,7 @@ use Rattle.pgfeed.specs.Texts.{commit_told, crc_text, entries_text, entry_crc, e
 use Rattle.pgfeed.specs.Texts.{entry_text}
 use Rattle.pgfeed.specs.Fits.{FitsEntry}
 use Rattle.pgfeed.specs.declared.mark.Mark.{Mark}
-use Rattle.pgfeed.specs.Reading.{BeginsWith, EntriesHaveTheirCrc, HasItsCrc, LinesLeadOver}
+use Rattle.pgfeed.specs.Reading.{BeginsWith, EntriesHaveTheirCrc, LinesLeadOver}
 use Rattle.pgfeed.specs.Reading.{TextIsReadInOneWay, Walks, mark_of}
 use Rattle.pgfeed.specs.Cutting.Fronts.{one_front}
 use Rattle.pgfeed.specs.Cutting.Widths.{crc_small, line_length}

@@ -10,7 +10,7 @@ use Rattle.std.proofs.lemmas.List.{length-replicate}
 use Rattle.pglsn.specs.Texts.{lsn_text}
 use Rattle.pglsn.proofs.Printed.{text_reads}
 use Rattle.pgapply.specs.declared.commit.About.{About}
-use Rattle.pgcrc.specs.Crc.{after_bits, crc32, message_bits, ones}
+use Rattle.pgcrc.specs.Crc.{crc32}
 use Rattle.pgfeed.specs.Texts.{about_text, closing_object, commit_front, commit_line, commit_object}
 use Rattle.pgfeed.specs.Texts.{commit_rest, commit_told, crc_text, padded, unix_micros}
 use Rattle.pgfeed.specs.Fits.{FitsAbout, FitsLine}

@@ -1,4 +1,4 @@
-use Rattle.std.proofs.Common.{◌≡◌, ◌++◌, ℕ, List, drop, take, length, ap, sym, ◌∙◌, subst, arith}
+use Rattle.std.proofs.Common.{◌≡◌, ◌++◌, ℕ, List, drop, take, length, ap, sym, ◌∙◌, subst}
 use Rattle.std.proofs.Common.{rules}
 use Rattle.sqlite_disk.specs.Disk.{Holds}
 use Rattle.pgcrc.specs.Covering.{Covers}

@@ -1,6 +1,6 @@
-use Rattle.std.proofs.Common.{◌≡◌, ◌≤◌, ◌+◌, ◌++◌, ℕ, List, [], drop}
-use Rattle.std.proofs.Common.{take, length, ap, sym, ◌∙◌, subst}
-use Rattle.std.proofs.Common.{arith, rules}
+use Rattle.std.proofs.Common.{◌≡◌, ◌+◌, ◌++◌, ℕ, List, [], drop}
+use Rattle.std.proofs.Common.{take, length, ap, sym, ◌∙◌}
+use Rattle.std.proofs.Common.{arith}
 use Rattle.std.proofs.lemmas.List.{take-append-drop}
 use Rattle.sqlite_disk.specs.Disk.{Holds}
 use Rattle.pgcrc.specs.Crc.{crc32}

@@ -1,4 +1,4 @@
-use Rattle.std.proofs.Common.{List, ◌∙◌, arith, refl}
+use Rattle.std.proofs.Common.{List, arith, refl}
 use Rattle.pgledger.specs.Entries.{Entry, entry_of}
 use Rattle.pgfeed.proofs.Ending.{ends_same, timed}
 use Rattle.pgfeed.proofs.Following.{Adds, Writes, adds_piece, all_more, all_quiet, goes_end}

@@ -1,4 +1,4 @@
-use Rattle.std.proofs.Common.{◌≡◌, ◌+◌, ◌<◌, ap, arith, length, string_bytes, subst, ◌∙◌}
+use Rattle.std.proofs.Common.{◌+◌, ◌<◌, ap, arith, length, string_bytes, subst, ◌∙◌}
 use Rattle.std.proofs.lemmas.Result.{on_ok_weaker}
 use Rattle.pgledger.specs.Entries.{Entry, entry_of}
 use Rattle.sqlite_disk.specs.Disk.{Holds}
