@@ -21,9 +21,9 @@ def count(oid, cells, by, is_repair):
 
 def keep(lsn, lines, is_repair=False):
     for it in map(json.loads, lines):
-        it = {"op": "r", "oid": oid, "after": it} if isinstance(it, list) else it  # a first row
-        oid, table = it["oid"], json.loads(read(it["at"])) if "at" in it else it
-        if table["op"] == "table" and table != tables.get(oid):  # columns keep values by name
+        it = {"op": "r", "after": it} if isinstance(it, list) else it  # a first row
+        table = json.loads(read(it["at"])) if "at" in it else table if it["op"] == "r" else it
+        if table != tables.get(oid := table["oid"]):  # columns keep values by name
             tables[oid], before, rows[oid] = table, rows.get(oid, {}), {}
             for row, copies in before.values():
                 count(oid, [row.get(name) for name, *_ in table["columns"]], copies, False)

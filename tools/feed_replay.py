@@ -110,7 +110,7 @@ class Replay:
 
 def told_lines(text: bytes, start: int, body: bytes) -> bytes:
     """The lines of a commit, which begin at an offset of the segment, with the definitions that they
-    name before them."""
+    name before them. A change gets the OID that its definition has."""
     lines, told, offset = list[bytes](), dict[int, bytes](), start
     for line in body.splitlines(keepends=True):
         it = definition = json.loads(line)
@@ -120,13 +120,13 @@ def told_lines(text: bytes, start: int, body: bytes) -> bytes:
             need(HEAD + COMMIT <= at < offset, f"a definition isn't before its change: {it}")
             named = text[at : text.index(b"\n", at) + 1]
             definition = json.loads(named)
-            is_its = definition["op"] == "table" and definition["oid"] == it["oid"]
-            need(is_its and text[at - 1 : at] == b"\n", f"no definition stands at {at}: {it}")
+            is_one = definition["op"] == "table" and text[at - 1 : at] == b"\n"
+            need(is_one, f"no definition stands at {at}: {it}")
         if told.get(definition["oid"]) != named:
             told[definition["oid"]] = named
             lines.append(named)
         if it["op"] != "table":
-            lines.append(line)
+            lines.append(b'{"oid":%d,%b' % (definition["oid"], line[1:]))
         offset += len(line)
     return b"".join(lines)
 

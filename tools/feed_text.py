@@ -142,7 +142,7 @@ def table_line(it: Definition) -> bytes:
 
 
 def change_line(at: int, n: int, it: Line) -> bytes:
-    front = f'{{"op":"{it.op}","oid":{it.definition.oid},"at":{at},"n":{n},'
+    front = f'{{"op":"{it.op}","at":{at},"n":{n},'
     if it.op == "x":
         old = None if it.kind is None else [it.kind, [cell_value(cell) for cell in it.before or ()]]
         sent = "d" if it.after is None else "u"

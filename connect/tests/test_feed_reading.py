@@ -493,7 +493,6 @@ class Damage(Case):
             ),
             (b'"n":0', b'"n":1', (6, insert_at)),
             (b'"n":1', b'"n":7', (6, delete_at)),
-            (b'"oid":1,"at"', b'"oid":2,"at"', (7, insert_at)),
             (b'"at":1280', b'"at":1281', (7, insert_at)),
             (b'"at":1280', b'"at":9999', (7, insert_at)),
             (b'"at":1280', b'"at":1024', (7, insert_at)),
@@ -550,6 +549,15 @@ class Damage(Case):
                 Damaged, f"a feed of format {number}, which {told}.* name an empty folder by --feed"
             ):
                 self.ends()
+
+    def test_changes_of_early_feeds(self) -> None:
+        """They have the OID of their relation too."""
+        found, at = self.parts(), self.text.index(b'{"end":"0/200"')
+        line, body = self.text[at : at + 256], self.text[at + 256 :]
+        early = body.replace(b'"at"', b'"oid":1,"at"')
+        line = line.replace(b'"bytes":%d' % len(body), b'"bytes":%d' % len(early))
+        self.file().write_bytes(self.text[:at] + summed(line + early))
+        self.assertEqual(self.parts(), found)
 
     def test_definitions_of_segments(self) -> None:
         """In each another one stands at the same offset."""

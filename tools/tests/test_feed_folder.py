@@ -179,7 +179,7 @@ class Differences(unittest.TestCase):
         self.check(
             '"before":["A","5"]',
             '"before":["A","4"]',
-            r'line 5 from byte 53: .*"before":\["A","4"\],',
+            r'line 5 from byte 41: .*"before":\["A","4"\],',
         )
         self.check('"after":["A","4"]', '"after":["A","5"]', r'line 5 .*"after":\["A","5"\]}')
         self.check('"before":null,"after":["A","5"]', '"before":["A","5"],"after":null', "line 4 ")

@@ -47,11 +47,11 @@ class Texts(unittest.TestCase):
                 Line(STOCK, "d", ["A-1", None]),
             ],
             ABOUT,
-            commit("0/25204168", "0/25204038", 363, 3, 3866072028),
+            commit("0/25204168", "0/25204038", 327, 3, 931784796),
             STOCK_TEXT,
-            '{"op":"c","oid":16384,"at":1280,"n":0,"before":null,"after":["A-1","5"]}',
-            '{"op":"u","oid":16384,"at":1280,"n":1,"before":["A-1","5"],"after":["A-1",null]}',
-            '{"op":"d","oid":16384,"at":1280,"n":2,"before":["A-1",null],"after":null}',
+            '{"op":"c","at":1280,"n":0,"before":null,"after":["A-1","5"]}',
+            '{"op":"u","at":1280,"n":1,"before":["A-1","5"],"after":["A-1",null]}',
+            '{"op":"d","at":1280,"n":2,"before":["A-1",null],"after":null}',
         )
 
     def test_definitions(self) -> None:
@@ -67,16 +67,16 @@ class Texts(unittest.TestCase):
                 Line(WIDER, "u", ["A", "1", "0.50"], ["B", "1", "0.50"]),
             ],
             ABOUT,
-            commit("0/252041D8", "0/25204168", 899, 6, 3381742257),
+            commit("0/252041D8", "0/25204168", 827, 6, 3701197043),
             STOCK_TEXT,
-            '{"op":"c","oid":16384,"at":1280,"n":0,"before":null,"after":["A","1"]}',
+            '{"op":"c","at":1280,"n":0,"before":null,"after":["A","1"]}',
             NOTES_TEXT,
-            '{"op":"c","oid":16390,"at":1486,"n":1,"before":null,"after":["é \\"x\\"\\n",{"hex":"00ff"}]}',
-            '{"op":"d","oid":16384,"at":1280,"n":2,"before":["A","1"],"after":null}',
+            '{"op":"c","at":1474,"n":1,"before":null,"after":["é \\"x\\"\\n",{"hex":"00ff"}]}',
+            '{"op":"d","at":1280,"n":2,"before":["A","1"],"after":null}',
             WIDER_TEXT,
-            '{"op":"c","oid":16384,"at":1783,"n":3,"before":null,"after":["A","1","0.50"]}',
-            '{"op":"c","oid":16390,"at":1486,"n":4,"before":null,"after":["",null]}',
-            '{"op":"u","oid":16384,"at":1783,"n":5,"before":["A","1","0.50"],"after":["B","1","0.50"]}',
+            '{"op":"c","at":1747,"n":3,"before":null,"after":["A","1","0.50"]}',
+            '{"op":"c","at":1474,"n":4,"before":null,"after":["",null]}',
+            '{"op":"u","at":1747,"n":5,"before":["A","1","0.50"],"after":["B","1","0.50"]}',
         )
 
     def test_definitions_that_are_told(self) -> None:
@@ -89,11 +89,11 @@ class Texts(unittest.TestCase):
             text[256:].decode().splitlines(),
             [
                 NOTES_TEXT,
-                '{"op":"t","oid":16390,"at":1899,"n":0,"before":null,"after":null}',
-                '{"op":"t","oid":16384,"at":1280,"n":1,"before":null,"after":null}',
-                '{"op":"t","oid":16390,"at":1899,"n":2,"before":null,"after":null}',
+                '{"op":"t","at":1899,"n":0,"before":null,"after":null}',
+                '{"op":"t","at":1280,"n":1,"before":null,"after":null}',
+                '{"op":"t","at":1899,"n":2,"before":null,"after":null}',
                 WIDER_TEXT,
-                f'{{"op":"t","oid":16384,"at":{wider},"n":3,"before":null,"after":null}}',
+                f'{{"op":"t","at":{wider},"n":3,"before":null,"after":null}}',
             ],
         )
         self.assertEqual(told, {16384: (WIDER, wider), 16390: (NOTES, 1899)})
@@ -104,9 +104,9 @@ class Texts(unittest.TestCase):
             622872000,
             [Line(NOTES, "t")],
             ABOUT,
-            commit("0/252045C0", "0/252041D8", 201, 1, 2556069404),
+            commit("0/252045C0", "0/252041D8", 189, 1, 1458147133),
             NOTES_TEXT,
-            '{"op":"t","oid":16390,"at":1280,"n":0,"before":null,"after":null}',
+            '{"op":"t","at":1280,"n":0,"before":null,"after":null}',
         )
 
     def test_changes_that_found_no_row(self) -> None:
@@ -120,13 +120,13 @@ class Texts(unittest.TestCase):
                 Line(NOTES, "x", ["a", b"\x10"], None, "O"),
             ],
             ABOUT,
-            commit("0/252049A8", "0/252045C0", 627, 4, 4150263236),
+            commit("0/252049A8", "0/252045C0", 579, 4, 2537076700),
             STOCK_TEXT,
-            '{"op":"x","oid":16384,"at":1280,"n":0,"sent":"u","old":null,"new":["A",{"unchanged":true}]}',
-            '{"op":"x","oid":16384,"at":1280,"n":1,"sent":"u","old":["K",["A",null]],"new":["B","1"]}',
-            '{"op":"x","oid":16384,"at":1280,"n":2,"sent":"d","old":["K",["A",null]],"new":null}',
+            '{"op":"x","at":1280,"n":0,"sent":"u","old":null,"new":["A",{"unchanged":true}]}',
+            '{"op":"x","at":1280,"n":1,"sent":"u","old":["K",["A",null]],"new":["B","1"]}',
+            '{"op":"x","at":1280,"n":2,"sent":"d","old":["K",["A",null]],"new":null}',
             NOTES_TEXT,
-            '{"op":"x","oid":16390,"at":1680,"n":3,"sent":"d","old":["O",["a",{"hex":"10"}]],"new":null}',
+            '{"op":"x","at":1644,"n":3,"sent":"d","old":["O",["a",{"hex":"10"}]],"new":null}',
         )
 
     def test_commits_without_changes(self) -> None:

@@ -206,7 +206,6 @@ class OfTables(unittest.TestCase):
         for at, b in ((0x200, "2"), (0x300, "3")):
             change = {
                 "op": "c",
-                "oid": 1,
                 "at": len(text) + 256,
                 "n": 0,
                 "before": None,

@@ -21,7 +21,7 @@ HEAD_SIZE, COMMIT_SIZE = 1024, 256
 # How many definitions are kept read, and how the line of one begins.
 MOST_DEFINITIONS, DEFINITION = 10000, b'{"op":"table",'
 # How the line of a change begins, as it is written: it names where its definition stands.
-NAMING = re.compile(rb'\{"op":"\w","oid":\d+,"at":(\d+),')
+NAMING = re.compile(rb'\{"op":"\w","at":(\d+),')
 # The line of a commit as it is written.
 LSN = rb'"([0-9A-F]{1,8}/[0-9A-F]{1,8})"'
 PLAIN = re.compile(
@@ -299,11 +299,11 @@ class Decoder:
         """The definition of a change."""
         at = found["at"]
         table = self.places.get(at) or self.read_table(natural(at))
-        if table is None or table.relation.oid != found["oid"]:
+        if table is None:
             raise self.fault(
                 UNDESCRIBED,
                 self.offset,
-                f"no definition of the relation {found['oid']} stands at {at}, where the change says so",
+                f"no definition stands at {at}, where the change says so",
             )
         return table
 

@@ -84,11 +84,11 @@ three = record {
 }
 
 three_text : text_of [] 1280 622870584 three ≡
-    padded 256 (codes "{\"end\":\"0/25204168\",\"prev\":\"0/25204038\",\"bytes\":363,\"changes\":3,\"lsn\":\"0/25204138\",\"xid\":739,\"ts_us\":1699684800123456" ++ crc_text (crc_of [] 1280 622870584 three))
+    padded 256 (codes "{\"end\":\"0/25204168\",\"prev\":\"0/25204038\",\"bytes\":327,\"changes\":3,\"lsn\":\"0/25204138\",\"xid\":739,\"ts_us\":1699684800123456" ++ crc_text (crc_of [] 1280 622870584 three))
     ++ (codes "{\"op\":\"table\",\"oid\":16384,\"schema\":\"public\",\"table\":\"stock\",\"identity\":\"d\",\"key\":[\"sku\"],\"columns\":[[\"sku\",25,-1],[\"quantity\",23,-1]]}\n"
-    ++ (codes "{\"op\":\"c\",\"oid\":16384,\"at\":1280,\"n\":0,\"before\":null,\"after\":[\"A-1\",\"5\"]}\n"
-    ++ (codes "{\"op\":\"u\",\"oid\":16384,\"at\":1280,\"n\":1,\"before\":[\"A-1\",\"5\"],\"after\":[\"A-1\",null]}\n"
-    ++ (codes "{\"op\":\"d\",\"oid\":16384,\"at\":1280,\"n\":2,\"before\":[\"A-1\",null],\"after\":null}\n"))))
+    ++ (codes "{\"op\":\"c\",\"at\":1280,\"n\":0,\"before\":null,\"after\":[\"A-1\",\"5\"]}\n"
+    ++ (codes "{\"op\":\"u\",\"at\":1280,\"n\":1,\"before\":[\"A-1\",\"5\"],\"after\":[\"A-1\",null]}\n"
+    ++ (codes "{\"op\":\"d\",\"at\":1280,\"n\":2,\"before\":[\"A-1\",null],\"after\":null}\n"))))
 unfolding entry_text body_text lsn_text half_text digits escape_byte table_front table_rest key_data lib.Utf8.encode
 three_text = refl
 
@@ -112,16 +112,16 @@ interleaved = record {
 }
 
 interleaved_text : text_of (record { definition = stock; offset = 1280 } ∷ []) 1899 622870888 interleaved ≡
-    padded 256 (codes "{\"end\":\"0/252041D8\",\"prev\":\"0/25204168\",\"bytes\":764,\"changes\":6,\"lsn\":\"0/25204138\",\"xid\":739,\"ts_us\":1699684800123456" ++ crc_text (crc_of (record { definition = stock; offset = 1280 } ∷ []) 1899 622870888 interleaved))
-    ++ (codes "{\"op\":\"c\",\"oid\":16384,\"at\":1280,\"n\":0,\"before\":null,\"after\":[\"A\",\"1\"]}\n"
+    padded 256 (codes "{\"end\":\"0/252041D8\",\"prev\":\"0/25204168\",\"bytes\":692,\"changes\":6,\"lsn\":\"0/25204138\",\"xid\":739,\"ts_us\":1699684800123456" ++ crc_text (crc_of (record { definition = stock; offset = 1280 } ∷ []) 1899 622870888 interleaved))
+    ++ (codes "{\"op\":\"c\",\"at\":1280,\"n\":0,\"before\":null,\"after\":[\"A\",\"1\"]}\n"
     ++ (codes "{\"op\":\"table\",\"oid\":16390,\"schema\":\"pg_catalog\",\"table\":\"no\\\"tes\",\"identity\":\"f\",\"key\":null,\"columns\":[[\"text\",25,-1],[\"data\",17,-1]]}\n"
-    ++ ((codes "{\"op\":\"c\",\"oid\":16390,\"at\":1970,\"n\":1,\"before\":null,\"after\":[\"" ++ 195 ∷ 169
+    ++ ((codes "{\"op\":\"c\",\"at\":1958,\"n\":1,\"before\":null,\"after\":[\"" ++ 195 ∷ 169
     ∷ codes " \\\"x\\\"\\n\",{\"hex\":\"00ff\"}]}\n")
-    ++ (codes "{\"op\":\"d\",\"oid\":16384,\"at\":1280,\"n\":2,\"before\":[\"A\",\"1\"],\"after\":null}\n"
+    ++ (codes "{\"op\":\"d\",\"at\":1280,\"n\":2,\"before\":[\"A\",\"1\"],\"after\":null}\n"
     ++ (codes "{\"op\":\"table\",\"oid\":16384,\"schema\":\"public\",\"table\":\"stock\",\"identity\":\"d\",\"key\":[\"sku\"],\"columns\":[[\"sku\",25,-1],[\"quantity\",23,-1],[\"price\",1700,655366]]}\n"
-    ++ (codes "{\"op\":\"c\",\"oid\":16384,\"at\":2267,\"n\":3,\"before\":null,\"after\":[\"A\",\"1\",\"0.50\"]}\n"
-    ++ (codes "{\"op\":\"c\",\"oid\":16390,\"at\":1970,\"n\":4,\"before\":null,\"after\":[\"\",null]}\n"
-    ++ (codes "{\"op\":\"u\",\"oid\":16384,\"at\":2267,\"n\":5,\"before\":[\"A\",\"1\",\"0.50\"],\"after\":[\"B\",\"1\",\"0.50\"]}\n"))))))))
+    ++ (codes "{\"op\":\"c\",\"at\":2231,\"n\":3,\"before\":null,\"after\":[\"A\",\"1\",\"0.50\"]}\n"
+    ++ (codes "{\"op\":\"c\",\"at\":1958,\"n\":4,\"before\":null,\"after\":[\"\",null]}\n"
+    ++ (codes "{\"op\":\"u\",\"at\":2231,\"n\":5,\"before\":[\"A\",\"1\",\"0.50\"],\"after\":[\"B\",\"1\",\"0.50\"]}\n"))))))))
 unfolding entry_text body_text lsn_text half_text digits escape_byte table_front table_rest key_data lib.Utf8.encode encode_with
 interleaved_text = refl
 
@@ -136,14 +136,14 @@ truncated = record {
 }
 
 truncated_text : text_of [] 1280 622871000 truncated ≡
-    padded 256 (codes "{\"end\":\"0/252045C0\",\"prev\":\"0/252041D8\",\"bytes\":201,\"changes\":1,\"lsn\":\"0/25204138\",\"xid\":739,\"ts_us\":1699684800123456" ++ crc_text (crc_of [] 1280 622871000 truncated))
+    padded 256 (codes "{\"end\":\"0/252045C0\",\"prev\":\"0/252041D8\",\"bytes\":189,\"changes\":1,\"lsn\":\"0/25204138\",\"xid\":739,\"ts_us\":1699684800123456" ++ crc_text (crc_of [] 1280 622871000 truncated))
     ++ (codes "{\"op\":\"table\",\"oid\":16390,\"schema\":\"pg_catalog\",\"table\":\"no\\\"tes\",\"identity\":\"f\",\"key\":null,\"columns\":[[\"text\",25,-1],[\"data\",17,-1]]}\n"
-    ++ (codes "{\"op\":\"t\",\"oid\":16390,\"at\":1280,\"n\":0,\"before\":null,\"after\":null}\n"))
+    ++ (codes "{\"op\":\"t\",\"at\":1280,\"n\":0,\"before\":null,\"after\":null}\n"))
 unfolding entry_text body_text lsn_text half_text digits escape_byte table_front table_rest key_data lib.Utf8.encode
 truncated_text = refl
 
 -- the checksum is of what its line tells before it, and of the lines that follow
-truncated_crc : crc_of [] 1280 622871000 truncated ≡ 2556069404
+truncated_crc : crc_of [] 1280 622871000 truncated ≡ 1458147133
 unfolding entry_crc body_text lsn_text half_text digits escape_byte table_front table_rest key_data lib.Utf8.encode
     crc32 after_bits after_bit bits
 truncated_crc = refl
@@ -165,13 +165,13 @@ missed = record {
 }
 
 missed_text : text_of [] 1280 622872000 missed ≡
-    padded 256 (codes "{\"end\":\"0/252049A8\",\"prev\":\"0/252045C0\",\"bytes\":627,\"changes\":4,\"lsn\":\"0/25204138\",\"xid\":739,\"ts_us\":1699684800123456" ++ crc_text (crc_of [] 1280 622872000 missed))
+    padded 256 (codes "{\"end\":\"0/252049A8\",\"prev\":\"0/252045C0\",\"bytes\":579,\"changes\":4,\"lsn\":\"0/25204138\",\"xid\":739,\"ts_us\":1699684800123456" ++ crc_text (crc_of [] 1280 622872000 missed))
     ++ (codes "{\"op\":\"table\",\"oid\":16384,\"schema\":\"public\",\"table\":\"stock\",\"identity\":\"d\",\"key\":[\"sku\"],\"columns\":[[\"sku\",25,-1],[\"quantity\",23,-1]]}\n"
-    ++ (codes "{\"op\":\"x\",\"oid\":16384,\"at\":1280,\"n\":0,\"sent\":\"u\",\"old\":null,\"new\":[\"A\",{\"unchanged\":true}]}\n"
-    ++ (codes "{\"op\":\"x\",\"oid\":16384,\"at\":1280,\"n\":1,\"sent\":\"u\",\"old\":[\"K\",[\"A\",null]],\"new\":[\"B\",\"1\"]}\n"
-    ++ (codes "{\"op\":\"x\",\"oid\":16384,\"at\":1280,\"n\":2,\"sent\":\"d\",\"old\":[\"K\",[\"A\",null]],\"new\":null}\n"
+    ++ (codes "{\"op\":\"x\",\"at\":1280,\"n\":0,\"sent\":\"u\",\"old\":null,\"new\":[\"A\",{\"unchanged\":true}]}\n"
+    ++ (codes "{\"op\":\"x\",\"at\":1280,\"n\":1,\"sent\":\"u\",\"old\":[\"K\",[\"A\",null]],\"new\":[\"B\",\"1\"]}\n"
+    ++ (codes "{\"op\":\"x\",\"at\":1280,\"n\":2,\"sent\":\"d\",\"old\":[\"K\",[\"A\",null]],\"new\":null}\n"
     ++ (codes "{\"op\":\"table\",\"oid\":16390,\"schema\":\"pg_catalog\",\"table\":\"no\\\"tes\",\"identity\":\"f\",\"key\":null,\"columns\":[[\"text\",25,-1],[\"data\",17,-1]]}\n"
-    ++ (codes "{\"op\":\"x\",\"oid\":16390,\"at\":1680,\"n\":3,\"sent\":\"d\",\"old\":[\"O\",[\"a\",{\"hex\":\"10\"}]],\"new\":null}\n"))))))
+    ++ (codes "{\"op\":\"x\",\"at\":1644,\"n\":3,\"sent\":\"d\",\"old\":[\"O\",[\"a\",{\"hex\":\"10\"}]],\"new\":null}\n"))))))
 unfolding entry_text body_text lsn_text half_text digits escape_byte table_front table_rest key_data lib.Utf8.encode encode_with
 missed_text = refl
 

@@ -52,9 +52,9 @@ place_stands front told def at all is = newest_stands front told def at all (the
 -- the first change names it
 names_one : (front rest : List ℕ) (told : List Told) (n : ℕ) (def : RelationDef) (image : Image) (found : Option ℕ)
     → AllByRecursion (Stands front) told → place told def ≡ found
-    → Names ((front ++ (fresh_text found def ++ image_line def.oid (named found (length front)) n image)) ++ rest) n (line_of def image)
+    → Names ((front ++ (fresh_text found def ++ image_line (named found (length front)) n image)) ++ rest) n (line_of def image)
 names_one front rest told n def image (Some at) all found =
-    let own : List ℕ = image_line def.oid at n image in
+    let own : List ℕ = image_line at n image in
     record {
       at = at;
       stands = stands_more (front ++ own) rest (told_as def at)
@@ -64,7 +64,7 @@ names_one front rest told n def image (Some at) all found =
       is = append_assoc front own rest;
     }
 names_one front rest told n def image None all found =
-    let own : List ℕ = image_line def.oid (length front) n image in
+    let own : List ℕ = image_line (length front) n image in
     let table : List ℕ = table_line def in
     record {
       at = length front;

@@ -74,7 +74,7 @@ pub record Names (text : List ℕ) (n : ℕ) (line : Line) : Type 0 where
   pub stands : Stands text (record { definition = line.definition; offset = at })
   pub before : List ℕ
   pub more : List ℕ
-  pub is : text ≡ before ++ (image_line line.definition.oid at n line.image ++ more)
+  pub is : text ≡ before ++ (image_line at n line.image ++ more)
 
 abbrev pub AllName : List ℕ → ℕ → List Line → Type 0
 AllName text n [] = ⊤

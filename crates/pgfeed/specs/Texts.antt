@@ -2,7 +2,7 @@
 -- a dump. PostgreSQL documentation, Logical Replication Message Formats, Relation, Insert, Update,
 -- Delete, Truncate, Commit.
 use Rattle.std.specs.Prelude.{ℕ, suc, ◌+◌, ◌-◌, ◌==◌, ◌&&◌, ℤ, pos, ◌+ℤ◌, List, [], ◌∷◌, ◌++◌}
-use Rattle.std.specs.Prelude.{length, map, replicate, Bool, false, Option}
+use Rattle.std.specs.Prelude.{length, map, replicate, Bool, Option}
 use Rattle.std.specs.Prelude.{Some, None, if◌then◌else◌, codes}
 use Rattle.std.specs.Prelude.{decimal}
 use Rattle.std.specs.Fmt.{signed_decimal}
@@ -139,17 +139,16 @@ abbrev pub row_data : Option (List Cell) → Data
 row_data None = null
 row_data (Some row) = cells_data row
 
--- Which change it is, of which relation, at which offset of the segment the line of its definition
--- begins, and which one in its commit, counted from 0.
-abbrev pub change_front : List ℕ → ℕ → ℕ → ℕ → List ℕ
-change_front op oid at n = codes "{\"op\":\""
-    ++ (op ++ (codes "\",\"oid\":" ++ (decimal oid
-    ++ (codes ",\"at\":" ++ (decimal at ++ (codes ",\"n\":" ++ (decimal n ++ codes ",")))))))
+-- Which change it is, at which offset of the segment the line of its definition begins, which tells
+-- the relation, and which one in its commit, counted from 0.
+abbrev pub change_front : List ℕ → ℕ → ℕ → List ℕ
+change_front op at n = codes "{\"op\":\""
+    ++ (op ++ (codes "\",\"at\":" ++ (decimal at ++ (codes ",\"n\":" ++ (decimal n ++ codes ",")))))
 
 -- the row before the change and the row after it
-abbrev pub change_line : List ℕ → ℕ → ℕ → ℕ → Option (List Cell) → Option (List Cell) → List ℕ
-change_line op oid at n before after =
-    change_front op oid at n ++ (codes "\"before\":"
+abbrev pub change_line : List ℕ → ℕ → ℕ → Option (List Cell) → Option (List Cell) → List ℕ
+change_line op at n before after =
+    change_front op at n ++ (codes "\"before\":"
     ++ (compact_text (row_data before) ++ (codes ",\"after\":" ++ (compact_text (row_data after) ++ codes "}\n"))))
 
 -- an Update has a new tuple, a Delete hasn't
@@ -165,15 +164,15 @@ sent_rows old new = codes "\"old\":"
     ++ (compact_text (prior_data old) ++ (codes ",\"new\":" ++ (compact_text (row_data new) ++ codes "}\n")))
 
 -- what was sent for a change that found no row
-abbrev pub missed_line : ℕ → ℕ → ℕ → Option (OldKind × List Cell) → Option (List Cell) → List ℕ
-missed_line oid at n old new = change_front (codes "x") oid at n ++ (sent_text new ++ sent_rows old new)
+abbrev pub missed_line : ℕ → ℕ → Option (OldKind × List Cell) → Option (List Cell) → List ℕ
+missed_line at n old new = change_front (codes "x") at n ++ (sent_text new ++ sent_rows old new)
 
-abbrev pub image_line : ℕ → ℕ → ℕ → Image → List ℕ
-image_line oid at n (Inserted row) = change_line (codes "c") oid at n None (Some row)
-image_line oid at n (Updated old new) = change_line (codes "u") oid at n (Some old) (Some new)
-image_line oid at n (Deleted row) = change_line (codes "d") oid at n (Some row) None
-image_line oid at n Truncated = change_line (codes "t") oid at n None None
-image_line oid at n (Missed old new) = missed_line oid at n old new
+abbrev pub image_line : ℕ → ℕ → Image → List ℕ
+image_line at n (Inserted row) = change_line (codes "c") at n None (Some row)
+image_line at n (Updated old new) = change_line (codes "u") at n (Some old) (Some new)
+image_line at n (Deleted row) = change_line (codes "d") at n (Some row) None
+image_line at n Truncated = change_line (codes "t") at n None None
+image_line at n (Missed old new) = missed_line at n old new
 
 -- ---- the lines of an entry
 
@@ -230,7 +229,7 @@ line_of def image = record { definition = def; image = image }
 abbrev pub line_text : List Told → ℕ → ℕ → Line → List ℕ
 line_text told at n line =
     fresh_text (place told line.definition) line.definition
-    ++ image_line line.definition.oid (named (place told line.definition) at) n line.image
+    ++ image_line (named (place told line.definition) at) n line.image
 
 abbrev pub line_told : List Told → ℕ → Line → List Told
 line_told told at line = told_with told (place told line.definition) line.definition at

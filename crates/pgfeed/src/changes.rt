@@ -58,11 +58,10 @@ fn push_prior(
     }
 }
 
-/// Which change it is: of which relation, where in the segment its definition stands, and its
-/// number in the commit.
+/// Which change it is: where in the segment its definition stands, which tells the relation, and
+/// its number in the commit.
 #[derive(Clone, Copy)]
 pub(crate) struct Which {
-    pub(crate) oid: u32,
     pub(crate) at: usize,
     pub(crate) n: usize,
 }
@@ -70,13 +69,10 @@ pub(crate) struct Which {
 /// Appends how the line of a change begins.
 fn push_front(op: &str, which: Which, out: &mut String) -> Result<(), AllocError>
     ensures { OnOk result (string_bytes out.new
-        ≡ string_bytes out.old ++ change_front op.now which.oid which.at which.n) }
+        ≡ string_bytes out.old ++ change_front op.now which.at which.n) }
 {
-    let Which { oid, at, n } = which;
-    write!(
-        out,
-        "{{\"op\":\"{op}\",\"oid\":{oid},\"at\":{at},\"n\":{n},"
-    )
+    let Which { at, n } = which;
+    write!(out, "{{\"op\":\"{op}\",\"at\":{at},\"n\":{n},")
 }
 
 /// Appends the line of a change of a row, which was as `before` and is as `after`.
@@ -89,7 +85,7 @@ fn push_change(
     out: &mut String,
 ) -> Result<(), AllocError>
     ensures { OnOk result (string_bytes out.new
-        ≡ string_bytes out.old ++ change_line op.now which.oid which.at which.n before.now
+        ≡ string_bytes out.old ++ change_line op.now which.at which.n before.now
         after.now) }
 {
     push_front(op, which, out)?;
@@ -144,7 +140,7 @@ fn push_missed(
     out: &mut String,
 ) -> Result<(), AllocError>
     ensures { OnOk result (string_bytes out.new
-        ≡ string_bytes out.old ++ missed_line which.oid which.at which.n old.now new.now) }
+        ≡ string_bytes out.old ++ missed_line which.at which.n old.now new.now) }
 {
     push_front("x", which, out)?;
     push_sent(new, out)?;
@@ -159,7 +155,7 @@ pub(crate) fn push_image(
     out: &mut String,
 ) -> Result<(), AllocError>
     ensures { OnOk result (string_bytes out.new
-        ≡ string_bytes out.old ++ image_line which.oid which.at which.n image.now) }
+        ≡ string_bytes out.old ++ image_line which.at which.n image.now) }
 {
     match image {
         Image::Inserted { row } => push_change(

@@ -78,12 +78,7 @@ fn push_line(
         ≡ line_told (told.now ++ piece.old.told.items) at (line_of def.now image.now)) }
 {
     let at = tell(alloc, told, at, def, piece)?;
-    let which = Which {
-        oid: def.oid,
-        at,
-        n,
-    };
-    push_image(alloc, which, image, &mut piece.text)
+    push_image(alloc, Which { at, n }, image, &mut piece.text)
 }
 
 /// The lines of a commit's changes, which begin at this offset of the segment, with the definitions

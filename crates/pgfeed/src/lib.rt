@@ -10,9 +10,9 @@
 //!
 //! ```text
 //! {"feed":3,"base":"0/100","system":"7231","database":"shop","slot":"copy"}
-//! {"end":"0/200","prev":"0/100","bytes":208,"changes":1,"lsn":"0/1D8","xid":739,"ts_us":16996848..
+//! {"end":"0/200","prev":"0/100","bytes":196,"changes":1,"lsn":"0/1D8","xid":739,"ts_us":16996848..
 //! {"op":"table","oid":16384,"schema":"public","table":"stock","identity":"d","key":["sku"],"colum..
-//! {"op":"c","oid":16384,"at":1280,"n":0,"before":null,"after":["A-1","5"]}
+//! {"op":"c","at":1280,"n":0,"before":null,"after":["A-1","5"]}
 //! ```
 //!
 //! A segment that has ended has one line more, also of 256 bytes, that tells where its last commit

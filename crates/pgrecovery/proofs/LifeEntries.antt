@@ -71,21 +71,21 @@ abbrev pub body_10 : List ℕ
 body_10 = body_text [] 1280 0 entry_10.lines
 
 abbrev pub body_11 : List ℕ
-body_11 = body_text [] 1729 0 entry_11.lines
+body_11 = body_text [] 1717 0 entry_11.lines
 
 abbrev body_12 : List ℕ
-body_12 = body_text [] 2178 0 entry_12.lines
+body_12 = body_text [] 2154 0 entry_12.lines
 
 abbrev pub body_13 : List ℕ
 body_13 = body_text [] 1280 0 entry_13.lines
 
 abbrev body_14 : List ℕ
-body_14 = body_text [] 1729 0 entry_14.lines
+body_14 = body_text [] 1717 0 entry_14.lines
 
 abbrev pub bodies : Bodies
 bodies end = cond (end == 304) body_10 (cond (end == 448) body_11 (cond (end == 560) body_12 (cond (end == 672) body_13 body_14)))
 
-pub size_10 : length body_10 ≡ 193
+pub size_10 : length body_10 ≡ 181
 unfolding body_text lsn_text half_text digits escape_byte table_front table_rest key_data lib.Utf8.encode
 size_10 = refl
 
@@ -98,7 +98,7 @@ fits_10 prev low = record {
   about_fits = record { final_lsn = omega arith; xid = omega arith; time = clock_fits };
 }
 
-pub size_11 : length body_11 ≡ 193
+pub size_11 : length body_11 ≡ 181
 unfolding body_text lsn_text half_text digits escape_byte table_front table_rest key_data lib.Utf8.encode
 size_11 = refl
 
@@ -111,7 +111,7 @@ fits_11 prev low = record {
   about_fits = record { final_lsn = omega arith; xid = omega arith; time = clock_fits };
 }
 
-size_12 : length body_12 ≡ 198
+size_12 : length body_12 ≡ 186
 unfolding body_text lsn_text half_text digits escape_byte table_front table_rest key_data lib.Utf8.encode
 size_12 = refl
 
@@ -124,7 +124,7 @@ fits_12 prev low = record {
   about_fits = record { final_lsn = omega arith; xid = omega arith; time = clock_fits };
 }
 
-pub size_13 : length body_13 ≡ 193
+pub size_13 : length body_13 ≡ 181
 unfolding body_text lsn_text half_text digits escape_byte table_front table_rest key_data lib.Utf8.encode
 size_13 = refl
 
@@ -137,7 +137,7 @@ fits_13 prev low = record {
   about_fits = record { final_lsn = omega arith; xid = omega arith; time = clock_fits };
 }
 
-size_14 : length body_14 ≡ 193
+size_14 : length body_14 ≡ 181
 unfolding body_text lsn_text half_text digits escape_byte table_front table_rest key_data lib.Utf8.encode
 size_14 = refl
 

@@ -149,11 +149,11 @@ written_three =
       first_body 0 0 entry_10 head_0 (fits_10 0 small),
       (
         fits_11 304 (omega arith),
-        next_body front_11 (1024 + (256 + length body_10)) 1729 304 entry_11 size_of_11 (omega (arith, size_10))
+        next_body front_11 (1024 + (256 + length body_10)) 1717 304 entry_11 size_of_11 (omega (arith, size_10))
             (fits_11 304 (omega arith)),
         (
           fits_12 448 (omega arith),
-          next_body front_12 (1024 + (256 + length body_10) + (256 + length body_11)) 2178 448 entry_12 size_of_12
+          next_body front_12 (1024 + (256 + length body_10) + (256 + length body_11)) 2154 448 entry_12 size_of_12
               (omega (arith, size_10, size_11)) (fits_12 448 (omega arith)),
           tt,
         ),
@@ -172,7 +172,7 @@ written_14 =
       first_body 560 560 entry_13 head_560 (fits_13 560 (omega arith)),
       (
         fits_14 672 (omega arith),
-        next_body front (1024 + (256 + length body_13)) 1729 672 entry_14 long (omega (arith, size_13)) (fits_14 672 (omega arith)),
+        next_body front (1024 + (256 + length body_13)) 1717 672 entry_14 long (omega (arith, size_13)) (fits_14 672 (omega arith)),
         tt,
       ),
     )

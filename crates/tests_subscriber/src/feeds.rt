@@ -10,7 +10,7 @@ use std::process::Abort;
 
 /// A head and two commits.
 const TWO: SegmentLimits = SegmentLimits {
-    bytes: 1024 + 2 * (256 + 173),
+    bytes: 1024 + 2 * (256 + 161),
     micros: u64::MAX,
 };
 
