@@ -1,11 +1,11 @@
-//! Why an item isn't held.
+//! Why an item isn't held, or can't be borrowed.
 
 ghost use Rattle.std.specs.Prelude.{◌≡◌};
 
 use std::alloc::{AllocError, AllocFailed};
 use thiserror::Error;
 
-/// Why an item isn't held, or a transaction isn't opened.
+/// Why an item isn't held, a transaction isn't opened or cut, or its items can't be borrowed.
 #[derive(Clone, Copy, Debug, PartialEq, Eq, Error)]
 pub enum SpoolFault {
     /// With this item, all that is held would cost more bytes than the limit.
@@ -14,6 +14,15 @@ pub enum SpoolFault {
     /// Memory has run out.
     #[error("memory")]
     Memory,
+    /// What is held goes to a file, and a write failed.
+    #[error("spool 3 NotWritten")]
+    NotWritten,
+    /// What is held goes to a file, and the disk is full.
+    #[error("spool 4 NoRoom")]
+    NoRoom,
+    /// What went to a file can't be read, or other bytes are read than were written.
+    #[error("spool 5 NotRead")]
+    NotRead,
 }
 
 impl From<AllocError> for SpoolFault {

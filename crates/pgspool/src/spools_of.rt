@@ -1,6 +1,7 @@
 //! Spools over the items of each open transaction.
-ghost use Rattle.std.specs.Prelude.{◌≡◌};
+ghost use Rattle.std.specs.Prelude.{◌≡◌, if◌then◌else◌};
 ghost use Rattle.std.specs.FinMap as map;
+ghost use Rattle.pgspool.specs.Labels.{cut, held_of};
 
 use crate::fault::SpoolFault;
 use crate::spools::{OVERHEAD, Spools};
@@ -51,12 +52,28 @@ impl<T: TransactionItems> SpoolsOf<T> {
             max_bytes,
         }
     }
+
+    // Keeps a transaction's items before the first one of a subtransaction.
+    fn shorten(&mut self, xid: u32, subxid: u32)
+        ensures held { self.new.held ≡ (if map.contains_key self.old.held xid then
+            map.insert self.old.held xid (cut subxid (held_of self.old.held xid))
+            else self.old.held) }
+        ensures limit { self.new.most ≡ self.old.most }
+    {
+        if let Some(items) = self.transactions.get_mut(&xid) {
+            self.bytes -= items.cut(subxid);
+        }
+    }
 }
 
 impl<T: TransactionItems> Spools for SpoolsOf<T> {
     ghost held = { λ s. s.held };
 
     ghost most = { λ s. s.most };
+
+    ghost may_fail = { ⊥ };
+
+    ghost is_loaded = { λ _ _. Unit {0} };
 
     fn is_open(&self, xid: u32) -> bool {
         self.transactions.contains_key(&xid)
@@ -83,10 +100,9 @@ impl<T: TransactionItems> Spools for SpoolsOf<T> {
         Ok(())
     }
 
-    fn cut(&mut self, xid: u32, subxid: u32) {
-        if let Some(items) = self.transactions.get_mut(&xid) {
-            self.bytes -= items.cut(subxid);
-        }
+    fn cut(&mut self, xid: u32, subxid: u32) -> Result<(), SpoolFault> {
+        self.shorten(xid, subxid);
+        Ok(())
     }
 
     fn count(&self, xid: u32) -> usize {
@@ -94,6 +110,10 @@ impl<T: TransactionItems> Spools for SpoolsOf<T> {
             Some(items) => items.len(),
             None => 0,
         }
+    }
+
+    fn load(&mut self, _xid: u32) -> Result<(), SpoolFault> {
+        Ok(())
     }
 
     fn item(&self, xid: u32, index: usize) -> Option<ItemRef<'_>> {

@@ -6,9 +6,9 @@ use Rattle.pgspool.specs.Spooled.{held_by}
 use Rattle.pgspool.proofs.OpenEntries.{IsCounted-insert, one_within_all, held_there, cut_there}
 use Rattle.pgspool.proofs.OpenEntries.{cut_absent}
 use Rattle.pgspool.proofs.HeldBy.{listed_entries, listed_there, listed_absent, held_by-put}
-use Rattle.pgspool.proofs.spools_of.SpoolsOfSpools.cut.Given.{Over}
-use Rattle.pgspool.proofs.spools_of.SpoolsOfSpools.cut.Goals.{In-Some, After-cut}
-use Rattle.pgspool.proofs.spools_of.SpoolsOfSpools.cut.Goals as goal
+use Rattle.pgspool.proofs.spools_of.SpoolsOf.shorten.Given.{Over}
+use Rattle.pgspool.proofs.spools_of.SpoolsOf.shorten.Goals.{In-Some, After-cut}
+use Rattle.pgspool.proofs.spools_of.SpoolsOf.shorten.Goals as goal
 
 there : (g : Over) (c : In-Some g)
     → held_of (held_by g.T.TransactionItems.listed c.self.inside.transactions.entries) c.args.xid
