@@ -18,6 +18,7 @@ use Rattle.pgsub_core.specs.Machine.ApplyState.{ApplyState, ApplyResult, pushed,
 use Rattle.pgsub_core.specs.Machine.ApplyState.{on_event}
 use Rattle.pgsub_core.specs.Subscriber.Causes.{Cause, OutOfMemory, StatementRefused, HeaderTooLarge}
 use Rattle.pgsub_core.specs.Subscriber.Causes.{ForeignBytes, NextMessage, NeverAnswered, cause}
+use Rattle.pgsub_core.specs.Subscriber.Causes.{SpoolFailed}
 use Rattle.pgsub_core.specs.Calls.Committing.{replica_with, StopsAtCommit, Commits, RefusesCommit}
 use Rattle.pgsub_core.specs.Subscriber.Applied.{Applied}
 use Rattle.pgsub_core.specs.Calls.Events.{state_with, event_end, StopsAtEvent, EventGoes}
@@ -72,6 +73,7 @@ module _ {C : Type 0} (holds : C → Tables → Type 0) (place : C → ℕ) (m :
         → StopsAtCommit (replica_with tables (place a.store) a.confirmed a.relations) end items f k
         → StopsAtEvent (state_with place a tables) m e limit f k
     stops_by limit tables f ends OutOfMemory h = tt
+    stops_by limit tables f ends SpoolFailed h = tt
     stops_by limit tables f ends StatementRefused h =
         (end, ends, h.0, rw (is (state_with place a tables)) (committed_reaches (state_with place a tables) a.order xid _ h.1))
     stops_by limit tables f ends HeaderTooLarge h = absurd h

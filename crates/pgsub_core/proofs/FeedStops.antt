@@ -17,6 +17,7 @@ use Rattle.pgsub_core.specs.Server.Reached.{Progress}
 use Rattle.pgsub_core.specs.Subscriber.Handled.{IsLeft}
 use Rattle.pgsub_core.specs.Subscriber.Causes.{Cause, OutOfMemory, StatementRefused, HeaderTooLarge}
 use Rattle.pgsub_core.specs.Subscriber.Causes.{ForeignBytes, NextMessage, NeverAnswered, cause}
+use Rattle.pgsub_core.specs.Subscriber.Causes.{SpoolFailed}
 use Rattle.pgsub_core.specs.Machine.Feeding.{StopsIn, BeginsWith}
 use Rattle.pgsub_core.specs.Subscriber.Applied.{Applied, Framing, subscribed, IsKept}
 use Rattle.pgsub_core.specs.Calls.Framing.{framing_behind, framing_of, done_of, Releases, StopsAt}
@@ -75,6 +76,7 @@ module _ {C : Type 0} (serves : C → Type 0) (holds : C → Tables → Type 0) 
   frame_why : (d : Deframed) (frame : Frame) (rest : List ℕ) (s : Subscribed) (f : Fault) (k : Cause)
       → BeginsWith d₀.max d.done (d.held ++ rest) frame → StopsAtFrame now s frame f k → StopsIn now d₀.max d.done (d.held ++ rest) s f k
   frame_why d frame rest s f OutOfMemory begins h = tt
+  frame_why d frame rest s f SpoolFailed begins h = tt
   frame_why d frame rest s f StatementRefused begins h = (frame, begins, h.0, h.1)
   frame_why d frame rest s f HeaderTooLarge begins h = absurd h
   frame_why d frame rest s f ForeignBytes begins h = absurd h

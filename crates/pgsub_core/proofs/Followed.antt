@@ -18,6 +18,7 @@ use Rattle.pgsub_core.specs.Subscriber.Safely.{IsSent, IsHandled}
 use Rattle.pgsub_core.specs.Subscriber.Handled.{IsFollowed, IsLeft, NoneForeign}
 use Rattle.pgsub_core.specs.Subscriber.Causes.{Cause, OutOfMemory, StatementRefused, HeaderTooLarge}
 use Rattle.pgsub_core.specs.Subscriber.Causes.{ForeignBytes, NextMessage, NeverAnswered, cause}
+use Rattle.pgsub_core.specs.Subscriber.Causes.{SpoolFailed}
 use Rattle.pgsub_core.specs.Subscriber.HandledLaws.{StopsBy}
 use Rattle.pgsub_core.specs.Machine.Feeding.{IsFedWhole, IsFedUntil}
 use Rattle.pgsub_core.specs.Subscriber.Following.{AreFedWhole, AreFedUntil, AreFed}
@@ -108,6 +109,7 @@ in_first : (now : ℤ) (bytes : List ℕ) (sessions : List (List ℕ)) (complete
     → StopsBy now (bytes ∷ []) (complete ∷ []) (front ∷ []) s f c
     → StopsBy now (bytes ∷ sessions) (complete ∷ all_complete) (front ∷ []) s f c
 in_first now bytes sessions complete front all_complete s f OutOfMemory why = tt
+in_first now bytes sessions complete front all_complete s f SpoolFailed why = tt
 in_first now bytes sessions complete front all_complete s f StatementRefused why = why
 in_first now bytes sessions complete front all_complete s f HeaderTooLarge why = why
 in_first now bytes sessions complete front all_complete s f ForeignBytes why = why
@@ -119,6 +121,7 @@ in_later : (now : ℤ) (bytes : List ℕ) (sessions : List (List ℕ)) (complete
     → StopsBy now sessions all_complete (first ∷ others) s f c
     → StopsBy now (bytes ∷ sessions) (complete ∷ all_complete) (complete ∷ first ∷ others) s f c
 in_later now bytes sessions complete first others all_complete s f OutOfMemory why = tt
+in_later now bytes sessions complete first others all_complete s f SpoolFailed why = tt
 in_later now bytes sessions complete first others all_complete s f StatementRefused why = (why.0, (refl, why.1), why.2, why.3, why.4, why.5)
 in_later now bytes sessions complete first others all_complete s f HeaderTooLarge why = why
 in_later now bytes sessions complete first others all_complete s f ForeignBytes why = (refl, why)

@@ -27,7 +27,7 @@ use Rattle.pgsub_core.specs.Subscriber.Crashing.{LeavesOldOr, Over, StandsAs}
 use Rattle.pgapply.specs.declared.misses.Misses.{Misses}
 use Rattle.pgsub_core.specs.Machine.Counted.{IsCountedWhole, IsCountedFront, FeedCounts}
 use Rattle.pgsub_core.specs.Machine.Counted.{FeedCountsFront}
-use Rattle.pgsub_core.specs.Machine.Faults.{IsReadFault, IsOfFeeding}
+use Rattle.pgsub_core.specs.Machine.Faults.{IsReadFault, IsOfFeedingOver}
 use Rattle.pgsub_core.specs.Calls.Staging.{Rests, Grows, KeepsItsSettings, IsMark, IsMarked}
 use Rattle.pgsub_core.specs.Calls.Staging.{IsRenewed, GoesBack, StandsStaged}
 use Rattle.pgsub_core.proofs.PayloadStops.{unchanged}
@@ -359,9 +359,9 @@ module _ {C : Type 0} (holds : C → Tables → Type 0) (place : C → ℕ) (reo
 
 -- ---- a whole piece
 
-pub of_feeding : (f : Fault) → IsReadFault f → IsOfFeeding f
-of_feeding f (inl memory) = rw memory tt
-of_feeding f (inr refused) = rw refused tt
+pub of_feeding : (may_fail : Type 0) (f : Fault) → IsReadFault f → IsOfFeedingOver may_fail f
+of_feeding may_fail f (inl memory) = rw memory tt
+of_feeding may_fail f (inr refused) = rw refused tt
 
 module _ {C : Type 0} (holds : C → Tables → Type 0) (place : C → ℕ) (now : ℤ) (d₀ : Deframed) (a₀ : Applied C) (piece : List ℕ) where
   -- want of memory could have stopped it where it ended

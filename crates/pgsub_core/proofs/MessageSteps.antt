@@ -32,6 +32,7 @@ use Rattle.pgsub_core.specs.Machine.Taking.{IsStoreFault, ReachesStore}
 use Rattle.pgsub_core.specs.Subscriber.Handled.{end_by_kind}
 use Rattle.pgsub_core.specs.Subscriber.Causes.{Cause, OutOfMemory, StatementRefused, HeaderTooLarge}
 use Rattle.pgsub_core.specs.Subscriber.Causes.{ForeignBytes, NextMessage, NeverAnswered, cause}
+use Rattle.pgsub_core.specs.Subscriber.Causes.{SpoolFailed}
 use Rattle.pgsub_core.specs.Subscriber.Applied.{Applied, Framing, subscribed, StopsAtMessage}
 use Rattle.pgsub_core.specs.Subscriber.Applied.{IsKept, Goes, Stops}
 use Rattle.pgsub_core.specs.Calls.Events.{state_with, FindsRoom, FindsNoRoom, event_end}
@@ -260,6 +261,7 @@ module _ {C : Type 0} (holds : C → Tables → Type 0) (place : C → ℕ) (m :
       why_stops : (f : Fault) (k : Cause) → StopsAtEvent (state_with place mid tables) m e v.limit f k
           → StopsAtMessage now was (Data start end clock m) f k
       why_stops f OutOfMemory h = tt
+      why_stops f SpoolFailed h = tt
       why_stops f StatementRefused h = (
         h.0,
         sym (means was).ends ∙ h.1,

@@ -24,6 +24,7 @@ use Rattle.pgsub_core.specs.Machine.Taking.{take_frame, take_frames}
 use Rattle.pgsub_core.specs.Subscriber.Handled.{IsLeft}
 use Rattle.pgsub_core.specs.Subscriber.Causes.{Cause, OutOfMemory, StatementRefused, HeaderTooLarge}
 use Rattle.pgsub_core.specs.Subscriber.Causes.{ForeignBytes, NextMessage, NeverAnswered, cause}
+use Rattle.pgsub_core.specs.Subscriber.Causes.{SpoolFailed}
 use Rattle.pgsub_core.specs.Subscriber.Causes.{wire_cause, order_cause, relation_cause, spool_cause}
 use Rattle.pgsub_core.specs.Subscriber.Causes.{store_cause}
 use Rattle.pgsub_core.specs.Machine.Feeding.{IsFed, IsFedWhole, IsFedUntil, BeginsWith, StopsIn}
@@ -73,6 +74,9 @@ relation_settles rel.Memory = (λ e. cc, λ e. cc)
 spool_settles : (k : SpoolFault) → (spool_cause k ≡ OutOfMemory → ⊥) × (spool_cause k ≡ StatementRefused → ⊥)
 spool_settles spool.SpoolFull = (λ e. cc, λ e. cc)
 spool_settles spool.Memory = (λ e. cc, λ e. cc)
+spool_settles spool.NotWritten = (λ e. cc, λ e. cc)
+spool_settles spool.NoRoom = (λ e. cc, λ e. cc)
+spool_settles spool.NotRead = (λ e. cc, λ e. cc)
 
 store_settles : (k : StoreFault) → k ≢ store.Refused → (store_cause k ≡ OutOfMemory → ⊥) × (store_cause k ≡ StatementRefused → ⊥)
 store_settles store.Clash other = (λ e. cc, λ e. cc)
@@ -104,17 +108,19 @@ Reason now max done rest s f =
     ⊎ ((next : Frame) × (stopped : Subscribed) × BeginsWith max done rest next × (take_frame now s next ≡ Stopped stopped f))
 
 reason_by : (now : ℤ) (max : ℕ) (done : Bool) (rest : List ℕ) (s : Subscribed) (f : Fault) (c : Cause)
-    → (c ≡ OutOfMemory → ⊥) × (c ≡ StatementRefused → ⊥) → StopsIn now max done rest s f c → Reason now max done rest s f
-reason_by now max done rest s f OutOfMemory own why = absurd (own.0 refl)
-reason_by now max done rest s f StatementRefused own why = absurd (own.1 refl)
-reason_by now max done rest s f HeaderTooLarge own why = inl why
-reason_by now max done rest s f ForeignBytes own why = inl why
-reason_by now max done rest s f NextMessage own why = why
-reason_by now max done rest s f NeverAnswered own why = absurd why
+    → (c ≡ OutOfMemory → ⊥) × (c ≡ StatementRefused → ⊥) → (c ≢ SpoolFailed) → StopsIn now max done rest s f c
+    → Reason now max done rest s f
+reason_by now max done rest s f OutOfMemory own kept why = absurd (own.0 refl)
+reason_by now max done rest s f SpoolFailed own kept why = absurd (kept refl)
+reason_by now max done rest s f StatementRefused own kept why = absurd (own.1 refl)
+reason_by now max done rest s f HeaderTooLarge own kept why = inl why
+reason_by now max done rest s f ForeignBytes own kept why = inl why
+reason_by now max done rest s f NextMessage own kept why = why
+reason_by now max done rest s f NeverAnswered own kept why = absurd why
 
 reason : (now : ℤ) (max : ℕ) (done : Bool) (rest : List ℕ) (s : Subscribed) (f : Fault) → IsSettledFault f
     → StopsIn now max done rest s f (cause f) → Reason now max done rest s f
-reason now max done rest s f own why = reason_by now max done rest s f (cause f) (settles f own) why
+reason now max done rest s f own why = reason_by now max done rest s f (cause f) (settles f own) own.2 why
 
 no_fault_at_frame : (max : ℕ) (done : Bool) (rest more : List ℕ) (next : Frame) (k : WireFault) → done ≡ false → IsAllowed max next
     → rest ≡ frame next ++ more → IsFramingFault max done rest k → ⊥

@@ -19,6 +19,7 @@ use Rattle.pgsub_core.specs.Server.Stream.{Sent, Data}
 use Rattle.pgsub_core.specs.Subscriber.Subscribed.{Subscribed}
 use Rattle.pgsub_core.specs.Subscriber.Causes.{Cause, OutOfMemory, StatementRefused, HeaderTooLarge}
 use Rattle.pgsub_core.specs.Subscriber.Causes.{ForeignBytes, NextMessage, NeverAnswered, cause}
+use Rattle.pgsub_core.specs.Subscriber.Causes.{SpoolFailed}
 use Rattle.pgsub_core.specs.Subscriber.Applied.{Applied, subscribed, StopsAtMessage, IsKept, Stops}
 use Rattle.pgsub_core.specs.Calls.Framing.{StopsAtBody, StopsAtFrame, StopsAt, IsStopped}
 
@@ -29,6 +30,7 @@ module _ {C : Type 0} (holds : C → Tables → Type 0) (place : C → ℕ) (now
   at_body : (s : Subscribed) (m : Message) (f : Fault) (k : Cause) → message_at (is_in_block s.order.context) body ≡ Ok m
       → StopsAtMessage now s (Data start end clock m) f k → StopsAtBody now start end clock body s f k
   at_body s m f OutOfMemory reads h = tt
+  at_body s m f SpoolFailed reads h = tt
   at_body s m f StatementRefused reads h = (m, reads, h.0, h.1, h.2, rw reads h.3)
   at_body s m f HeaderTooLarge reads h = absurd h
   at_body s m f ForeignBytes reads h = absurd h
@@ -78,6 +80,7 @@ module _ {C : Type 0} (holds : C → Tables → Type 0) (place : C → ℕ) (now
     at_frame : (s : Subscribed) (f : Fault) (k : Cause) → StopsAtBody now start end clock body s f k
         → StopsAtFrame now s (CopyData payload) f k
     at_frame s f OutOfMemory h = tt
+    at_frame s f SpoolFailed h = tt
     at_frame s f StatementRefused h = (
       record {
         payload = payload;

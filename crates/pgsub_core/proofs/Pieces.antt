@@ -28,6 +28,7 @@ use Rattle.std.specs.Prelude.{if◌then◌else◌}
 use Rattle.pgsub_core.specs.Subscriber.Handled.{IsLeft}
 use Rattle.pgsub_core.specs.Subscriber.Causes.{Cause, OutOfMemory, StatementRefused, HeaderTooLarge}
 use Rattle.pgsub_core.specs.Subscriber.Causes.{ForeignBytes, NextMessage, NeverAnswered, cause}
+use Rattle.pgsub_core.specs.Subscriber.Causes.{SpoolFailed}
 use Rattle.pgwire.specs.declared.fault.WireFault.TheVariants as wire_fault
 use Rattle.pgwire.specs.Frames.{IsFramingFault}
 use Rattle.pgwire.proofs.Holding.{fault-append}
@@ -267,6 +268,7 @@ reaches_over r (Stopped s why) h = h
 stops_in : (now : ℤ) (max : ℕ) (done : Bool) (rest r : List ℕ) (t : Subscribed) (f : Fault) (c : Cause)
     → StopsIn now max done rest (wait r t) f c → StopsIn now max done rest t f c
 stops_in now max done rest r t f OutOfMemory why = tt
+stops_in now max done rest r t f SpoolFailed why = tt
 stops_in now max done rest r t f StatementRefused why = (
   why.0,
   why.1,
@@ -348,6 +350,7 @@ fault_more max true bytes more wire_fault.Memory breaks = elim breaks [ ]
 stops_more : (now : ℤ) (max : ℕ) (done : Bool) (rest more : List ℕ) (s : Subscribed) (f : Fault) (c : Cause)
     → StopsIn now max done rest s f c → StopsIn now max done (rest ++ more) s f c
 stops_more now max done rest more s f OutOfMemory why = tt
+stops_more now max done rest more s f SpoolFailed why = tt
 stops_more now max done rest more s f StatementRefused why = (why.0, begins_more max done rest more why.0 why.1, why.2, why.3)
 stops_more now max done rest more s f HeaderTooLarge why = (why.0, why.1, fault_more max done rest more why.0 why.2)
 stops_more now max done rest more s f ForeignBytes why = (why.0, why.1, fault_more max done rest more why.0 why.2)

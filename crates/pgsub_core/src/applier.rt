@@ -17,7 +17,7 @@ ghost use Rattle.pgsub_core.specs.Calls.Framing.{FramesGo, IsStopped, StopsAtBod
 ghost use Rattle.pglogical.specs.Spelling.{IsSpellableMessage, IsMessageFor};
 ghost use Rattle.pgorder.specs.States.{is_in_block};
 ghost use Rattle.pgorder.specs.Steps.{initial_order};
-ghost use Rattle.pgspool.specs.Labels.{items_of, held_of};
+ghost use Rattle.pgspool.specs.Labels.{cut, items_of, held_of};
 ghost use Rattle.pgsub_core.specs.Server.Stream.{Data, Keepalive, kind};
 ghost use Rattle.pgsub_core.specs.Machine.ApplyState.{pushed};
 ghost use Rattle.pgsub_core.specs.Machine.Taking.{take};
@@ -30,7 +30,7 @@ ghost use Rattle.pgsub_core.specs.Machine.Counted.{CountsCommit, CountsEvent, Co
 ghost use Rattle.pgsub_core.specs.Calls.Staging.{Rests, Grows, KeepsItsSettings, IsMark, GoesBack};
 ghost use Rattle.pgsub_core.specs.Calls.Events.{HasRoom, IsFull, FindsRoom, EventGoes, EventStops};
 ghost use Rattle.pgsub_core.specs.Calls.Events.{StaysBeside};
-ghost use Rattle.pgsub_core.specs.Machine.Faults.{IsOfFeeding, IsReadFault};
+ghost use Rattle.pgsub_core.specs.Machine.Faults.{IsOfFeedingOver, IsOfSpools, IsReadFault};
 
 use crate::committing::{Ending, about_of, commit, later};
 use crate::fault::Fault;
@@ -88,10 +88,11 @@ impl<P: Spools + Drop, C: ReplicaStore + Drop> Model for Applier<P, C> {
 }
 
 // Opens a transaction, which has no items yet.
+#[tactic(auto, using(crate::proofs::Spooling::of_keeping))]
 fn open<P: Spools>(spools: &mut P, xid: u32) -> Result<(), Fault>
     requires { map.contains_key (P.held spools.old) xid ≡ false }
     ensures ok { OnOk result (P.held spools.new ≡ map.insert (P.held spools.old) xid []) }
-    ensures memory { IfErr result (λ fault. fault ≡ Fault.Memory) }
+    ensures refused { IfErr result (IsOfSpools P.may_fail) }
     ensures limit { P.most spools.new ≡ P.most spools.old }
 {
     spools.open(xid)?;
@@ -100,6 +101,7 @@ fn open<P: Spools>(spools: &mut P, xid: u32) -> Result<(), Fault>
 
 // Buffers the item of a message until its transaction commits, under the transaction or
 // subtransaction that made it. A message without an item changes nothing.
+#[tactic(auto, using(crate::proofs::Spooling::of_keeping))]
 fn hold<P: Spools>(
     spools: &mut P,
     message: &MessageRef<'_>,
@@ -112,7 +114,7 @@ fn hold<P: Spools>(
         ≡ pushed (P.held spools.old) xid subxid (kind (message_value message.now))) }
     ensures room { OnOk result (HasRoom (P.most spools.old) (P.held spools.old)
         (kind (message_value message.now))) }
-    ensures refused { IfErr result (λ fault. (fault ≡ Fault.Memory)
+    ensures refused { IfErr result (λ fault. IsOfSpools P.may_fail fault
         ⊎ ((fault ≡ Fault.Spool SpoolFault.SpoolFull)
         × IsFull (P.most spools.old) (P.held spools.old) (kind (message_value message.now)))) }
     ensures limit { P.most spools.new ≡ P.most spools.old }
@@ -121,6 +123,31 @@ fn hold<P: Spools>(
         return Ok(());
     };
     spools.push(xid, subxid, item)?;
+    Ok(())
+}
+
+// Keeps a transaction's items before the first one of a subtransaction.
+#[tactic(auto, using(crate::proofs::Spooling::of_failure))]
+fn cut<P: Spools>(spools: &mut P, xid: u32, label: u32) -> Result<(), Fault>
+    ensures ok { OnOk result (P.held spools.new ≡ (if map.contains_key (P.held spools.old) xid then
+        map.insert (P.held spools.old) xid (cut label (held_of (P.held spools.old) xid))
+        else P.held spools.old)) }
+    ensures refused { IfErr result (IsOfSpools P.may_fail) }
+    ensures limit { P.most spools.new ≡ P.most spools.old }
+{
+    spools.cut(xid, label)?;
+    Ok(())
+}
+
+// Makes a transaction's items ready to be borrowed.
+#[tactic(auto, using(crate::proofs::Spooling::of_failure))]
+fn load<P: Spools>(spools: &mut P, xid: u32) -> Result<(), Fault>
+    ensures ok { OnOk result (P.is_loaded spools.new xid) }
+    ensures refused { IfErr result (IsOfSpools P.may_fail) }
+    ensures held { P.held spools.new ≡ P.held spools.old }
+    ensures limit { P.most spools.new ≡ P.most spools.old }
+{
+    spools.load(xid)?;
     Ok(())
 }
 
@@ -298,7 +325,9 @@ impl<P: Spools + Drop, C: ReplicaStore + Drop> Applier<P, C> {
         }
     }
 
-    // Commits a transaction, whose items are buffered no longer.
+    // Commits a transaction, whose items are buffered no longer. They are loaded before anything of
+    // the commit is looked at, so that nothing is staged where that fails.
+    #[tactic(auto, using(crate::proofs::Spooling::stops_commit, crate::proofs::Spooling::feeding_of_spools, crate::proofs::Spooling::feeding_over))]
     fn commit(&mut self, ending: Ending) -> Result<(), Fault>
         ensures taken { C.serves self.new.store →
             OnOk result (Commits C.stages C.reach ending.end
@@ -319,7 +348,7 @@ impl<P: Spools + Drop, C: ReplicaStore + Drop> Applier<P, C> {
         ensures uncounted { OnErr result (C.stages_missed self.new.store
             ≡ C.stages_missed self.old.store) }
         ensures missed { C.missed self.new.store ≡ C.missed self.old.store }
-        ensures own { IfErr result IsOfFeeding }
+        ensures own { IfErr result (IsOfFeedingOver P.may_fail) }
         ensures held { OnOk result (self.new.held ≡ map.remove self.old.held ending.xid) }
         ensures beside { StaysBeside self.old self.new }
         ensures kept { OnErr result (IsKept C.reach self.old self.new) }
@@ -331,6 +360,7 @@ impl<P: Spools + Drop, C: ReplicaStore + Drop> Applier<P, C> {
             self.new.store }
     {
         let xid = ending.xid;
+        load(&mut self.spools, xid)?;
         let confirmed = commit(
             self.alloc,
             &mut self.book,
@@ -345,6 +375,7 @@ impl<P: Spools + Drop, C: ReplicaStore + Drop> Applier<P, C> {
     }
 
     // Applies what a message means where it comes.
+    #[tactic(auto, using(crate::proofs::Spooling::stops_event, crate::proofs::Spooling::feeding_of_spools))]
     fn take_event(&mut self, message: &MessageRef<'_>, event: Event) -> Result<(), Fault>
         requires fits { Fits self.old.held event }
         requires spellable { IsSpellableMessage (message_value message.now) }
@@ -366,7 +397,7 @@ impl<P: Spools + Drop, C: ReplicaStore + Drop> Applier<P, C> {
         ensures uncounted { OnErr result (C.stages_missed self.new.store
             ≡ C.stages_missed self.old.store) }
         ensures missed { C.missed self.new.store ≡ C.missed self.old.store }
-        ensures own { IfErr result IsOfFeeding }
+        ensures own { IfErr result (IsOfFeedingOver P.may_fail) }
         ensures beside { StaysBeside self.old self.new }
         ensures kept { OnErr result (IsKept C.reach self.old self.new) }
         ensures served { C.serves self.new.store → C.serves self.old.store }
@@ -380,10 +411,7 @@ impl<P: Spools + Drop, C: ReplicaStore + Drop> Applier<P, C> {
             Event::Ignore | Event::Reopen { .. } | Event::Close => Ok(()),
             Event::Begin { xid } | Event::Open { xid } => open(&mut self.spools, xid),
             Event::Hold { top, label } => hold(&mut self.spools, message, top, label),
-            Event::Cut { xid, label } => {
-                self.spools.cut(xid, label);
-                Ok(())
-            }
+            Event::Cut { xid, label } => cut(&mut self.spools, xid, label),
             Event::Drop { xid } => {
                 self.spools.drop_xid(xid);
                 Ok(())
@@ -396,6 +424,7 @@ impl<P: Spools + Drop, C: ReplicaStore + Drop> Applier<P, C> {
     }
 
     /// Applies a logical message. `start` and `end` are the fields of its XLogData.
+    #[tactic(auto, using(crate::proofs::Spooling::feeding_over))]
     pub fn take_message(
         &mut self,
         message: &MessageRef<'_>,
@@ -427,7 +456,7 @@ impl<P: Spools + Drop, C: ReplicaStore + Drop> Applier<P, C> {
         ensures uncounted { OnErr result (C.stages_missed self.new.store
             ≡ C.stages_missed self.old.store) }
         ensures missed { C.missed self.new.store ≡ C.missed self.old.store }
-        ensures own { IfErr result IsOfFeeding }
+        ensures own { IfErr result (IsOfFeedingOver P.may_fail) }
         ensures kept { OnErr result (IsKept C.reach self.old self.new) }
         ensures served { C.serves self.new.store → C.serves self.old.store }
         ensures open { C.is_honest self.new.store → C.serves self.old.store →
@@ -461,7 +490,7 @@ impl<P: Spools + Drop, C: ReplicaStore + Drop> Applier<P, C> {
         ensures uncounted { OnErr result (C.stages_missed self.new.store
             ≡ C.stages_missed self.old.store) }
         ensures missed { C.missed self.new.store ≡ C.missed self.old.store }
-        ensures own { IfErr result IsOfFeeding }
+        ensures own { IfErr result (IsOfFeedingOver P.may_fail) }
         ensures grows { Grows self.old.replies self.new.replies }
         ensures settings { KeepsItsSettings self.old self.new }
         ensures opened { OnOk result (AreOpened self.new.order self.new.held) }
@@ -489,6 +518,7 @@ impl<P: Spools + Drop, C: ReplicaStore + Drop> Applier<P, C> {
     }
 
     // Decodes the logical message in an XLogData in place, and applies it.
+    #[tactic(auto, using(crate::proofs::Spooling::feeding_over))]
     fn take_body(&mut self, body: &[u8], start: Lsn, end: Lsn) -> Result<(), Fault>
         requires opened { AreOpened self.old.order self.old.held }
         ensures takes { C.serves self.new.store →
@@ -510,7 +540,7 @@ impl<P: Spools + Drop, C: ReplicaStore + Drop> Applier<P, C> {
         ensures uncounted { OnErr result (C.stages_missed self.new.store
             ≡ C.stages_missed self.old.store) }
         ensures missed { C.missed self.new.store ≡ C.missed self.old.store }
-        ensures own { IfErr result IsOfFeeding }
+        ensures own { IfErr result (IsOfFeedingOver P.may_fail) }
         ensures silent { self.new.replies ≡ self.old.replies }
         ensures settings { KeepsItsSettings self.old self.new }
         ensures opened { OnOk result (AreOpened self.new.order self.new.held) }

@@ -156,8 +156,8 @@ fn describe_item<'a>(
     }
 }
 
-/// The changes of a transaction that commits, in the order of its items. The Relation messages
-/// among them go into the cache.
+/// The changes of a loaded transaction that commits, in the order of its items. The Relation
+/// messages among them go into the cache.
 ///
 /// # Errors
 ///
@@ -168,6 +168,7 @@ pub(crate) fn describe<'a, P: Spools>(
     spools: &'a P,
     xid: u32,
 ) -> Result<Work<'a>, Fault>
+    requires { P.is_loaded spools.now xid }
     ensures changes { IfOk result (λ work. described_from (known_to book.old)
         (items_of (held_of (P.held spools.now) xid)) ≡ Ok work.changes) }
     ensures cached { OnOk result (book.new ≡ all_cached book.old
@@ -201,13 +202,14 @@ fn cache_item(alloc: Global, book: &mut Book, item: &ItemRef<'_>) -> Result<(), 
     Ok(())
 }
 
-/// Puts the Relation messages of a repeat into the cache. Its changes aren't looked at.
+/// Puts the Relation messages of a loaded repeat into the cache. Its changes aren't looked at.
 pub(crate) fn cache_relations<P: Spools>(
     alloc: Global,
     book: &mut Book,
     spools: &P,
     xid: u32,
 ) -> Result<(), Fault>
+    requires { P.is_loaded spools.now xid }
     ensures cached { OnOk result (book.new ≡ all_cached book.old
         (items_of (held_of (P.held spools.now) xid))) }
     ensures memory { IfErr result (λ fault. fault ≡ Fault.Memory) }

@@ -6,6 +6,7 @@ ghost use Rattle.std.specs.Prelude.{◌≡◌, ◌≢◌, ◌↔◌, ◌<◌, �
 ghost use Rattle.std.specs.Prelude.{OnOk, IfErr, IfSome};
 ghost use Rattle.std.specs.Io.KnownBytes.{Consumes, IsAtEnd, Keeps};
 ghost use Rattle.pgsub_core.specs.Subscriber.Crashing.{LeavesOldOr, FedOver, StandsAsFed};
+ghost use Rattle.pgsub_core.specs.Machine.Faults.{IsOfFeedingOver};
 ghost use Rattle.pgsub_core.specs.Calls.Pumping.{IsReadOut, Pumps, PumpsUntil, PumpsCounted};
 ghost use Rattle.pgsub_core.specs.Calls.Pumping.{PumpsCountedUntil};
 
@@ -97,6 +98,8 @@ pub fn pump<R: Read + Drop, P: Spools + Drop, C: ReplicaStore + Drop>(
         OnOk result (Pumps C.holds C.place now (R.remaining source.old.reader)
         (R.remaining source.new.reader) source.old.reads source.new.reads subscriber.old
         subscriber.new) }
+    ensures own { subscriber.old.framing.closed ≡ false → IfErr result (λ fault.
+        fault ≢ Fault.Read → IsOfFeedingOver P.may_fail fault) }
     ensures read_out { OnOk result (IsReadOut (R.remaining source.new.reader) source.new.reads) }
     ensures failed { C.serves subscriber.new.applied.store → result ≡ Err Fault.Read →
         Pumps C.holds C.place now (R.remaining source.old.reader)

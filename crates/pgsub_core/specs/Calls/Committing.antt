@@ -11,6 +11,7 @@ use Rattle.pgsub_core.specs.Machine.Replica.{GoesOrStops, IsOfStore, on_commit}
 use Rattle.pgsub_core.specs.Machine.Taking.{fault_of}
 use Rattle.pgsub_core.specs.Subscriber.Causes.{Cause, OutOfMemory, StatementRefused, HeaderTooLarge}
 use Rattle.pgsub_core.specs.Subscriber.Causes.{ForeignBytes, NextMessage, NeverAnswered, cause}
+use Rattle.pgsub_core.specs.Subscriber.Causes.{SpoolFailed}
 
 abbrev pub replica_with : Tables → ℕ → ℕ → RelationCache → Replica
 replica_with tables position confirmed relations =
@@ -26,6 +27,7 @@ about_of _ xid = None
 -- why a commit of these items isn't taken
 abbrev pub StopsAtCommit : Replica → ℕ → List Item → Fault → Cause → Type 0
 StopsAtCommit old end items f OutOfMemory = Unit {0}
+StopsAtCommit old end items f SpoolFailed = Unit {0}
 StopsAtCommit old end items f StatementRefused = (old.position < end) × GoesOrStops IsOfStore (on_commit old end items)
 StopsAtCommit old end items f HeaderTooLarge = ⊥
 StopsAtCommit old end items f ForeignBytes = ⊥

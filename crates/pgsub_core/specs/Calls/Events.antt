@@ -14,6 +14,7 @@ use Rattle.pgsub_core.specs.Machine.ApplyState.{ApplyState, on_event}
 use Rattle.pgsub_core.specs.Machine.Taking.{fault_of}
 use Rattle.pgsub_core.specs.Subscriber.Causes.{Cause, OutOfMemory, StatementRefused, HeaderTooLarge}
 use Rattle.pgsub_core.specs.Subscriber.Causes.{ForeignBytes, NextMessage, NeverAnswered, cause}
+use Rattle.pgsub_core.specs.Subscriber.Causes.{SpoolFailed}
 use Rattle.pgsub_core.specs.Calls.Committing.{replica_with}
 use Rattle.pgsub_core.specs.Subscriber.Applied.{Applied}
 
@@ -56,6 +57,7 @@ event_end _ = None
 -- why an event isn't gone through with
 abbrev pub StopsAtEvent : ApplyState → Message → Event → ℕ → Fault → Cause → Type 0
 StopsAtEvent old m e limit f OutOfMemory = Unit {0}
+StopsAtEvent old m e limit f SpoolFailed = Unit {0}
 StopsAtEvent old m e limit f StatementRefused =
     (end : ℕ) × (event_end e ≡ Some end) × (old.replica.position < end) × GoesOrStops IsOfStore (on_event old m old.order e)
 StopsAtEvent old m e limit f HeaderTooLarge = ⊥

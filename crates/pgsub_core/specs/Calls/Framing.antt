@@ -17,11 +17,13 @@ use Rattle.pgsub_core.specs.Machine.Feeding.{IsCommitFrame, IsFedWhole, IsFedUnt
 use Rattle.pgsub_core.specs.Subscriber.Handled.{commit_end}
 use Rattle.pgsub_core.specs.Subscriber.Causes.{Cause, OutOfMemory, StatementRefused, HeaderTooLarge}
 use Rattle.pgsub_core.specs.Subscriber.Causes.{ForeignBytes, NextMessage, NeverAnswered, cause}
+use Rattle.pgsub_core.specs.Subscriber.Causes.{SpoolFailed}
 use Rattle.pgsub_core.specs.Subscriber.Applied.{Applied, Framing, subscribed, IsKept}
 
 -- why a frame isn't taken
 abbrev pub StopsAtFrame : ℤ → Subscribed → wire.Frame → Fault → Cause → Type 0
 StopsAtFrame now s next f OutOfMemory = Unit {0}
+StopsAtFrame now s next f SpoolFailed = Unit {0}
 StopsAtFrame now s next f StatementRefused = IsCommitFrame s next × ReachesStore (take_frame now s next)
 StopsAtFrame now s next f HeaderTooLarge = ⊥
 StopsAtFrame now s next f ForeignBytes = ⊥
@@ -35,6 +37,7 @@ StopsAt next now s f k = StopsAtFrame now s next f k
 -- why the spelling of a message isn't taken
 abbrev pub StopsAtBody : ℤ → ℕ → ℕ → ℤ → List ℕ → Subscribed → Fault → Cause → Type 0
 StopsAtBody now start end clock body s f OutOfMemory = Unit {0}
+StopsAtBody now start end clock body s f SpoolFailed = Unit {0}
 StopsAtBody now start end clock body s f StatementRefused =
     (m : Message) × (message_at (is_in_block s.order.context) body ≡ Ok m) × (last : ℕ) × (commit_end (Data start end clock m) ≡ Some last)
     × (s.position < last)

@@ -22,6 +22,7 @@ use Rattle.pgsub_core.specs.Subscriber.Safely.{IsHandled}
 use Rattle.pgsub_core.specs.Subscriber.Handled.{IsLeft, commit_end}
 use Rattle.pgsub_core.specs.Subscriber.Causes.{Cause, OutOfMemory, StatementRefused, HeaderTooLarge}
 use Rattle.pgsub_core.specs.Subscriber.Causes.{ForeignBytes, NextMessage, NeverAnswered, cause}
+use Rattle.pgsub_core.specs.Subscriber.Causes.{SpoolFailed}
 use Rattle.pgsub_core.specs.Subscriber.HandledLaws.{StopsBy}
 
 -- CopyDone stays the last frame of its session
@@ -67,6 +68,7 @@ pub record IsCommitFrame (s : Subscribed) (f : wire.Frame) : Type 0 where
 -- frame, or the next frame has the fault.
 abbrev pub StopsIn : ℤ → ℕ → Bool → List ℕ → Subscribed → Fault → Cause → Type 0
 StopsIn now max done rest s f OutOfMemory = Unit {0}
+StopsIn now max done rest s f SpoolFailed = Unit {0}
 StopsIn now max done rest s f StatementRefused =
     (next : wire.Frame) × BeginsWith max done rest next × IsCommitFrame s next × ReachesStore (take_frame now s next)
 StopsIn now max done rest s f HeaderTooLarge = (k : WireFault) × (f ≡ fault.Wire k) × wire.IsFramingFault max done rest k
@@ -139,9 +141,9 @@ abbrev pub FaultStands : Type 0
 FaultStands = (now : ℤ) (old new : Subscribed) (piece next : List ℕ) (f : Fault) → IsFedUntil now old piece new f
     → IsFedUntil now old (piece ++ next) new f
 
--- neither memory nor a refusal of the store's own has a say
+-- neither memory, nor a refusal of the store's own, nor what spools fail with has a say
 abbrev pub IsSettledFault : Fault → Type 0
-IsSettledFault f = (f ≢ fault.Memory) × (f ≢ fault.Store store.Refused)
+IsSettledFault f = (f ≢ fault.Memory) × (f ≢ fault.Store store.Refused) × (cause f ≢ SpoolFailed)
 
 abbrev pub IsSettled : Option Fault → Type 0
 IsSettled None = Unit {0}

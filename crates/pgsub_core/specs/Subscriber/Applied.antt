@@ -16,6 +16,7 @@ use Rattle.pgsub_core.specs.Machine.Taking.{take, ReachesStore}
 use Rattle.pgsub_core.specs.Subscriber.Handled.{commit_end}
 use Rattle.pgsub_core.specs.Subscriber.Causes.{Cause, OutOfMemory, StatementRefused, HeaderTooLarge}
 use Rattle.pgsub_core.specs.Subscriber.Causes.{ForeignBytes, NextMessage, NeverAnswered, cause}
+use Rattle.pgsub_core.specs.Subscriber.Causes.{SpoolFailed}
 use Rattle.pgsub_core.specs.Machine.Codes.{held_code, relations_code}
 
 pub record Applied (C : Type 0) : Type 0 where
@@ -78,6 +79,7 @@ subscribed place framing a tables = record {
 -- Why a message of the server isn't handled.
 abbrev pub StopsAtMessage : ℤ → Subscribed → Sent → Fault → Cause → Type 0
 StopsAtMessage now s m f OutOfMemory = Unit {0}
+StopsAtMessage now s m f SpoolFailed = Unit {0}
 StopsAtMessage now s m f StatementRefused = (end : ℕ) × (commit_end m ≡ Some end) × (s.position < end) × ReachesStore (take now s m)
 StopsAtMessage now s m f HeaderTooLarge = ⊥
 StopsAtMessage now s m f ForeignBytes = ⊥

@@ -13,11 +13,13 @@ use Rattle.pgwire.specs.declared.fault.WireFault.TheVariants as wire_fault
 use Rattle.pgsub_core.specs.declared.fault.Fault.{Fault}
 use Rattle.pgsub_core.specs.declared.fault.Fault.TheVariants as fault
 
--- Memory can run out anywhere. The store can refuse a statement of a commit that is sound. A header
--- can tell of a payload that is too long, and something that no session holds can come. All other
--- faults are those of the next message or frame.
+-- Memory can run out anywhere. What spools keep elsewhere than in memory can fail to be written or
+-- read. The store can refuse a statement of a commit that is sound. A header can tell of a payload
+-- that is too long, and something that no session holds can come. All other faults are those of the
+-- next message or frame.
 pub data Cause : Type 0 where
   OutOfMemory : Cause
+  SpoolFailed : Cause
   StatementRefused : Cause
   HeaderTooLarge : Cause
   ForeignBytes : Cause
@@ -60,9 +62,13 @@ relation_cause rel.UnchangedInInsert = NeverAnswered
 relation_cause rel.NoIdentity = NeverAnswered
 relation_cause rel.Memory = NeverAnswered
 
+-- of what stays in memory only SpoolFull is answered (see IsOfFeedingOver)
 abbrev pub spool_cause : SpoolFault → Cause
 spool_cause spool.SpoolFull = NextMessage
 spool_cause spool.Memory = NeverAnswered
+spool_cause spool.NotWritten = SpoolFailed
+spool_cause spool.NoRoom = SpoolFailed
+spool_cause spool.NotRead = SpoolFailed
 
 -- Only opening a store answers NotAStore, unless the changes themselves had it.
 abbrev pub store_cause : StoreFault → Cause

@@ -14,6 +14,7 @@ use Rattle.pgsub_core.specs.Server.Stream.{Sent, Data, Keepalive, Kind, CommitsP
 use Rattle.pgsub_core.specs.Server.Stream.{kind}
 use Rattle.pgsub_core.specs.Subscriber.Causes.{Cause, OutOfMemory, StatementRefused, HeaderTooLarge}
 use Rattle.pgsub_core.specs.Subscriber.Causes.{ForeignBytes, NextMessage, NeverAnswered, cause}
+use Rattle.pgsub_core.specs.Subscriber.Causes.{SpoolFailed}
 use Rattle.pgsub_core.specs.Machine.Replica.{Running}
 use Rattle.pgsub_core.specs.Server.Sessions.{EndsForeign, frames_of}
 use Rattle.pgsub_core.specs.Subscriber.Safe.{RefusesNext}
@@ -74,6 +75,9 @@ abbrev pub IsAllowedFault : List Transaction → Subscribed → Sent → Fault �
 IsAllowedFault history s m (fault.Store k) = (end : ℕ) × (commit_end m ≡ Some end) × RefusesNext history s.position end k
 IsAllowedFault history s m (fault.Spool spool.SpoolFull) = message_passes_limit s m ≡ true
 IsAllowedFault history s m (fault.Spool spool.Memory) = ⊥
+IsAllowedFault history s m (fault.Spool spool.NotWritten) = ⊥
+IsAllowedFault history s m (fault.Spool spool.NoRoom) = ⊥
+IsAllowedFault history s m (fault.Spool spool.NotRead) = ⊥
 IsAllowedFault history s m (fault.Wire k) = ⊥
 IsAllowedFault history s m (fault.Decode k) = ⊥
 IsAllowedFault history s m (fault.Order k) = ⊥
@@ -93,6 +97,7 @@ IsRefusedBehind now handled all_complete s =
 -- or what stands behind them tells it.
 abbrev pub StopsFor : ℤ → List Transaction → List (List ℕ) → List (List Sent) → List (List Sent) → Subscribed → Fault → Cause → Type 0
 StopsFor now history sessions all_complete handled s f OutOfMemory = Unit {0}
+StopsFor now history sessions all_complete handled s f SpoolFailed = Unit {0}
 StopsFor now history sessions all_complete handled s f StatementRefused = IsRefusedBehind now handled all_complete s
 StopsFor now history sessions all_complete handled s f HeaderTooLarge = IsTooLargeBehind s.max_frame handled sessions
 StopsFor now history sessions all_complete handled s f ForeignBytes = IsForeignBehind handled all_complete sessions f

@@ -21,12 +21,14 @@ use Rattle.pgsub_core.specs.Subscriber.Handled.{NoneForeign, IsRefusedBehind, Is
 use Rattle.pgsub_core.specs.Subscriber.Handled.{IsLeft, IsLeftBy, IsFollowed}
 use Rattle.pgsub_core.specs.Subscriber.Causes.{Cause, OutOfMemory, StatementRefused, HeaderTooLarge}
 use Rattle.pgsub_core.specs.Subscriber.Causes.{ForeignBytes, NextMessage, NeverAnswered, cause}
+use Rattle.pgsub_core.specs.Subscriber.Causes.{SpoolFailed}
 
 -- Why following stopped in the state that what was handled leaves, of the messages alone: the next
 -- one has this fault, or the header behind them tells that a payload is longer than what is
 -- allowed.
 abbrev pub StopsBy : ℤ → List (List ℕ) → List (List Sent) → List (List Sent) → Subscribed → Fault → Cause → Type 0
 StopsBy now sessions all_complete handled s f OutOfMemory = Unit {0}
+StopsBy now sessions all_complete handled s f SpoolFailed = Unit {0}
 StopsBy now sessions all_complete handled s f StatementRefused = IsRefusedBehind now handled all_complete s
 StopsBy now sessions all_complete handled s f HeaderTooLarge = IsTooLargeBehind s.max_frame handled sessions
 StopsBy now sessions all_complete handled s f ForeignBytes = IsForeignBehind handled all_complete sessions f

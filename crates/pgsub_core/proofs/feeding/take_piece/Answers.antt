@@ -79,7 +79,7 @@ returns-clause-fed g c serves =
 pub returns-in_err-settle-clause-own : goal.returns-in_err-settle-clause-own
 returns-in_err-settle-clause-own g c =
     on_residual c.from_residual.result c.in_err-settle.field-0.0 _ c.from_residual.ensures.1
-    (of_feeding c.in_err-settle.field-0.0 c.in_err-settle.ensures.fault)
+    (of_feeding g.P.Spools.may_fail c.in_err-settle.field-0.0 c.in_err-settle.ensures.fault)
 
 pub returns-in_err-settle-clause-why : goal.returns-in_err-settle-clause-why
 returns-in_err-settle-clause-why g c honest serves =

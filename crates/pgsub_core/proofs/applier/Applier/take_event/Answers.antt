@@ -39,28 +39,28 @@ returns-in-Hold-clause-opened g c = on_ok c.hold.result _ _ c.hold.ensures.ok (�
     ∙ ap (λ (e : Event). under_way_behind e (map.contains_key c.args.self.now.held) x) (sym c.in-Hold.is))
 
 pub returns-in-Cut-clause-goes : goal.returns-in-Cut-clause-goes
-returns-in-Cut-clause-goes g c serves =
+returns-in-Cut-clause-goes g c serves = on_ok c.cut.result _ _ c.cut.ensures.ok (λ ok.
     let held = g.P.Spools.held c.self.inside.spools in
     let same : held ≡ c.args.self.now.held = ap (λ (a : Applied g.row.C.Denot). a.held) c.self.view_is in
     let fits : map.contains_key c.args.self.now.held c.in-Cut.xid ≡ true = subst (Fits c.args.self.now.held) c.in-Cut.is c.requires.fits in
     let cutted = map.insert held c.in-Cut.xid (cut c.in-Cut.label (held_of held c.in-Cut.xid)) in
     goes_by g.C.ReplicaStore.stages g.C.ReplicaStore.reach (message_value c.args.message.now) c.args.event _ c.args.self.now c.self.view_is
     _ cutted
-    (c.cut.ensures.held ∙ cut_when_open held (map.contains_key held c.in-Cut.xid) cutted
-    (ap (λ (y : HeldMap). map.contains_key y c.in-Cut.xid) same ∙ fits)) (λ tables. rw c.in-Cut.is refl)
+    (ok ∙ cut_when_open held (map.contains_key held c.in-Cut.xid) cutted
+    (ap (λ (y : HeldMap). map.contains_key y c.in-Cut.xid) same ∙ fits)) (λ tables. rw c.in-Cut.is refl))
 
 pub returns-in-Cut-clause-opened : goal.returns-in-Cut-clause-opened
-returns-in-Cut-clause-opened g c x =
+returns-in-Cut-clause-opened g c = on_ok c.cut.result _ _ c.cut.ensures.ok (λ ok x.
     let held = g.P.Spools.held c.self.inside.spools in
     let same : held ≡ c.args.self.now.held = ap (λ (a : Applied g.row.C.Denot). a.held) c.self.view_is in
     let fits : map.contains_key c.args.self.now.held c.in-Cut.xid ≡ true = subst (Fits c.args.self.now.held) c.in-Cut.is c.requires.fits in
     let cutted = map.insert held c.in-Cut.xid (cut c.in-Cut.label (held_of held c.in-Cut.xid)) in
     ap (λ (y : HeldMap). map.contains_key y x)
-    (c.cut.ensures.held ∙ cut_when_open held (map.contains_key held c.in-Cut.xid) cutted
+    (ok ∙ cut_when_open held (map.contains_key held c.in-Cut.xid) cutted
     (ap (λ (y : HeldMap). map.contains_key y c.in-Cut.xid) same ∙ fits))
     ∙ key_inserted held c.in-Cut.xid (cut c.in-Cut.label (held_of held c.in-Cut.xid)) x
     ∙ ap (λ (y : HeldMap). (c.in-Cut.xid == x) || map.contains_key y x) same
-    ∙ ap (λ (e : Event). under_way_behind e (map.contains_key c.args.self.now.held) x) (sym c.in-Cut.is)
+    ∙ ap (λ (e : Event). under_way_behind e (map.contains_key c.args.self.now.held) x) (sym c.in-Cut.is))
 
 pub returns-in-Drop-clause-goes : goal.returns-in-Drop-clause-goes
 returns-in-Drop-clause-goes g c serves =
@@ -141,8 +141,9 @@ returns-in-Hold-clause-counts g c serves =
     (λ ok tables h. rw c.in-Hold.is (ap (λ (a : Applied g.row.C.Denot). g.C.ReplicaStore.stages_missed a.store) c.self.view_is))
 
 pub returns-in-Cut-clause-counts : goal.returns-in-Cut-clause-counts
-returns-in-Cut-clause-counts g c serves tables h =
-    rw c.in-Cut.is (ap (λ (a : Applied g.row.C.Denot). g.C.ReplicaStore.stages_missed a.store) c.self.view_is)
+returns-in-Cut-clause-counts g c serves =
+    on_ok c.cut.result _ _ c.cut.ensures.ok
+    (λ ok tables h. rw c.in-Cut.is (ap (λ (a : Applied g.row.C.Denot). g.C.ReplicaStore.stages_missed a.store) c.self.view_is))
 
 pub returns-in-Drop-clause-counts : goal.returns-in-Drop-clause-counts
 returns-in-Drop-clause-counts g c serves tables h =
