@@ -66,7 +66,7 @@ fed = record {
 
 keepalive_has_all : HaveTaken s part (wire.frame keepalive)
 keepalive_has_all =
-    taken_before_fault (pos 7) s stopped (wire.frame keepalive) (wire.frame unknown) [] rejected (λ e. cc) (λ e. cc) fed refl
+    taken_before_fault (pos 7) s stopped (wire.frame keepalive) (wire.frame unknown) [] rejected (λ e. cc) (λ e. cc) (λ e. cc) fed refl
 
 nothing_has_less : HaveTaken s part [] → ⊥
 nothing_has_less have =

@@ -11,6 +11,7 @@ use Rattle.pgsub_core.specs.declared.fault.Fault.TheVariants as fault
 use Rattle.pgsub_core.specs.Subscriber.Subscribed.{Subscribed, progress_of}
 use Rattle.pgsub_core.specs.Subscriber.Causes.{Cause, OutOfMemory, StatementRefused, HeaderTooLarge}
 use Rattle.pgsub_core.specs.Subscriber.Causes.{ForeignBytes, NextMessage, NeverAnswered, cause}
+use Rattle.pgsub_core.specs.Subscriber.Causes.{SpoolFailed}
 use Rattle.pgsub_core.specs.Machine.Replica.{Outcome, Running, Stopped}
 use Rattle.pgsub_core.specs.Machine.Taking.{take_frame, take_frames}
 use Rattle.pgsub_core.specs.Machine.Feeding.{done_frames, IsFedWhole, IsFedUntil, BeginsWith}
@@ -145,13 +146,14 @@ Reason now max done rest s f =
     ⊎ ((next : Frame) × (stopped : Subscribed) × BeginsWith max done rest next × (take_frame now s next ≡ Stopped stopped f))
 
 reason : (now : ℤ) (max : ℕ) (done : Bool) (rest : List ℕ) (s : Subscribed) (f : Fault) (c : Cause) → (c ≢ OutOfMemory)
-    → (c ≢ StatementRefused) → StopsIn now max done rest s f c → Reason now max done rest s f
-reason now max done rest s f OutOfMemory room sound why = absurd (room refl)
-reason now max done rest s f StatementRefused room sound why = absurd (sound refl)
-reason now max done rest s f HeaderTooLarge room sound why = inl why
-reason now max done rest s f ForeignBytes room sound why = inl why
-reason now max done rest s f NextMessage room sound why = why
-reason now max done rest s f NeverAnswered room sound why = absurd why
+    → (c ≢ StatementRefused) → (c ≢ SpoolFailed) → StopsIn now max done rest s f c → Reason now max done rest s f
+reason now max done rest s f OutOfMemory room sound kept why = absurd (room refl)
+reason now max done rest s f SpoolFailed room sound kept why = absurd (kept refl)
+reason now max done rest s f StatementRefused room sound kept why = absurd (sound refl)
+reason now max done rest s f HeaderTooLarge room sound kept why = inl why
+reason now max done rest s f ForeignBytes room sound kept why = inl why
+reason now max done rest s f NextMessage room sound kept why = why
+reason now max done rest s f NeverAnswered room sound kept why = absurd why
 
 -- a frame that is taken has no fault
 none_at_taken : (now : ℤ) (max : ℕ) (rest more : List ℕ) (s after : Subscribed) (f : Fault) (next : Frame) → IsAllowed max next
@@ -207,13 +209,13 @@ frames_both [] b = refl
 frames_both (f ∷ a) b = ap (λ bs. frame f ++ bs) (frames_both a b) ∙ sym (append_assoc (frame f) (frames a) (frames b))
 
 pub taken_before_fault : TakenBeforeFault
-taken_before_fault now s new bytes more rest f room sound fed held now' new' v =
+taken_before_fault now s new bytes more rest f room sound kept fed held now' new' v =
     let D = done_frames s in
     let alike : TakesAlike (Running v.state) (take_frames now s v.fs) =
     subst (λ (o : Outcome Subscribed Fault). TakesAlike o (take_frames now s v.fs)) v.takes (frames_quiet now' now v.fs s.replies s) in
     let before = before_by s.copy_done now s.max_frame fed.fs v.fs (s.partial ++ (bytes ++ more)) fed.rest v.rest s fed.state
     (quiet alike.0 v.state) f fed.each v.each fed.whole v.whole fed.takes alike.1
-    (reason now s.max_frame (has_copy_done (D ++ fed.fs)) fed.rest fed.state f (cause f) room sound fed.why) in (
+    (reason now s.max_frame (has_copy_done (D ++ fed.fs)) fed.rest fed.state f (cause f) room sound kept fed.why) in (
       frames before.0 ++ rest,
       held ∙ ap (λ (fs : List Frame). frames (D ++ fs) ++ rest) before.1
           ∙ ap (λ bs. bs ++ rest) (ap frames (sym (append_assoc D v.fs before.0)) ∙ frames_both (D ++ v.fs) before.0)

@@ -11,7 +11,7 @@ use Rattle.pgapply.specs.declared.misses.Misses.{Misses}
 use Rattle.pgapply.specs.Value.{Tables}
 use Rattle.pgsub_core.specs.declared.fault.Fault.{Fault}
 use Rattle.pgsub_core.specs.declared.fault.Fault.TheVariants as fault
-use Rattle.pgsub_core.specs.Machine.Faults.{IsOfFeeding}
+use Rattle.pgsub_core.specs.Machine.Faults.{IsOfFeedingOver}
 use Rattle.pgsub_core.specs.Subscriber.Subscribed.{Subscribed, disconnect}
 use Rattle.pgsub_core.specs.Subscriber.SubscriberValue.{SubscriberValue, seen, Feeds, FeedsUntil}
 use Rattle.pgsub_core.specs.Machine.Counted.{FeedsCounted, FeedsCountedFront}
@@ -29,10 +29,14 @@ ended_by (Ok done) = None
 ended_by (Err f) = Some f
 
 -- Following ends with a read or a write that failed, or with what feeding an open subscriber can
--- return.
+-- return over spools that may fail as told.
+abbrev pub IsOfFollowingOver : Type 0 → FollowFault → Type 0
+IsOfFollowingOver may_fail (follow.Stream f) = IsOfFeedingOver may_fail f
+IsOfFollowingOver may_fail f = Unit {0}
+
+-- the same over spools that keep what is buffered in memory
 abbrev pub IsOfFollowing : FollowFault → Type 0
-IsOfFollowing (follow.Stream f) = IsOfFeeding f
-IsOfFollowing f = Unit {0}
+IsOfFollowing f = IsOfFollowingOver ⊥ f
 
 -- nothing is unread, or 2^64 - 1 reads were made
 abbrev pub IsReadOut : Option (List ℕ) → ℕ → Type 0

@@ -12,7 +12,7 @@ use Rattle.pgsub_core.specs.declared.fault.Fault.{Fault}
 use Rattle.pgsub_core.specs.declared.fault.Fault.TheVariants as fault
 use Rattle.pgsub_core.specs.Server.History.{Transaction}
 use Rattle.pgsub_core.specs.Server.Stream.{Sent}
-use Rattle.pgsub_core.specs.Subscriber.Causes.{OutOfMemory, StatementRefused, cause}
+use Rattle.pgsub_core.specs.Subscriber.Causes.{OutOfMemory, SpoolFailed, StatementRefused, cause}
 use Rattle.pgsub_core.specs.Subscriber.Safely.{IsSent}
 use Rattle.pgsub_core.specs.Subscriber.Confirming.{AreSafeReplies}
 use Rattle.pgsub_core.specs.Machine.Feeding.{waiting, done_frames, IsFedUntil}
@@ -64,11 +64,12 @@ abbrev pub PartHasTaken : Type 0
 PartHasTaken = (s : Subscribed) (part more : List ℕ) → HaveTaken s part (part ++ more)
 
 -- and in what of it comes before a frame that has a fault, if that isn't a refusal of the store's
--- own
+-- own or a failure of the spools
 abbrev pub TakenBeforeFault : Type 0
 TakenBeforeFault =
     (now : ℤ) (s new : Subscribed) (bytes more rest : List ℕ) (f : Fault) → (cause f ≢ OutOfMemory) → (cause f ≢ StatementRefused)
-    → (fed : IsFedUntil now s (bytes ++ more) new f) → waiting s bytes ≡ wire.frames (done_frames s ++ fed.fs) ++ rest
+    → (cause f ≢ SpoolFailed) → (fed : IsFedUntil now s (bytes ++ more) new f)
+    → waiting s bytes ≡ wire.frames (done_frames s ++ fed.fs) ++ rest
     → HaveTaken s (bytes ++ more) bytes
 
 -- The sessions of these parts and of one part more, which belongs to the last one. In place of the

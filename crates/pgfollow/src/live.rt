@@ -9,7 +9,7 @@ ghost use Rattle.pgapply.specs.Value.{Tables};
 ghost use Rattle.pgsub_core.specs.Subscriber.SubscriberValue.{seen};
 ghost use Rattle.pgfollow.specs.Told.{FollowsLive};
 ghost use Rattle.pgfollow.specs.Live.{FollowsPiece, IsFollowedPart, IsFront, IsGreeted};
-ghost use Rattle.pgfollow.specs.Live.{IsOfFollowing, LiveEnds, StopsFront, StopsGreeting};
+ghost use Rattle.pgfollow.specs.Live.{IsOfFollowingOver, LiveEnds, StopsFront, StopsGreeting};
 ghost use Rattle.pgfollow.specs.Live.{StopsPiece, ended_by, news, piece_len, settled};
 
 use crate::clock::Clock;
@@ -93,7 +93,7 @@ fn greet<R: Read + Drop, W: Write + Drop, P: Spools + Drop, C: ReplicaStore + Dr
     requires sound { link.old.write_failed ≡ false }
     ensures unwritten { (result ≡ Err FollowFault.Write) ↔ (link.new.write_failed ≡ true) }
     ensures unread { IfErr result (λ fault. fault ≢ FollowFault.Read) }
-    ensures own { IfErr result IsOfFollowing }
+    ensures own { IfErr result (IsOfFollowingOver P.may_fail) }
     ensures read { (link.new.reader ≡ link.old.reader)
         × (link.new.read_failed ≡ link.old.read_failed) × (link.new.reads ≡ link.old.reads) }
     ensures sound { OnOk result (link.new.write_failed ≡ false) }
@@ -124,7 +124,7 @@ fn follow_part<R: Read + Drop, W: Write + Drop, P: Spools + Drop, C: ReplicaStor
     requires unclosed { subscriber.old.framing.closed ≡ false }
     ensures unwritten { (result ≡ Err FollowFault.Write) ↔ (link.new.write_failed ≡ true) }
     ensures unread { IfErr result (λ fault. fault ≢ FollowFault.Read) }
-    ensures own { IfErr result IsOfFollowing }
+    ensures own { IfErr result (IsOfFollowingOver P.may_fail) }
     ensures read { (link.new.reader ≡ link.old.reader)
         × (link.new.read_failed ≡ link.old.read_failed) × (link.new.reads ≡ link.old.reads) }
     ensures some { IfOk result (λ n. (n ≤ length piece.now) × (0 < length piece.now → 0 < n)) }
@@ -178,7 +178,7 @@ fn follow_piece<
     requires unclosed { subscriber.old.framing.closed ≡ false }
     ensures unwritten { (result ≡ Err FollowFault.Write) ↔ (link.new.write_failed ≡ true) }
     ensures unread { IfErr result (λ fault. fault ≢ FollowFault.Read) }
-    ensures own { IfErr result IsOfFollowing }
+    ensures own { IfErr result (IsOfFollowingOver P.may_fail) }
     ensures read { (link.new.reader ≡ link.old.reader)
         × (link.new.read_failed ≡ link.old.read_failed) × (link.new.reads ≡ link.old.reads) }
     ensures followed { C.is_honest subscriber.new.applied.store →
@@ -228,7 +228,7 @@ fn follow_reads<
     requires unclosed { subscriber.old.framing.closed ≡ false }
     ensures read { (result ≡ Err FollowFault.Read) ↔ (link.new.read_failed ≡ true) }
     ensures unwritten { (result ≡ Err FollowFault.Write) ↔ (link.new.write_failed ≡ true) }
-    ensures own { IfErr result IsOfFollowing }
+    ensures own { IfErr result (IsOfFollowingOver P.may_fail) }
     ensures followed { C.is_honest subscriber.new.applied.store →
         C.serves subscriber.old.applied.store →
         LiveEnds C.holds C.place C.reopens C.serves C.missed (R.remaining link.old.reader)
@@ -299,7 +299,7 @@ pub fn follow_live<
     requires writable { link.old.write_failed ≡ false }
     ensures read { (result ≡ Err FollowFault.Read) ↔ (link.new.read_failed ≡ true) }
     ensures unwritten { (result ≡ Err FollowFault.Write) ↔ (link.new.write_failed ≡ true) }
-    ensures own { IfErr result IsOfFollowing }
+    ensures own { IfErr result (IsOfFollowingOver P.may_fail) }
     ensures followed { C.is_honest subscriber.new.applied.store →
         C.serves subscriber.old.applied.store →
         FollowsLive C.holds C.place C.reopens C.serves C.missed (R.remaining link.old.reader)
