@@ -25,6 +25,9 @@ no_store = refl
 spools_full : status_of_follow 0 (Some (follow.Stream (fault.Spool spool.SpoolFull))) ≡ 10
 spools_full = refl
 
+spools_failed : status_of_follow 0 (Some (follow.Stream (fault.Spool spool.NoRoom))) ≡ 13
+spools_failed = refl
+
 frame_too_large : status_of_follow 0 (Some (follow.Stream (fault.Wire wire.TooLarge))) ≡ 11
 frame_too_large = refl
 

@@ -86,6 +86,9 @@ relation_text relation.Memory = memory_text
 abbrev pub spool_text : SpoolFault → List ℕ
 spool_text spool.SpoolFull = codes "spool 1 SpoolFull"
 spool_text spool.Memory = memory_text
+spool_text spool.NotWritten = codes "spool 3 NotWritten"
+spool_text spool.NoRoom = codes "spool 4 NoRoom"
+spool_text spool.NotRead = codes "spool 5 NotRead"
 
 abbrev pub store_text : StoreFault → List ℕ
 store_text store.Clash = codes "store 1 Clash"

@@ -1,7 +1,7 @@
 -- The exit status of following a server: 0 the stream ended, 1 it is rejected, 3 the file is no
--- store, 10 the spools are full, 11 a frame is too large, 12 the store can't be opened, 13 it
--- failed, 14 memory ran out, 15 standard input or output failed, 16 the stream ended and changes
--- found no row.
+-- store, 10 the spools are full, 11 a frame is too large, 12 the store can't be opened, 13 it or
+-- the spools failed, 14 memory ran out, 15 standard input or output failed, 16 the stream ended and
+-- changes found no row.
 use Rattle.std.specs.Prelude.{ℕ, Option, None, Some, nat_lt, if◌then◌else◌}
 use Rattle.pgwire.specs.declared.fault.WireFault.TheVariants as wire
 use Rattle.pgspool.specs.declared.fault.SpoolFault.TheVariants as spool
@@ -33,6 +33,9 @@ status_of_fault (fault.Order f) = 1
 status_of_fault (fault.Relation f) = 1
 status_of_fault (fault.Spool spool.SpoolFull) = 10
 status_of_fault (fault.Spool spool.Memory) = 14
+status_of_fault (fault.Spool spool.NotWritten) = 13
+status_of_fault (fault.Spool spool.NoRoom) = 13
+status_of_fault (fault.Spool spool.NotRead) = 13
 status_of_fault (fault.Store f) = status_of_store f
 status_of_fault fault.Read = 15
 status_of_fault fault.Closed = 1

@@ -188,6 +188,9 @@ fn write_spool<W: fmt::Write>(f: &mut fmt::Formatter<W>, fault: SpoolFault) -> f
     f.write_str(match fault {
         SpoolFault::SpoolFull => "spool 1 SpoolFull",
         SpoolFault::Memory => "memory",
+        SpoolFault::NotWritten => "spool 3 NotWritten",
+        SpoolFault::NoRoom => "spool 4 NoRoom",
+        SpoolFault::NotRead => "spool 5 NotRead",
     })
 }
 

@@ -56,6 +56,7 @@ pub fn fault_status(fault: Fault) -> u8
     match fault {
         Fault::Spool(SpoolFault::SpoolFull) => 10,
         Fault::Wire(WireFault::TooLarge) => 11,
+        Fault::Spool(SpoolFault::NotWritten | SpoolFault::NoRoom | SpoolFault::NotRead) => 13,
         Fault::Store(fault) => store_status(fault),
         Fault::Memory | Fault::Wire(WireFault::Memory) | Fault::Spool(SpoolFault::Memory) => 14,
         Fault::Read => 15,
