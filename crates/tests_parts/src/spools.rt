@@ -69,9 +69,9 @@ fn push_forty<P: Spools>(rt: &impl Abort, spools: &mut P, item: &ItemRef<'_>) {
 /// Rolls back all but the first three of each of the nine, and once more after another item.
 fn cut_to_three<P: Spools>(rt: &impl Abort, spools: &mut P, item: &ItemRef<'_>) {
     for xid in 1..10u32 {
-        spools.cut(xid, xid + 3);
+        assert!(rt; spools.cut(xid, xid + 3).is_ok());
         push_in_the_end(rt, spools, xid, xid + 3, item);
-        spools.cut(xid, xid + 3);
+        assert!(rt; spools.cut(xid, xid + 3).is_ok());
         assert!(rt; spools.count(xid) == 3);
     }
     assert!(rt; spools.bytes() == 3 * 9 * 28);

@@ -14,7 +14,7 @@ use pgwire::WireFault;
 use std::process::Abort;
 
 /// One fault of each kind that following can end with.
-static FAULTS: [Fault; 34] = [
+static FAULTS: [Fault; 37] = [
     Fault::Wire(WireFault::UnknownFrame(120)),
     Fault::Wire(WireFault::BadLength),
     Fault::Wire(WireFault::TooLarge),
@@ -37,6 +37,9 @@ static FAULTS: [Fault; 34] = [
     Fault::Order(OrderFault::AbortMisplaced),
     Fault::Relation(RelFault::UnknownRelation(4294967295)),
     Fault::Spool(SpoolFault::SpoolFull),
+    Fault::Spool(SpoolFault::NotWritten),
+    Fault::Spool(SpoolFault::NoRoom),
+    Fault::Spool(SpoolFault::NotRead),
     Fault::Store(StoreFault::Clash),
     Fault::Store(StoreFault::NoIdentity),
     Fault::Store(StoreFault::UnknownIdentity),
