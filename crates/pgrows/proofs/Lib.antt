@@ -14,6 +14,5 @@ pub mod Gaps
 pub mod Given
 pub mod Marked
 pub mod StoredRows
-pub mod Listed
 pub mod Reading
 pub mod Walked

@@ -24,7 +24,7 @@ use Rattle.pgrows.specs.Dump.{key_at, row_at}
 use Rattle.pgrows.specs.Gap.{IsReached}
 use Rattle.pgrows.specs.Rows.{IsGood, key_of}
 use Rattle.pgrows.specs.Stored.{IsWithin}
-use Rattle.pgrows.specs.Walk.{EachFits, EndsAt, IsNextEntry}
+use Rattle.pgrows.specs.Walk.{EachFits, EndsAt, HasNoRow, HasRow, IsNextEntry}
 use Rattle.pgrows.proofs.SetUp.{indexed, entries_rise}
 use Rattle.pgrows.proofs.Seek.{entry, passes, left_is, compared, first_in}
 use Rattle.pgrows.proofs.Ordered.{R, same_key, entry_row, row_entry, copies_are}
@@ -121,3 +121,15 @@ pub fits_next : (o : ℕ) (from : List ℕ) (db : Trees) (e : Row) → IsNextEnt
     → FitsCopies (copies_in (row_at (db 1) e))
 fits_next o from db e next fit =
     subst (λ (k : Option Copies). IfSome k FitsCopies) next.row.there (fit (bytes (column e 1)))
+
+-- ---- whether the relation has a row at all
+
+not_below_none : (p : List ℕ) → is_lt (R p []) ≡ false
+not_below_none [] = refl
+not_below_none (x ∷ p) = refl
+
+pub any_row : (o : ℕ) (db : Trees) (e : Row) (met : Bool)
+    → MatchBool met (IsNextEntry o [] db e) (EndsAt o [] (tables_in db).rows)
+    → MatchBool met (HasRow o (tables_in db).rows) (HasNoRow o (tables_in db).rows)
+any_row o db e true next = (bytes (column e 1), subst IsSome (sym next.row.there) refl)
+any_row o db e false ends = λ ident. ends ident (not_below_none ident)

@@ -1,5 +1,5 @@
 -- The rows of a relation one after the other, by their identities.
-use Rattle.std.specs.Prelude.{◌≡◌, ◌∷◌, ℕ, List, Some, None, IfSome, true, false}
+use Rattle.std.specs.Prelude.{◌≡◌, ◌∷◌, ℕ, List, Some, None, IfSome, IsSome, true, false}
 use Rattle.std.specs.Ordering.{nat_cmp, is_lt}
 use Rattle.std.specs.Cmp.Lexicographic.{slice_cmp}
 use Rattle.std.specs.FinMap.{FinMap, get}
@@ -30,3 +30,11 @@ pub record IsNextEntry (o : ℕ) (from : List ℕ) (db : Trees) (e : Row) : Type
 -- each row of the relation fits
 abbrev pub EachFits : ℕ → Tables → Type 0
 EachFits o t = (ident : List ℕ) → IfSome (get t.rows (o ∷ ident)) FitsCopies
+
+-- the relation has a row
+abbrev pub HasRow : ℕ → FinMap (slice_cmp nat_cmp) Copies → Type 0
+HasRow o rows = (ident : List ℕ) × IsSome (get rows (o ∷ ident))
+
+-- it has none
+abbrev pub HasNoRow : ℕ → FinMap (slice_cmp nat_cmp) Copies → Type 0
+HasNoRow o rows = (ident : List ℕ) → get rows (o ∷ ident) ≡ None

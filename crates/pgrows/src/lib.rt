@@ -9,7 +9,6 @@ mod fault;
 mod find;
 mod gap;
 mod insert;
-mod list;
 mod relation;
 mod rows;
 mod sink;

@@ -1,7 +1,7 @@
 //! A store of trees that holds the three tables of a store.
 
 ghost use Rattle.std.specs.Prelude.{◌≡◌, ◌≢◌, ◌∷◌, [], None, true, false, IsSome, IsTrue, IfOk};
-ghost use Rattle.std.specs.Prelude.{IfErr, IfSome, MatchOption, OnOk, OnErr};
+ghost use Rattle.std.specs.Prelude.{IfErr, IfSome, MatchBool, MatchOption, OnOk, OnErr};
 ghost use Rattle.std.specs.FinMap.{get};
 ghost use Rattle.sqlite.specs.Held as connection;
 ghost use Rattle.sqlite.specs.State.{HasCleanDisk, Survives};
@@ -9,23 +9,22 @@ ghost use Rattle.sqlite.specs.Steps.{IsFresh};
 ghost use Rattle.pgtables.specs.Kept as connected;
 ghost use Rattle.pgtables.specs.Kept.{IsKept, is_there, with_definition, with_place, with_row};
 ghost use Rattle.pgtables.specs.Kept.{without_row, without_rows};
-ghost use Rattle.pgtables.specs.Shown.{AllFit, FitsCopies, FitsDefinition, ListsRows};
+ghost use Rattle.pgtables.specs.Shown.{FitsCopies, FitsDefinition};
 ghost use Rattle.pgrows.specs.declared.fault.ReadFault.TheVariants.{Malformed};
 ghost use Rattle.pgrows.specs.Dump.{GivesAll, GivesFront, LeavesAt};
 ghost use Rattle.pgrows.specs.Rows.{Drops, GoesBack, IfServing, IsNumbered, Keeps, Makes, Marks};
 ghost use Rattle.pgrows.specs.Rows.{Shows, database, state, tables_of, with_row_if_there};
-ghost use Rattle.pgrows.specs.Walk.{EachFits, EndsAt, IsNextRow};
+ghost use Rattle.pgrows.specs.Walk.{EachFits, EndsAt, HasNoRow, HasRow, IsNextRow};
 
 use crate::change::{put_place, remove, set};
 use crate::define::put_defined;
 use crate::dump::give_all;
 use crate::fault::ReadFault;
 use crate::insert::add;
-use crate::list::list;
 use crate::relation::clear;
 use crate::sink::RowSink;
 use crate::stored::{find_defined, find_stored};
-use crate::walk::next_row;
+use crate::walk::{has_rows, next_row};
 use crate::whole::put;
 use pgtables::{StoredDefinition, StoredRow, see_committed};
 use sqlite::{Connection, Error, ErrorCode};
@@ -391,38 +390,6 @@ impl<S: Alter> Rows<S> {
         }
     }
 
-    /// All rows of the relation, in the order of their identities.
-    pub fn rows_of(&mut self, alloc: Global, oid: u32) -> Result<Vec<StoredRow>, ReadFault>
-        ensures found { HasCleanDisk (state S.Store self.new) →
-            IfOk result (λ rows. ListsRows oid (tables_of S.Store self.old) rows.items) }
-        ensures formed { HasCleanDisk (state S.Store self.new) →
-            AllFit oid (tables_of S.Store self.old) → IfErr result (λ fault. fault ≢ Malformed) }
-        ensures made { HasCleanDisk (state S.Store self.new) → OnOk result
-            (Makes S.Store (λ t. t) self.old self.new) }
-        ensures keeps { HasCleanDisk (state S.Store self.new) →
-            Keeps S.Store self.old self.new }
-        ensures survives { Survives (state S.Store self.old) (state S.Store self.new) (λ _. ⊥) }
-    {
-        if self.failed {
-            return Err(ReadFault::Store(StoreError::Broken));
-        }
-        match list(
-            &mut self.store,
-            alloc,
-            &mut self.key,
-            &mut self.found,
-            &mut self.row,
-            self.last,
-            oid,
-        ) {
-            Ok(rows) => Ok(rows),
-            Err(fault) => {
-                self.failed = true;
-                Err(fault)
-            }
-        }
-    }
-
     /// The relation's first row from this identity on, with its identity. So a table of any size is
     /// walked in the memory of one row, while rows change.
     pub fn next_row(
@@ -460,6 +427,35 @@ impl<S: Alter> Rows<S> {
             Err(fault) => {
                 self.failed = true;
                 Err(fault)
+            }
+        }
+    }
+
+    /// Whether the relation has a row.
+    pub fn has_rows(&mut self, oid: u32) -> Result<bool, StoreError>
+        ensures told { HasCleanDisk (state S.Store self.new) → IfOk result (λ has. MatchBool has
+            (HasRow oid (tables_of S.Store self.old).rows)
+            (HasNoRow oid (tables_of S.Store self.old).rows)) }
+        ensures made { HasCleanDisk (state S.Store self.new) → OnOk result
+            (Makes S.Store (λ t. t) self.old self.new) }
+        ensures keeps { HasCleanDisk (state S.Store self.new) →
+            Keeps S.Store self.old self.new }
+        ensures survives { Survives (state S.Store self.old) (state S.Store self.new) (λ _. ⊥) }
+    {
+        if self.failed {
+            return Err(StoreError::Broken);
+        }
+        match has_rows(
+            &mut self.store,
+            &mut self.key,
+            &mut self.found,
+            self.last,
+            oid,
+        ) {
+            Ok(has) => Ok(has),
+            Err(error) => {
+                self.failed = true;
+                Err(error)
             }
         }
     }

@@ -6,7 +6,7 @@ use Rattle.pgrows.specs.Stored.{HasCopies}
 use Rattle.pgrows.proofs.SetUp.{table_shape}
 use Rattle.pgrows.proofs.StoredRows.{of_copies, passed_on, same_copies}
 use Rattle.pgrows.proofs.Reading.{row_read}
-use Rattle.pgrows.proofs.list.read_entry.Goals as goal
+use Rattle.pgrows.proofs.walk.read_entry.Goals as goal
 
 pub get-requires : goal.get-requires
 get-requires g c clean =
