@@ -20,14 +20,13 @@ use Rattle.pgrel.specs.Identity.{keyed}
 use Rattle.pgrows.specs.declared.fault.ReadFault.{ReadFault}
 use Rattle.pgrows.specs.declared.fault.ReadFault.TheVariants.{Store, Malformed}
 use Rattle.pgtables.specs.Kept as stored
-use Rattle.pgtables.specs.Shown.{AllFit, FitsCopies, FitsDefinition}
+use Rattle.pgtables.specs.Shown.{FitsCopies, FitsDefinition}
 use Rattle.pgapply.specs.declared.fault.StoreFault.{StoreFault}
 use Rattle.pgapply.specs.Value.{Row, Rows, Table, Tables, most_copies}
 use Rattle.pgapply.specs.Stored.{IsOwnFault}
 use Rattle.pgstore.specs.SqlFault.{IsReadFaultOf, IsTreeFaultOf}
 use Rattle.pgstore.specs.Spelled.{IsChanging, IsReadable, IsSpellable, IsStored, spelled_definition}
 use Rattle.pgstore.specs.Spelled.{spelled_row}
-use Rattle.pgstore.specs.Carries.{AreKept, AreKeptRows}
 use Rattle.pgstore.proofs.SpelledRows.{own_row}
 
 -- ---- faults
@@ -84,19 +83,6 @@ row_fits v def rows t h place =
     go : (o : Option Row) → finite.get rows place ≡ o → IfSome (option_map spelled_row o) FitsCopies
     go None is = tt
     go (Some row) is = few_copies def row.copies (h.form place row is).copies
-
-kept_fit : (def : RelationDef) (entries : List (List ℕ × Row)) (kept : List stored.Copies) → AreKeptRows def entries kept
-    → AllByRecursion FitsCopies kept
-kept_fit def [] [] h = tt
-kept_fit def [] (k ∷ kept) h = absurd h
-kept_fit def (e ∷ entries) [] h = absurd h
-kept_fit def (e ∷ entries) (k ∷ kept) h =
-    let one : k.copies < 2 ^ 32 = subst (λ (c : stored.Copies). c.copies < 2 ^ 32) (sym h.0.is) (let few = h.0.few in omega (arith, few)) in
-    (one, kept_fit def entries kept h.1)
-
-pub all_fit : (before def : RelationDef) (entries : List (List ℕ × Row)) (t : stored.Tables) → AreKept before def entries t
-    → AllFit def.oid t
-all_fit before def entries t are kept lists = kept_fit before entries kept (are kept lists)
 
 -- ---- definitions
 

@@ -41,7 +41,7 @@ module _ (v : Tables) (def : RelationDef) (t : stored.Tables) (h : IsStored v t)
         ∙ sym (carry_alike before it.0.definition def (read.columns it.0.definition (h.spellable def.oid it.0 it.1).definition it.2)
         (map.entries it.0.rows) map.empty)
 
-    kept : AreKept before def (map.entries (stored_table v def t h there at).0.rows) t
+    kept : AreKept before def.oid (map.entries (stored_table v def t h there at).0.rows) t
     kept =
         let it = stored_table v def t h there at in
         kept_rows v def t h it.0 it.1 before (read.columns it.0.definition (h.spellable def.oid it.0 it.1).definition it.2)
@@ -50,7 +50,7 @@ module _ (v : Tables) (def : RelationDef) (t : stored.Tables) (h : IsStored v t)
     first = emptied_first v def t h (emptied def columns t) columns are refl there at
 
     pub carried_finds : (next : stored.Tables)
-        → ((entries : List (List ℕ × Row)) → IsChanging v def map.empty (emptied def columns t) → AreKept before def entries t
+        → ((entries : List (List ℕ × Row)) → IsChanging v def map.empty (emptied def columns t) → AreKept before def.oid entries t
         → MakesOf v def (carry_rows before def entries map.empty) next)
         → (rows : Rows) × (found_rows (map.get v def.oid) def op ≡ Ok rows) × IsChanging v def rows next
     carried_finds next carries =
@@ -58,7 +58,7 @@ module _ (v : Tables) (def : RelationDef) (t : stored.Tables) (h : IsStored v t)
         (made.0, found_carried ∙ made.1, made.2)
 
     pub carried_refuses : (e : StoreFault)
-        → ((entries : List (List ℕ × Row)) → IsChanging v def map.empty (emptied def columns t) → AreKept before def entries t
+        → ((entries : List (List ℕ × Row)) → IsChanging v def map.empty (emptied def columns t) → AreKept before def.oid entries t
         → IsFault e (carry_rows before def entries map.empty))
         → IsFault e (found_rows (map.get v def.oid) def op)
     carried_refuses e refuses =

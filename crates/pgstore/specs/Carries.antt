@@ -1,8 +1,11 @@
 -- What is done to the rows of a relation that comes with another shape, inside a transaction.
-use Rattle.std.specs.Prelude.{◌≡◌, ◌⊎◌, ◌<◌, ◌≤◌, ◌+◌, ℕ, Bool, List, length, map, true, false}
-use Rattle.std.specs.Prelude.{IsTrue, Some, Ok}
-use Rattle.std.specs.List.{AllZip}
+use Rattle.std.specs.Prelude.{◌≡◌, ◌≢◌, ◌⊎◌, ◌<◌, ◌≤◌, ◌+◌, ◌∷◌, ℕ, Bool, List, length, map, true}
+use Rattle.std.specs.Prelude.{false, T, Some, Ok, option_map}
+use Rattle.std.specs.List.{AllByRecursion}
+use Rattle.std.specs.Ordering.{nat_cmp}
+use Rattle.std.specs.Cmp.Lexicographic.{slice_cmp}
 use Rattle.std.specs.FinMap as finite
+use Rattle.std.specs.FinMap.{find, is_sorted}
 use Rattle.sqlite.specs.Store.{Ghosts}
 use Rattle.sqlite.specs.State.{HasCleanDisk}
 use Rattle.pgtuple.specs.Cells.{tuple_spelling}
@@ -12,7 +15,6 @@ use Rattle.pglogical.specs.declared.message.RelationDef.{RelationDef}
 use Rattle.pglogical.specs.Spelling.{IsDefinition}
 use Rattle.pgrel.specs.Identity.{keyed, has_unchanged}
 use Rattle.pgtables.specs.Kept as stored
-use Rattle.pgtables.specs.Shown.{ListsRows}
 use Rattle.pgrows.specs.Rows.{Makes, state, tables_of}
 use Rattle.pgapply.specs.declared.op.Op.{Op}
 use Rattle.pgapply.specs.declared.fault.StoreFault.{StoreFault}
@@ -22,6 +24,7 @@ use Rattle.pgapply.specs.Apply.{joined, carry_row, carry_rows, found_rows}
 use Rattle.pgapply.specs.Stored.{IsFault, IsOwnFault}
 use Rattle.pgstore.specs.Spelled.{IsChanging, IsStored, spelled_definition, spelled_row}
 use Rattle.pgstore.specs.Acts.{Goes, GoesOpen, MakesOf}
+use Rattle.pgstore.specs.Parks.{StaysBeside}
 
 -- ---- rows that join others
 
@@ -48,17 +51,18 @@ RefusesCopies def copies there fault =
     IsOwnFault fault ⊎ (((fault ≡ Clash) × (keyed def ≡ true))
     ⊎ ((fault ≡ TooManyCopies) × (keyed def ≡ false) × (most_copies < there.copies + copies)))
 
-module _ {S : Type 0} (g : Ghosts S) (old new : S) where
-  -- a row joins those that are there
-  abbrev pub Joins : RelationDef → List ℕ → List ℕ → ℕ → Type 0
-  Joins def place body copies =
-      GoesOpen g old new × ((row : Row) → IsCarriedRow def row place body copies → (v : Tables) (rows : Rows)
-      → IsChanging v def rows (tables_of g old)
-      → MakesOf v def (joined def row rows (finite.get rows (identity_key def row.cells))) (tables_of g new))
+-- a row joins those that are there, whatever is parked under another OID
+pub record Joins {S : Type 0} (g : Ghosts S) (old new : S) (def : RelationDef) (place body : List ℕ) (copies : ℕ) : Type 0 where
+  pub goes : GoesOpen g old new
+  pub beside : StaysBeside def.oid (tables_of g old) (tables_of g new)
+  pub made : (row : Row) → IsCarriedRow def row place body copies → (park : ℕ) → park ≢ def.oid → (v : Tables) (rows : Rows)
+      → IsChanging v def rows (stored.without_rows park (tables_of g old))
+      → MakesOf v def (joined def row rows (finite.get rows (identity_key def row.cells))) (stored.without_rows park (tables_of g new))
 
 abbrev pub RefusesToJoin : {S : Type 0} → Ghosts S → S → RelationDef → List ℕ → List ℕ → ℕ → StoreFault → Type 0
 RefusesToJoin g old def place body copies e =
-    (row : Row) → IsCarriedRow def row place body copies → (v : Tables) (rows : Rows) → IsChanging v def rows (tables_of g old)
+    (row : Row) → IsCarriedRow def row place body copies → (park : ℕ) → park ≢ def.oid → (v : Tables) (rows : Rows)
+    → IsChanging v def rows (stored.without_rows park (tables_of g old))
     → IsFault e (joined def row rows (finite.get rows (identity_key def row.cells)))
 
 -- ---- rows that are carried
@@ -72,47 +76,55 @@ pub record IsKeptRow (def : RelationDef) (row : Row) (kept : stored.Copies) : Ty
   pub some : 1 ≤ row.copies
   pub few : row.copies ≤ most_copies
 
--- the rows of a list, with their identities
-abbrev pub AreKeptRows : RelationDef → List (List ℕ × Row) → List stored.Copies → Type 0
-AreKeptRows def entries kept = AllZip (λ (e : List ℕ × Row) k. IsKeptRow def e.1 k) entries kept
+-- all rows under an OID, by identity, as they are stored under their old definition
+pub record AreKept (def : RelationDef) (oid : ℕ) (entries : List (List ℕ × Row)) (t : stored.Tables) : Type 0 where
+  pub rises : T (is_sorted (slice_cmp nat_cmp) entries)
+  pub each : (place : List ℕ)
+      → finite.get t.rows (oid ∷ place) ≡ option_map spelled_row (find (slice_cmp nat_cmp) place entries)
+  pub rows : AllByRecursion (λ (e : List ℕ × Row). IsKeptRow def e.1 (spelled_row e.1)) entries
 
-module _ {S : Type 0} (g : Ghosts S) (old new : S) (before def : RelationDef) where
-  -- one row is carried
-  abbrev pub CarriesOne : stored.Copies → Type 0
-  CarriesOne kept =
-      GoesOpen g old new × ((row : Row) → IsKeptRow before row kept → (v : Tables) (rows : Rows) → IsChanging v def rows (tables_of g old)
-      → MakesOf v def (carry_row before def row rows) (tables_of g new))
-
-  -- rows have been carried, and these are left
-  pub record Carried (v : Tables) (entries : List (List ℕ × Row)) (start : Rows) (rest : List stored.Copies) : Type 0 where
-    pub left : List (List ℕ × Row)
-    pub rows : Rows
-    pub kept : AreKeptRows before left rest
-    pub same : carry_rows before def entries start ≡ carry_rows before def left rows
-    pub changing : IsChanging v def rows (tables_of g new)
-
-  -- what a loop over the rows keeps
-  pub record CarriesOn (all rest : List stored.Copies) : Type 0 where
-    pub goes : Goes g old new
-    pub made : HasCleanDisk (state g new) → IsTrue (state g old).is_open
-        → GoesOpen g old new × ((v : Tables) (entries : List (List ℕ × Row)) (start : Rows) → IsChanging v def start (tables_of g old)
-        → AreKeptRows before entries all → Carried v entries start rest)
-
-  -- all rows are carried
-  abbrev pub CarriesAll : List stored.Copies → Type 0
-  CarriesAll all =
-      GoesOpen g old new × ((v : Tables) (entries : List (List ℕ × Row)) (start : Rows) → IsChanging v def start (tables_of g old)
-      → AreKeptRows before entries all
-      → MakesOf v def (carry_rows before def entries start) (tables_of g new))
+-- one row is carried, whatever is parked under another OID
+pub record CarriesOne {S : Type 0} (g : Ghosts S) (old new : S) (before def : RelationDef) (kept : stored.Copies) : Type 0 where
+  pub goes : GoesOpen g old new
+  pub beside : StaysBeside def.oid (tables_of g old) (tables_of g new)
+  pub made : (row : Row) → IsKeptRow before row kept → (park : ℕ) → park ≢ def.oid → (v : Tables) (rows : Rows)
+      → IsChanging v def rows (stored.without_rows park (tables_of g old))
+      → MakesOf v def (carry_row before def row rows) (stored.without_rows park (tables_of g new))
 
 abbrev pub RefusesToCarryOne : {S : Type 0} → Ghosts S → S → RelationDef → RelationDef → stored.Copies → StoreFault → Type 0
 RefusesToCarryOne g old before def kept e =
-    (row : Row) → IsKeptRow before row kept → (v : Tables) (rows : Rows) → IsChanging v def rows (tables_of g old)
+    (row : Row) → IsKeptRow before row kept → (park : ℕ) → park ≢ def.oid → (v : Tables) (rows : Rows)
+    → IsChanging v def rows (stored.without_rows park (tables_of g old))
     → IsFault e (carry_row before def row rows)
 
-abbrev pub RefusesToCarry : {S : Type 0} → Ghosts S → S → RelationDef → RelationDef → List stored.Copies → StoreFault → Type 0
-RefusesToCarry g old before def all e =
-    (v : Tables) (entries : List (List ℕ × Row)) (start : Rows) → IsChanging v def start (tables_of g old) → AreKeptRows before entries all
+-- rows that were parked have been carried, and these are left
+pub record Carried (v : Tables) (before def : RelationDef) (park : ℕ) (entries : List (List ℕ × Row)) (start : Rows)
+    (t : stored.Tables) : Type 0 where
+  pub left : List (List ℕ × Row)
+  pub rows : Rows
+  pub parked : AreKept before park left t
+  pub same : carry_rows before def entries start ≡ carry_rows before def left rows
+  pub changing : IsChanging v def rows (stored.without_rows park t)
+
+module _ {S : Type 0} (g : Ghosts S) (old new : S) (before def : RelationDef) (park : ℕ) where
+  -- what a loop over the parked rows keeps
+  pub record CarriesOn : Type 0 where
+    pub goes : Goes g old new
+    pub made : HasCleanDisk (state g new) → (v : Tables) (entries : List (List ℕ × Row)) (start : Rows)
+        → IsChanging v def start (stored.without_rows park (tables_of g old)) → AreKept before park entries (tables_of g old)
+        → Carried v before def park entries start (tables_of g new)
+
+  -- all rows that were parked are carried, and none is parked any more
+  abbrev pub CarriesAll : Type 0
+  CarriesAll =
+      GoesOpen g old new × ((v : Tables) (entries : List (List ℕ × Row)) (start : Rows)
+      → IsChanging v def start (stored.without_rows park (tables_of g old)) → AreKept before park entries (tables_of g old)
+      → MakesOf v def (carry_rows before def entries start) (tables_of g new))
+
+abbrev pub RefusesToCarry : {S : Type 0} → Ghosts S → S → RelationDef → RelationDef → ℕ → StoreFault → Type 0
+RefusesToCarry g old before def park e =
+    (v : Tables) (entries : List (List ℕ × Row)) (start : Rows)
+    → IsChanging v def start (stored.without_rows park (tables_of g old)) → AreKept before park entries (tables_of g old)
     → IsFault e (carry_rows before def entries start)
 
 -- ---- a definition in another's place
@@ -134,21 +146,17 @@ emptied def columns t = stored.without_rows def.oid
 abbrev pub Empties : {S : Type 0} → Ghosts S → RelationDef → List ℕ → S → S → Type 0
 Empties g def columns = Makes g (emptied def columns)
 
--- all rows of the relation, by identity
-abbrev pub AreKept : RelationDef → RelationDef → List (List ℕ × Row) → stored.Tables → Type 0
-AreKept before def entries t = (kept : List stored.Copies) → ListsRows def.oid t kept → AreKeptRows before entries kept
-
 -- the relation has the definition, and its rows are carried over to it
 abbrev pub CarriesTable : {S : Type 0} → Ghosts S → S → S → RelationDef → RelationDef → List ℕ → Type 0
 CarriesTable g old new before def columns =
     GoesOpen g old new × ((v : Tables) (entries : List (List ℕ × Row))
-    → IsChanging v def finite.empty (emptied def columns (tables_of g old)) → AreKept before def entries (tables_of g old)
+    → IsChanging v def finite.empty (emptied def columns (tables_of g old)) → AreKept before def.oid entries (tables_of g old)
     → MakesOf v def (carry_rows before def entries finite.empty) (tables_of g new))
 
 abbrev pub RefusesTable : {S : Type 0} → Ghosts S → S → RelationDef → RelationDef → List ℕ → StoreFault → Type 0
 RefusesTable g old before def columns e =
     (v : Tables) (entries : List (List ℕ × Row)) → IsChanging v def finite.empty (emptied def columns (tables_of g old))
-    → AreKept before def entries (tables_of g old)
+    → AreKept before def.oid entries (tables_of g old)
     → IsFault e (carry_rows before def entries finite.empty)
 
 -- the definition takes the place of the stored one, and the relation has the rows that the change

@@ -3,7 +3,7 @@
 //! PostgreSQL documentation, Logical Replication Message Formats, Relation; Logical Replication,
 //! Restrictions.
 
-ghost use Rattle.std.specs.Prelude.{◌≡◌, ◌&&◌, [], nat_lt, IsTrue, OnOk, IfErr};
+ghost use Rattle.std.specs.Prelude.{◌≡◌, ◌≢◌, ◌&&◌, nat_lt, OnOk, IfErr};
 ghost use Rattle.sqlite.specs.State.{HasCleanDisk};
 ghost use Rattle.pglogical.specs.Spelling.{IsDefinition};
 ghost use Rattle.pgrel.specs.Carried.{places};
@@ -11,7 +11,7 @@ ghost use Rattle.pgrel.specs.Identity.{keyed};
 ghost use Rattle.pgrows.specs.Rows.{state};
 ghost use Rattle.pgstore.specs.Acts.{Goes};
 ghost use Rattle.pgstore.specs.Carries.{JoinsCopies, RefusesCopies, Joins, RefusesToJoin};
-ghost use Rattle.pgstore.specs.Carries.{CarriesOne, RefusesToCarryOne, CarriesOn, RefusesToCarry};
+ghost use Rattle.pgstore.specs.Carries.{CarriesAll, CarriesOne, RefusesToCarry, RefusesToCarryOne};
 
 use crate::changing::MOST_COPIES;
 use crate::encoded::{encode, encode_identity, read_tuple};
@@ -119,25 +119,30 @@ fn carry_row<S: Alter>(
     )
 }
 
-/// The rows in their order, up to the first that is rejected.
-pub(crate) fn carry_rows<S: Alter>(
+/// The rows that are parked, one after the other, up to the first that is rejected.
+pub(crate) fn unpark_rows<S: Alter>(
     rows: &mut Rows<S>,
     alloc: Global,
     old: &RelationDef,
     def: &RelationDef,
-    before: &[StoredRow],
+    park: u32,
 ) -> Result<(), Refusal>
     requires definition { IsDefinition def.now }
-    ensures made { OnOk result (CarriesOn S.Store rows.old rows.new old.now def.now
-        before.now []) }
+    requires apart { park ≢ def.now.oid }
+    ensures made { HasCleanDisk (state S.Store rows.new) → OnOk result
+        (CarriesAll S.Store rows.old rows.new old.now def.now park) }
     ensures fault { HasCleanDisk (state S.Store rows.new) →
-        IsTrue (state S.Store rows.old).is_open →
-        IfErr result (RefusesToCarry S.Store rows.old old.now def.now before.now) }
+        IfErr result (RefusesToCarry S.Store rows.old old.now def.now park) }
     ensures goes { Goes S.Store rows.old rows.new }
 {
     let carrying = Carrying::new(alloc, old, def)?;
-    for kept in before {
-        carry_row(rows, alloc, old, def, &carrying, kept)?;
+    for _ in 0..u64::MAX {
+        let Some((ident, kept)) = rows.next_row(alloc, park, &[])? else {
+            return Ok(());
+        };
+        carry_row(rows, alloc, old, def, &carrying, &kept)?;
+        let _was_parked = rows.delete_row(park, ident.as_slice())?;
     }
-    Ok(())
+    // No file holds so many rows.
+    Err(Refusal::new(StoreFault::Refused))
 }

@@ -8,24 +8,25 @@ use Rattle.pgstore.proofs.Joining.{carried_row_is}
 use Rattle.pgstore.proofs.carrying.carry_row.Goals as goal
 
 pub returns-clause-made : goal.returns-clause-made
-returns-clause-made g c clean = on_ok c.add_carried.result (c.add_carried.ensures.made clean) (λ joins. (
-  joins.0,
-  λ row kept v rows h.
+returns-clause-made g c clean = on_ok c.add_carried.result (c.add_carried.ensures.made clean) (λ joins. record {
+  goes = joins.goes;
+  beside = joins.beside;
+  made = λ row kept park apart v rows h.
       let read = c.in_ok-was.ensures.ok row.cells kept.tuple (c.body.ensures ∙ ap (λ (k : stored.Copies). k.body) kept.is) in
-      joins.1 (moved c.args.old.now c.args.def.now row)
+      joins.made (moved c.args.old.now c.args.def.now row)
       (carried_row_is c.args.old.now c.args.def.now row c.args.kept.now _ _ _ _ _ kept read
       (c.borrowed-row.ensures ∙ c.in_ok-next.ensures.ok ∙ ap (placed_cells _) c.requires.carrying
       ∙ carried_by_places c.args.old.now.columns c.args.def.now.columns _) (c.as_slice.ensures ∙ c.in_ok-identity.ensures.ok)
       (c.as_slice-2.ensures ∙ c.in_ok-body.ensures.ok) c.copies.ensures c.encode.ensures.limits)
-      v rows h,
-))
+      park apart v rows h;
+})
 
 pub returns-clause-fault : goal.returns-clause-fault
-returns-clause-fault g c clean = if_err c.add_carried.result (c.add_carried.ensures.fault clean) (λ e refuses row kept v rows h.
+returns-clause-fault g c clean = if_err c.add_carried.result (c.add_carried.ensures.fault clean) (λ e refuses row kept park apart v rows h.
     let read = c.in_ok-was.ensures.ok row.cells kept.tuple (c.body.ensures ∙ ap (λ (k : stored.Copies). k.body) kept.is) in
     refuses (moved c.args.old.now c.args.def.now row)
     (carried_row_is c.args.old.now c.args.def.now row c.args.kept.now _ _ _ _ _ kept read
     (c.borrowed-row.ensures ∙ c.in_ok-next.ensures.ok ∙ ap (placed_cells _) c.requires.carrying
     ∙ carried_by_places c.args.old.now.columns c.args.def.now.columns _) (c.as_slice.ensures ∙ c.in_ok-identity.ensures.ok)
     (c.as_slice-2.ensures ∙ c.in_ok-body.ensures.ok) c.copies.ensures c.encode.ensures.limits)
-    v rows h)
+    park apart v rows h)
