@@ -103,7 +103,7 @@ told false true false = refl
 told false false true = refl
 told false false false = refl
 
-same_left : (a b : Remains) → schema_of a ≡ schema_of b → a ≡ b
+pub same_left : (a b : Remains) → schema_of a ≡ schema_of b → a ≡ b
 same_left a b is = sym (told a.has_definitions a.has_rows a.has_position) ∙ ap remains_in is
     ∙ told b.has_definitions b.has_rows b.has_position
 

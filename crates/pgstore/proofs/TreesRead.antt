@@ -21,25 +21,25 @@ use Rattle.sqlite.specs.Tree.{Trees}
 use Rattle.sqlite.specs.View.{View, IsClean}
 use Rattle.sqlite_trees.specs.Objects.{catalog_tree}
 use Rattle.sqlite_sql.specs.Catalog.{IsIndexOf}
-use Rattle.sqlite_catalog.specs.Listing.{Lists}
 use Rattle.pgmemory.proofs.Unused.{schema_is_empty}
 use Rattle.pgtables.specs.Schema.{store_schema}
 use Rattle.pgtables.specs.Kept as stored
-use Rattle.pgtables.specs.Kept.{AreDefined, AreHeld, IsKept, pos_row, tables_in}
-use Rattle.pgtables.specs.Opened.{AreAccepted, ListsDefinitions}
+use Rattle.pgtables.specs.Kept.{AreHeld, IsKept, pos_row, tables_in}
+use Rattle.pgtables.specs.Opened.{AreAccepted}
+use Rattle.pgtables.specs.Remains.{remaining}
 use Rattle.pgopening.specs.Found.{AreOpened, StillHolds}
 use Rattle.pgverify.specs.Verified.{ListsStore}
 use Rattle.pgverify.proofs.Sound as sound
-use Rattle.pgstore.specs.Adopted.{AreDefinitionsOf, Definitions, IsKnownRow}
+use Rattle.pgstore.specs.Adopted.{Definitions, IsKnownRow}
 use Rattle.pgrows.specs.Rows.{database, state}
 use Rattle.pgrows.proofs.Found.{open_of}
 use Rattle.pgapply.specs.Stored.{Stored}
 use Rattle.pgstore.specs.Acts.{committed_of}
-use Rattle.pgstore.specs.Reopened.{HoldsContent, StaysAsFound}
+use Rattle.pgstore.specs.Reopened.{AreAsLeft, HoldsContent, StaysAsFound}
 use Rattle.pgstore.specs.Spelled.{IsStored}
-use Rattle.pgstore.specs.StoreValue.{Group, IsStore, IsValueOf, StoreValue}
-use Rattle.pgstore.specs.Trees.{AreStore, IsJustOpened, all_there}
-use Rattle.pgstore.proofs.Founding.{is_read, read_is, read_stored, read_value}
+use Rattle.pgstore.specs.StoreValue.{AreOf, Group, IsPlaceOf, IsStore, IsValueOf, StoreValue}
+use Rattle.pgstore.specs.Trees.{AreOutlined, AreStore, HaveValue, IsJustOpened, all_there}
+use Rattle.pgstore.proofs.Founding.{read_stored, read_value, same_left, same_position, whole_value}
 use Rattle.pgstore.proofs.Reopened.{same_database}
 use Rattle.pgstore.proofs.Stores.{IsSettled, crash_leaves, open_keeps}
 
@@ -56,8 +56,47 @@ lists_still old new same lists = subst ListsStore (sym same) (record { unbroken 
 listed_not_empty : (db : Trees) → IsDatabase (database db) → db catalog_tree ≡ [] → {A : Type 0} → A
 listed_not_empty db sound none = absurd (let no = ap (λ (s : Schema). s.tables) (schema_is_empty store_schema db none sound) in cc)
 
+-- trees of which each row was read have a value
+pub read_have : (db : Trees) (position : ℕ) → AreStore db position → HaveValue db position
+read_have db position it = (
+  read_value all_there (database db) it.definitions (Some position) it.read,
+  record {
+    kept = it.kept;
+    stored = read_stored all_there (database db) it.definitions (Some position) it.read;
+    position = ap (λ (rows : List Row). bytes (column (unwrap_or (slice_get rows 0) []) 2)) it.read.place.0;
+    range = it.read.place.1;
+  },
+  refl,
+)
+
+-- and those that are as a run left them, by the position that was read
+pub left_have : (v : View) (known : Definitions) (position : ℕ) → AreOutlined v known position → AreAsLeft v.trees
+    → HaveValue v.trees position
+left_have v known position it left =
+    let has = left it.listed.lists in
+    let place = ap (λ (rows : List Row). bytes (column (unwrap_or (slice_get rows 0) []) 2)) it.place in
+    (has.0, has.1, same_position has.0.position position has.1.range it.range (sym has.1.position ∙ place))
+
+-- whatever value a database with all tables has, it is stored in them, and has the same position
+one_value : (db : Trees) (v w : Stored) → AreOf v db → IsValueOf w (database db)
+    → IsStored w.tables (tables_in db) × (w.position ≡ v.position)
+one_value db v w are is =
+    let same : is.left ≡ all_there = same_left is.left all_there (sym is.schema) in (
+      subst (λ l. IsStored w.tables (tables_in (remaining l db))) same is.stored,
+      go (subst (λ l. IsPlaceOf w.position (remaining l db)) same is.place),
+    )
+  where
+    placed : db 3 ≡ pos_row (to_be_bytes w64 v.position) ∷ []
+    placed = are.kept.place ∙ ap (λ place. pos_row place ∷ []) are.position
+
+    go : IsPlaceOf w.position db → w.position ≡ v.position
+    go (inl there) =
+        same_position w.position v.position is.range are.range
+        (ap (λ (rows : List Row). bytes (column (unwrap_or (slice_get rows 0) []) 2)) (sym there ∙ placed))
+    go (inr none) = absurd (let no = sym none.0 ∙ placed in cc)
+
 module _ {S : Type 0} (g : Ghosts S) (s : S) (position : ℕ) (range : position < 2 ^ 64) (fresh : IsJustOpened g s)
-    (are : IsClean (g.view s) → AreStore (g.view s).trees position) where
+    (are : IsClean (g.view s) → HaveValue (g.view s).trees position) where
   abbrev db : Trees
   db = (g.view s).trees
 
@@ -65,36 +104,27 @@ module _ {S : Type 0} (g : Ghosts S) (s : S) (position : ℕ) (range : position 
   committed_is clean = ap tables_in (sym (fresh clean).clean)
 
   kept : IsClean (g.view s) → IsKept (state g s).committed
-  kept clean = subst (λ (t : Trees). IsKept (database t)) (fresh clean).clean (are clean).kept
+  kept clean = subst (λ (t : Trees). IsKept (database t)) (fresh clean).clean (are clean).1.kept
 
-  value : (clean : IsClean (g.view s)) → Stored
-  value clean = let it = are clean in read_value all_there (database db) it.definitions (Some position) it.read
-
-  stored_is : (clean : IsClean (g.view s)) → IsStored (value clean).tables (committed_of g s)
-  unfolding value
-  stored_is clean =
-      let it = are clean in
-      subst (IsStored (read_value all_there (database db) it.definitions (Some position) it.read).tables) (sym (committed_is clean))
-      (read_stored all_there (database db) it.definitions (Some position) it.read)
+  stored_is : (clean : IsClean (g.view s)) → IsStored (are clean).0.tables (committed_of g s)
+  stored_is clean = subst (IsStored (are clean).0.tables) (sym (committed_is clean)) (are clean).1.stored
 
   placed : IsClean (g.view s) → (committed_of g s).place ≡ to_be_bytes w64 position
-  placed clean = ap (λ (t : stored.Tables). t.place) (committed_is clean)
-      ∙ ap (λ (rows : List Row). bytes (column (unwrap_or (slice_get rows 0) []) 2)) (are clean).read.place.0
+  placed clean = ap (λ (t : stored.Tables). t.place) (committed_is clean) ∙ (are clean).1.position ∙ ap (to_be_bytes w64) (are clean).2
 
   module _ (law : IsSettled g) (shut : (g.view s).is_open ≡ false → IsTrue (g.view s).is_broken) where
     pub trees_open : IsClean (g.view s) → IsTrue (g.view s).is_open
     trees_open clean = open_of (g.view s) shut (fresh clean).sound
 
     pub trees_store : IsStore g s position
-    unfolding value
     trees_store = record {
       kept = λ clean still. kept clean;
       range = range;
       same = λ clean still. placed clean;
-      stored = λ clean still. ((value clean).tables, stored_is clean);
+      stored = λ clean still. ((are clean).0.tables, stored_is clean);
       crash = crash_leaves g law s;
       keeps = λ clean.
-          let v : Stored = record { tables = (value clean).tables; position = position } in
+          let v : Stored = record { tables = (are clean).0.tables; position = position } in
           (v, open_keeps g s v law (trees_open clean) (kept clean) (stored_is clean) (placed clean) range);
     }
 
@@ -104,48 +134,43 @@ module _ {S : Type 0} (g : Ghosts S) (s : S) (position : ℕ) (range : position 
   trees_hold group content clean opened =
       let it = are clean in
       let now = database db in
-      let seen : (other : Trees) → HoldsDatabase content other → db ≡ other = opened.sole store_schema it.kept.sound in
+      let seen : (other : Trees) → HoldsDatabase content other → db ≡ other = opened.sole store_schema it.1.kept.sound in
       record {
         stood = λ other holds is_database v is.
-            let same = same_database now other it.kept.sound is_database (seen other.trees holds) in
-            let read = is_read all_there now it.definitions (Some position) it.read refl v (subst (IsValueOf v) (sym same) is) in
-            record { stored = subst (IsStored v.tables) (sym (committed_is clean)) read.0; position = read.1 };
+            let same = same_database now other it.1.kept.sound is_database (seen other.trees holds) in
+            let one = one_value db it.0 v it.1 (subst (IsValueOf v) (sym same) is) in
+            record { stored = subst (IsStored v.tables) (sym (committed_is clean)) one.0; position = one.1 ∙ it.2 };
         empty = λ is. elim is [
           | inl nothing ↦ absurd (opened.something nothing)
-          | inr bare ↦ listed_not_empty db it.kept.sound (ap (λ (t : Trees). t catalog_tree) (seen bare.0 bare.1) ∙ bare.2.1)
+          | inr bare ↦ listed_not_empty db it.1.kept.sound (ap (λ (t : Trees). t catalog_tree) (seen bare.0 bare.1) ∙ bare.2.1)
         ];
-        known = λ other holds is_database.
-            let v = read_value all_there now it.definitions (Some position) it.read in (
-              v,
-              subst (IsValueOf v) (same_database now other it.kept.sound is_database (seen other.trees holds))
-                  (read_is all_there now it.definitions (Some position) it.read refl),
-            );
+        known = λ other holds is_database. (
+          it.0,
+          subst (IsValueOf it.0) (same_database now other it.1.kept.sound is_database (seen other.trees holds))
+              (whole_value now it.0 refl it.1),
+        );
       }
 
--- the definitions, the rows and the position were read, one after another
-pub trees_read : (before first second : Trees) → first ≡ before → second ≡ first → Lists (before catalog_tree) store_schema
-    → (all : List (ℕ × stored.Definition)) (known : Definitions) → AreDefinitionsOf all known
-    → AreDefined (before 0) × ListsDefinitions (tables_in before) all
-    → AreHeld (first 1) → AreAccepted IsKnownRow known (tables_in first) → IsIndexOf (1 ∷ 2 ∷ []) (first 1) (first 2) → (position : ℕ)
-    → (second 3 ≡ pos_row (to_be_bytes w64 position) ∷ []) × (position < 2 ^ 64) → AreStore before position
-trees_read before first second one two lists all known are found held rows indexed position at =
-    let held_is = subst (λ (t : Trees). AreHeld (t 1)) one held in
-    let place : before 3 ≡ pos_row (to_be_bytes w64 position) ∷ [] =
-    subst (λ (t : Trees). t 3 ≡ pos_row (to_be_bytes w64 position) ∷ []) (two ∙ one) at.0 in
+-- the rows were read after the definitions and the position
+pub trees_read : (before : View) (after : Trees) → after ≡ before.trees → (known : Definitions) (position : ℕ)
+    → AreOutlined before known position → AreHeld (after 1) → AreAccepted IsKnownRow known (tables_in after)
+    → IsIndexOf (1 ∷ 2 ∷ []) (after 1) (after 2) → AreStore before.trees position
+trees_read before after same known position it held rows indexed =
+    let held_is = subst (λ (t : Trees). AreHeld (t 1)) same held in
     record {
-      definitions = all;
+      definitions = it.definitions;
       read = record {
         known = known;
-        are = are;
-        defined = found.0;
-        lists = found.1;
+        are = it.are;
+        defined = it.defined;
+        lists = it.lists;
         held = held_is;
-        rows = subst (λ (t : Trees). AreAccepted IsKnownRow known (tables_in t)) one rows;
-        place = (place, at.1);
+        rows = subst (λ (t : Trees). AreAccepted IsKnownRow known (tables_in t)) same rows;
+        place = (it.place, it.range);
         bare = λ e. absurd cc;
       };
-      kept = sound.kept before (to_be_bytes w64 position) found.0 held_is place lists
-          (subst (λ (t : Trees). IsIndexOf (1 ∷ 2 ∷ []) (t 1) (t 2)) one indexed);
+      kept = sound.kept before.trees (to_be_bytes w64 position) it.defined held_is it.place it.listed.lists
+          (subst (λ (t : Trees). IsIndexOf (1 ∷ 2 ∷ []) (t 1) (t 2)) same indexed);
     }
 
 -- a connection over the trees finds what they were opened of
@@ -202,6 +227,11 @@ if_err (Err e) P Q go h = go e h
 pub if_some : {A : Type 0} (o : Option A) (P Q : A → Type 0) → ((a : A) → P a → Q a) → IfSome o P → IfSome o Q
 if_some None P Q go h = tt
 if_some (Some a) P Q go h = go a h
+
+-- what holds of it if something does
+pub if_all : {A : Type 0} (o : Option A) (C : Type 0) (P : A → Type 0) → (C → IfSome o P) → IfSome o (λ a. C → P a)
+if_all None C P h = tt
+if_all (Some a) C P h = h
 
 pub both_ok : {A E : Type 0} (r : Result A E) (P Q R : A → Type 0) → ((a : A) → P a → Q a → R a) → IfOk r P → IfOk r Q → IfOk r R
 both_ok (Ok a) P Q R go p q = go a p q

@@ -17,7 +17,11 @@ use Rattle.sqlite.specs.Held.{Held}
 use Rattle.sqlite.specs.Effect.{Database, IsDatabase}
 use Rattle.sqlite.specs.Start.{FindsIn}
 use Rattle.sqlite.specs.State.{HasCleanDisk, IsLive, Opens}
-use Rattle.sqlite.specs.Files.{image_of, over_files, HoldsDatabase, IsEmpty, IsNothing}
+use Rattle.sqlite.specs.Files.{image_of, over_files, AreFoundIn, HoldsDatabase, IsEmpty}
+use Rattle.sqlite.specs.Files.{IsNothing}
+use Rattle.sqlite_trees.specs.Objects.{catalog_tree}
+use Rattle.sqlite_catalog.specs.Listing.{Lists}
+use Rattle.pgtables.specs.Schema.{store_schema}
 use Rattle.pgmemory.specs.Stopped.{Leaves}
 use Rattle.pgtables.specs.Kept as connected
 use Rattle.pgrows.specs.Rows.{state}
@@ -29,6 +33,14 @@ use Rattle.pgstore.specs.StoreValue.{Serves, nothing_stored}
 -- an empty one.
 abbrev pub IsEmptyContent : Image → Type 0
 IsEmptyContent content = IsNothing content ⊎ ((db : Trees) × HoldsDatabase content db × IsEmpty db)
+
+-- Trees are as a run of a store leaves them: where they list its tables, they hold a store.
+abbrev pub AreAsLeft : Trees → Type 0
+AreAsLeft db = Lists (db catalog_tree) store_schema → (v : Stored) × AreOf v db
+
+-- So are those that files with this content can be read as, whatever these are.
+abbrev pub IsAsLeft : Image → Type 0
+IsAsLeft content = (db : Trees) → AreFoundIn content db → AreAsLeft db
 
 module _ {S : Type 0} (g : Ghosts S) where
   -- The store holds what is stored in files with this content.

@@ -12,7 +12,8 @@ ghost use Rattle.pgmemory.specs.Stopped.{Leaves};
 ghost use Rattle.pgrows.specs.Rows.{state};
 ghost use Rattle.pgapply.specs.Stored.{IsOwnFault};
 ghost use Rattle.pgstore.specs.StoreValue.{begun_at, IsHonest, Serves};
-ghost use Rattle.pgstore.specs.Reopened.{HoldsContent, IsCopiedTo, ReopensLeft, StaysAsFound};
+ghost use Rattle.pgstore.specs.Reopened.{HoldsContent, IsAsLeft, IsCopiedTo, ReopensLeft};
+ghost use Rattle.pgstore.specs.Reopened.{StaysAsFound};
 
 use crate::fault::Refusal;
 use crate::store::Store;
@@ -88,6 +89,35 @@ impl<D: Disk + Drop> Store<FileStore<D>> {
         }
     }
 
+    /// As `open_trusted_files`. Where the files hold no store, the connection to them comes back
+    /// beside the fault.
+    pub(crate) fn open_left(
+        alloc: Global,
+        files: Files<D>,
+        options: Options,
+    ) -> Result<Store<FileStore<D>>, (Refusal, Option<Connection<FileStore<D>>>)>
+        requires log { IsTrue (D.Disk.is_usable files.log) }
+        requires db { IsTrue (D.Disk.is_usable files.db) }
+        requires left { IsAsLeft (image_of D.Disk files) }
+        ensures serves { IfOk result (λ store. IsHonest over_files store →
+            Serves over_files store) }
+        ensures stood { IfOk result (λ store. IsHonest over_files store →
+            HoldsContent over_files (image_of D.Disk files) store) }
+        ensures begun { IfOk result (λ store. store.group ≡ begun_at store.position) }
+        ensures unchanged { IfErr result (λ e. IfSome e.1 (λ conn.
+            HasCleanDisk (connection.state over_files conn) →
+            StaysAsFound over_files (image_of D.Disk files) conn)) }
+        ensures fault { IfErr result (λ e. IsOwnFault e.0 ⊎ (e.0 ≡ StoreFault.NotAStore)) }
+        ensures returned { IfErr result (λ e. e.0 ≡ StoreFault.NotAStore →
+            is_some e.1 ≡ true) }
+    {
+        match pgopening::open(alloc, files, options) {
+            Ok(Found::Trees(store)) => Store::of_trusted(alloc, store),
+            Ok(Found::Others(files)) => Store::adopt_files(alloc, files, options),
+            Err(error) => Err((Refusal::from(error), None)),
+        }
+    }
+
     /// The two files as they are, without a word to the disks: what a crash at this moment leaves.
     /// While the disks are honest, each content that the files may have after the crash holds a
     /// database that the store may leave.
@@ -155,6 +185,39 @@ impl<D: Disk + Drop> Store<FileStore<D>> {
         ensures fault { IfErr result (λ fault. IsOwnFault fault ⊎ (fault ≡ StoreFault.NotAStore)) }
     {
         match Store::open_found(alloc, files, options) {
+            Ok(store) => Ok(store),
+            Err((refusal, _conn)) => Err(StoreFault::from(refusal)),
+        }
+    }
+
+    /// The store in two files, as `open_files` opens it, where a run of a store left them so
+    /// (`left`): their log is recovered, each page is checked, and its definitions and its position
+    /// are read, but no row.
+    ///
+    /// What a row or its entry of the index says otherwise than the run had written it isn't found
+    /// here: then nothing is promised of the store. `NotAStore` comes of such a row when it is met.
+    ///
+    /// # Errors
+    ///
+    /// Those of `open_files`.
+    pub fn open_trusted_files(
+        alloc: Global,
+        files: Files<D>,
+        options: Options,
+    ) -> Result<Store<FileStore<D>>, StoreFault>
+        requires log { IsTrue (D.Disk.is_usable files.log) }
+        requires db { IsTrue (D.Disk.is_usable files.db) }
+        requires left { IsAsLeft (image_of D.Disk files) }
+        ensures serves { IfOk result (λ store. IsHonest over_files store →
+            Serves over_files store) }
+        ensures stood { IfOk result (λ store. IsHonest over_files store →
+            HoldsContent over_files (image_of D.Disk files) store) }
+        ensures begun { IfOk result (λ store. store.group ≡ begun_at store.position) }
+        ensures reopens { IfOk result (λ store. IsHonest over_files store →
+            ReopensLeft (image_of D.Disk files) store) }
+        ensures fault { IfErr result (λ fault. IsOwnFault fault ⊎ (fault ≡ StoreFault.NotAStore)) }
+    {
+        match Store::open_left(alloc, files, options) {
             Ok(store) => Ok(store),
             Err((refusal, _conn)) => Err(StoreFault::from(refusal)),
         }

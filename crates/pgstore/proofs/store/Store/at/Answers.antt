@@ -10,7 +10,7 @@ pub of_trees-requires-clause-fresh : goal.of_trees-requires-clause-fresh
 of_trees-requires-clause-fresh g c clean still = c.requires.fresh clean
 
 pub of_trees-requires-clause-kept : goal.of_trees-requires-clause-kept
-of_trees-requires-clause-kept g c clean still = (c.requires.holds clean).kept
+of_trees-requires-clause-kept g c clean still = (c.requires.holds clean).1.kept
 
 pub invariant_of-result : goal.invariant_of-result
 invariant_of-result g c =
