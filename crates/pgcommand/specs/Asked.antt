@@ -85,6 +85,10 @@ repeats_rule = record (new_rule (codes "repeats")) { long = Some (codes "repeats
 abbrev pub load_rule : Rule
 load_rule = record (new_rule (codes "load")) { long = Some (codes "load"); action = Some SetTrue }
 
+-- the store is trusted
+abbrev pub trust_rule : Rule
+trust_rule = record (new_rule (codes "trust-store")) { long = Some (codes "trust-store"); action = Some SetTrue }
+
 -- the folder of a feed
 abbrev pub feed_rule : Rule
 feed_rule = record (new_rule (codes "feed")) { long = Some (codes "feed"); value_names = 1 }
@@ -126,9 +130,9 @@ abbrev pub dump_app : App
 dump_app = with_rule (with_rule (new_app (codes "dump")) (store_rule true)) cache_rule
 
 abbrev pub follow_app : App
-follow_app = with_feed (with_rule (with_rule (with_rule (with_rule
+follow_app = with_feed (with_rule (with_rule (with_rule (with_rule (with_rule
     (with_rule (with_rule (with_rule (with_rule (new_app (codes "follow")) proto_rule) max_buffered_rule) max_frame_rule) (store_rule true))
-    cache_rule) watch_rule) repeats_rule) load_rule)
+    cache_rule) watch_rule) repeats_rule) load_rule) trust_rule)
 
 abbrev pub same_app : App
 same_app = with_rule (with_rule (with_rule (new_app (codes "same")) proto_rule) (word_rule (codes "LEFT"))) (word_rule (codes "RIGHT"))
@@ -225,10 +229,10 @@ IsAsked name rows (Apply version limits raw progress store cache feed file) =
     × IsFlag (codes "progress") rows progress × NamesFile (codes "store") rows store × IsCache rows cache × AsksFeed rows feed
     × (string_bytes file ≡ text_in (codes "FILE") rows)
 IsAsked name rows (Dump store cache) = (name ≡ codes "dump") × IsCache rows cache × (string_bytes store ≡ text_in (codes "store") rows)
-IsAsked name rows (Follow version limits store cache feed watch repeats load) =
+IsAsked name rows (Follow version limits store cache feed watch repeats load trust) =
     (name ≡ codes "follow") × IsVersion rows version × IsLimits rows limits × IsCache rows cache × AsksFeed rows feed
     × (watch ≡ watching_in rows) × NamesFile (codes "repeats") rows repeats × IsFlag (codes "load") rows load
-    × (string_bytes store ≡ text_in (codes "store") rows)
+    × IsFlag (codes "trust-store") rows trust × (string_bytes store ≡ text_in (codes "store") rows)
 IsAsked name rows (Same version left right) =
     (name ≡ codes "same") × IsVersion rows version × (string_bytes left ≡ text_in (codes "LEFT") rows)
     × (string_bytes right ≡ text_in (codes "RIGHT") rows)

@@ -8,8 +8,8 @@ ghost use Rattle.pgcommand.specs.Asked.{store_rule, cache_rule, max_buffered_rul
 ghost use Rattle.pgcommand.specs.Asked.{feed_rule, feed_text_rule, feed_bytes_rule};
 ghost use Rattle.pgcommand.specs.Asked.{feed_seconds_rule, with_feed, show_app, apply_app};
 ghost use Rattle.pgcommand.specs.Asked.{dump_app, follow_app, same_app, resume_app, lsn_app};
-ghost use Rattle.pgcommand.specs.Asked.{watch_app, watch_rule, repeats_rule, load_rule, bare_app};
-ghost use Rattle.pgcommand.specs.Asked.{pgsub_app};
+ghost use Rattle.pgcommand.specs.Asked.{watch_app, watch_rule, repeats_rule, load_rule};
+ghost use Rattle.pgcommand.specs.Asked.{trust_rule, bare_app, pgsub_app};
 
 use crate::task::WATCH;
 use crate::watching::WATCHINGS;
@@ -189,6 +189,19 @@ fn load<'a>(alloc: Global) -> Arg<'a>
         .help("Before the first session, standard input has tables as COPY's text")
 }
 
+/// `--trust-store`.
+fn trust<'a>(alloc: Global) -> Arg<'a>
+    ensures rule { rule_of result ≡ trust_rule }
+    ensures local { result.global ≡ false }
+{
+    let help = "Start without reading the rows of a file that an earlier run left, \
+        and that nothing has changed since";
+    Arg::new(alloc, "trust-store")
+        .long("trust-store")
+        .action(ArgAction::SetTrue)
+        .help(help)
+}
+
 /// `--feed FOLDER`.
 fn feed<'a>(alloc: Global) -> Arg<'a>
     ensures rule { rule_of result ≡ feed_rule }
@@ -343,7 +356,8 @@ fn follow_command<'a>(alloc: Global) -> Result<Command<'a>, AllocError>
     let command = with_store(alloc, command, true, STORE)?
         .arg(watch(alloc))?
         .arg(repeats(alloc))?
-        .arg(load(alloc))?;
+        .arg(load(alloc))?
+        .arg(trust(alloc))?;
     with_feed(alloc, command)
 }
 

@@ -51,7 +51,7 @@ pub enum Task {
     /// Rows and position are kept in the file `store`. With `watch` the server is watched for the
     /// rules that a well-formed one keeps, and with `repeats` its commits are noted in that file,
     /// and compared where they come again. With `load`, tables as COPY's text come before the first
-    /// session.
+    /// session. With `trust`, no row of the store is read before: a run left it as it is.
     Follow {
         version: Version,
         limits: Limits,
@@ -61,6 +61,7 @@ pub enum Task {
         watch: Option<Watching>,
         repeats: Option<String>,
         load: bool,
+        trust: bool,
     },
     /// Compare the rows and positions that two recordings lead to.
     Same {
@@ -325,6 +326,7 @@ fn follow_of(alloc: Global, found: &ArgMatches<'_>) -> Result<Task, AllocError>
         watch: watch_of(found),
         repeats,
         load: flag_of(found, "load"),
+        trust: flag_of(found, "trust-store"),
     })
 }
 
