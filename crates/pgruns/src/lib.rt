@@ -24,4 +24,4 @@ pub use file_folder::FileFolder;
 pub use filed::{Filed, apply, dump, follow};
 pub use laws::new_files_are_empty;
 pub use load_plan::LoadPlan;
-pub use opening::{FeedOpening, LeftUnopened, Opening, StoreFile};
+pub use opening::{FeedOpening, LeftUnopened, Opening, StoreFile, TrustedFile};

@@ -10,14 +10,15 @@ ghost use Rattle.pgapply.specs.declared.fault.StoreFault.{StoreFault as Reason};
 ghost use Rattle.pgapply.specs.declared.fault.StoreFault.TheVariants.{NotAStore};
 ghost use Rattle.pgfeed.specs.declared.fault.FeedFault.{FeedFault as FeedReason};
 ghost use Rattle.pgfeed.specs.declared.feed.Feed.{Feed as FeedValue};
-ghost use Rattle.pgstore.specs.Reopened.{HoldsContent, StaysAsFound};
+ghost use Rattle.pgstore.specs.Reopened.{HoldsContent, IsAsLeft, StaysAsFound};
 ghost use Rattle.pgstore.specs.StoreValue.{begun_at, IsHonest, Serves};
 
 use crate::new_file::{make_file, ready_file};
+use pgapply::StoreFault;
 use pgfeed::{Feed, FeedFault, Folder};
 use pglsn::Lsn;
 use pgstore::{Refusal, Store};
-use sqlite::{Connection, FileFrom, FileStore, Start};
+use sqlite::{Connection, FileFrom, FileStore, Start, Unknown};
 use std::alloc::Global;
 
 /// The connection to files that hold no store, or None where they couldn't be opened.
@@ -78,6 +79,17 @@ pub struct StoreFile<'p, F: Start> {
     pub is_made: bool,
 }
 
+/// Readies the file at a path, which is made where it isn't there, if it is to be.
+fn ready(rt: &HostRuntime, path: &str, is_made: bool) -> Result<(), StoreFault>
+    ensures { IfErr result (λ fault. IsOwnFault fault ⊎ (fault ≡ StoreFault.NotAStore)) }
+{
+    if is_made {
+        make_file(rt, path)
+    } else {
+        ready_file(rt, path)
+    }
+}
+
 impl<F: Start> Opening<F> for StoreFile<'_, F> {
     ghost fails = { λ _ f. IsOwnFault f ⊎ (f ≡ NotAStore) };
 
@@ -92,14 +104,56 @@ impl<F: Start> Opening<F> for StoreFile<'_, F> {
             start,
             is_made,
         } = self;
-        let ready = if is_made {
-            make_file(rt, path)
-        } else {
-            ready_file(rt, path)
-        };
-        if let Err(fault) = ready {
+        if let Err(fault) = ready(rt, path, is_made) {
             return Err((Refusal::new(fault), None));
         }
         Store::open_or_return(alloc, rt, path, cache, start)
+    }
+}
+
+/// The store in a file that a run of a store left as it is: opened as
+/// `Store::open_trusted_or_return` opens it, which reads no row.
+///
+/// That the files are as a run left them is the premise of all that is said of a run over it.
+pub struct TrustedFile<'p, F: Start> {
+    file: StoreFile<'p, F>,
+    ghost left: { IsAsLeft (image_at F.Start) },
+}
+
+impl<'p, F: Start> TrustedFile<'p, F> {
+    /// The store in this file, where what `start` stands for is as a run left it.
+    pub fn new(file: StoreFile<'p, F>) -> TrustedFile<'p, F>
+        requires { IsAsLeft (image_at F.Start) }
+    {
+        TrustedFile { file }
+    }
+}
+
+impl<'p> TrustedFile<'p, Unknown> {
+    /// The store in any file, for `main`: nobody but its caller knows what it holds.
+    pub fn of_any(file: StoreFile<'p, Unknown>) -> TrustedFile<'p, Unknown> {
+        TrustedFile::new(file)
+    }
+}
+
+impl<F: Start> Opening<F> for TrustedFile<'_, F> {
+    ghost fails = { λ _ f. IsOwnFault f ⊎ (f ≡ NotAStore) };
+
+    fn open(
+        self,
+        alloc: Global,
+    ) -> Result<Store<FileStore<FileFrom<F>>>, (Refusal, LeftUnopened<F>)> {
+        let TrustedFile { file } = self;
+        let StoreFile {
+            rt,
+            path,
+            cache,
+            start,
+            is_made,
+        } = file;
+        if let Err(fault) = ready(rt, path, is_made) {
+            return Err((Refusal::new(fault), None));
+        }
+        Store::open_trusted_or_return(alloc, rt, path, cache, start)
     }
 }

@@ -18,8 +18,8 @@ use pgorder::Version;
 use pgpast::{Comparing, Notes, NotesFault, PlainFile, RepeatLines};
 use pgrules::Guarded;
 use pgruns::{
-    ApplyPlan, FeedPlan, FileFolder, Filed, FollowPlan, LiveIo, LoadPlan, StoreFile, apply, dump,
-    follow,
+    ApplyPlan, FeedPlan, FileFolder, Filed, FollowPlan, LiveIo, LoadPlan, StoreFile, TrustedFile,
+    apply, dump, follow,
 };
 use pgsub_cli::fault::RunFault;
 use pgsub_cli::reporting::Reporter;
@@ -291,6 +291,11 @@ fn load_of(task: &Task) -> Option<LoadPlan> {
     }
 }
 
+/// Whether a task takes its store's rows for those that an earlier run left.
+fn is_trusted(task: &Task) -> bool {
+    matches!(task, Task::Follow { trust: true, .. })
+}
+
 /// The system's clock.
 #[derive(Drop)]
 struct SystemClock<'r> {
@@ -338,8 +343,13 @@ fn run_live<R: Read + Drop, D: Folder + Supposing + Drop>(
         clock: SystemClock { rt },
         err: rt.stderr(),
     };
-    let opening = store_file(rt, path, cache_of(task), true);
-    let (status, left, feed, _unloaded) = follow(rt.alloc(), opening, plan, &mut io);
+    let file = store_file(rt, path, cache_of(task), true);
+    if is_trusted(task) {
+        let opening = TrustedFile::of_any(file);
+        let (status, left, feed, _unloaded) = follow(rt.alloc(), opening, plan, &mut io);
+        return (status_of((status, left, feed)), io.link);
+    }
+    let (status, left, feed, _unloaded) = follow(rt.alloc(), file, plan, &mut io);
     (status_of((status, left, feed)), io.link)
 }
 
