@@ -1,4 +1,5 @@
-"""`pgsub-connect check`: each precondition on the server, told without changing anything."""
+"""`pgsub-connect check`: each precondition on the server, and whether a store that is there is
+sound, told without changing anything."""
 
 import argparse
 import dataclasses
@@ -14,8 +15,10 @@ from ..preconditions.server import ERROR, Purpose
 from ..server.preflight import all_facts
 from ..server.transport import OWN
 from ..store.at_rest import is_whole
+from ..store.full_check import judge_rows
 from .arguments.publishing import CopyOptions, add_copying, check_publishing
 from .arguments.server import StoreOptions, settled_store
+from .arguments.session import program, program_option
 from .arguments.words import each, store_option
 
 ABOUT = "tell what following needs of the server, and change nothing"
@@ -30,8 +33,10 @@ class Options(StoreOptions, CopyOptions):
     """What the server is to be used for."""
 
     store: str = store_option(
-        "where it is there, what following into it needs; else what a new one does", False
+        "where it is there, what following into it needs, and whether all its rows are sound; else what a new one needs",
+        False,
     )
+    pgsub: str = program_option()
     json: bool = option("--json", "print a JSON array", False)
 
     def purpose(self) -> Purpose:
@@ -61,6 +66,8 @@ def run(options: Options, check: Check) -> int:
     OWN.keep_quiet()
     facts = all_facts(options.dsn, options.slot, options.wanted(options.publication), check)
     found = results(facts, options.purpose())
+    if options.store and is_whole(options.store):
+        found.append(judge_rows(options.pgsub or program(), options.store, check))
     if options.json:
         json.dump([dataclasses.asdict(it) for it in found], sys.stdout, indent=1)
         sys.stdout.write("\n")

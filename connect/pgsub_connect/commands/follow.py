@@ -35,6 +35,7 @@ from ..status.progress import Progress
 from ..store.at_rest import is_whole
 from ..store.checkpoint import Checkpoint
 from ..store.checkpoint_lines import COPYING, FOLLOWING, INTERRUPTED, NEW
+from ..store.left_file import LeftFile
 from ..store.placing import OF_STORE, check_meant
 from ..store.repeats_file import RepeatsFile
 from ..stream.common import Common, Tolerance
@@ -56,7 +57,7 @@ from .arguments.session import (
     longest,
     settled_sizes,
 )
-from .arguments.words import check_files, check_needs, each
+from .arguments.words import check_files, check_needs, each, within
 from .snapshot import check_copied
 
 ABOUT = "copy tables into a store, and follow their changes"
@@ -72,6 +73,12 @@ class Options(
     store: str = ""
     record: str | None = option("--record FILE", "add the sessions to this recording, a .pgx file")
     bytes: int = longest()
+    check_every: int = option(
+        "--check-every N",
+        "read and check all rows of the store at each N-th start; the others trust what the one before left (default: 30)",
+        30,
+        type=within(1, 1 << 31),
+    )
 
     def follow_settings(self) -> FollowSettings:
         more = self.skip, self.until, self.no_copy, self.limits(), self.renewed()
@@ -273,7 +280,9 @@ def make_filter(options: Options, checkpoint: Checkpoint) -> Filter:
     words = [options.pgsub, "follow", "--store", meant(options.store)]
     words += ["--max-buffered", str(options.max_buffered), "--max-frame", str(options.max_frame)]
     words += ["--cache", str(options.cache)] if options.cache else []
-    return Filter(words, (checkpoint.file,), options.proto, options.mode)
+    child = Filter(words, (checkpoint.file,), options.proto, options.mode)
+    child.note_left(LeftFile(options.store, options.check_every))
+    return child
 
 
 def begin_watching(options: Options, common: Common, child: Filter) -> None:

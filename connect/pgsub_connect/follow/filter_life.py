@@ -59,6 +59,8 @@ class FilterLife:
     def begin(self, position: int) -> None:
         """A filter has opened its store, which is at this position."""
         self.has_begun, self.began_at = True, position
+        if self.filter.trusts:
+            log.info("the store is as the filter before left it, so its rows weren't read")
         self.confirming.begin_store(position)
         if self.feeding:
             self.feeding.note_opened()

@@ -8,12 +8,24 @@ from pgsub_feed.errors import FileError, UsageError, told_of
 from pgsub_feed.files import OF_FILE, meant
 from pgsub_feed.ownership import real
 
+from .left_file import SUFFIX as LEFT
 from .repeats_file import SUFFIX as REPEATS
 from .snapshot import NEW
 from .socket_file import SUFFIX
 
 # What follows a store's name in those of its files, the checkpoint last, by which a start tells.
-OF_STORE = (NEW, *OF_FILE[1:], "", SUFFIX, REPEATS, ".tables.new", ".tables", ".connector")
+OF_STORE = (
+    NEW,
+    *OF_FILE[1:],
+    "",
+    SUFFIX,
+    REPEATS,
+    LEFT + ".new",
+    LEFT,
+    ".tables.new",
+    ".tables",
+    ".connector",
+)
 Identity = str | tuple[int, int]
 
 

@@ -14,6 +14,7 @@ from pgsub_feed.interruption import Check, never
 
 from .. import version
 from ..errors import FilterFault
+from ..store.left_file import LeftFile
 from ..store.repeats_file import RepeatsFile
 from .awake import Awake, Numbers, Served
 from .filter_end import ROOMLESS, FilterEnded, Missing
@@ -28,6 +29,8 @@ LOOK = 0.5
 LOAD, WATCH = "--load", "--watch"
 # What has it compare commits that come again with those that came before.
 REPEATS = "--repeats"
+# What has it start without reading the rows of a store that the one before it left.
+TRUST = "--trust-store"
 # What a filter needs of the environment: not the passwords of a server.
 KEPT = ("PATH", "LANG", "LC_ALL", "LC_MESSAGES", "TMPDIR", "TZ", "HOME")
 
@@ -52,6 +55,9 @@ class Filter:
         # where it is to note commits, and whether the one that runs does
         self.repeats: RepeatsFile | None = None
         self.compares = False
+        # by which one trusts what the one before it left; and whether the one that runs does
+        self.left: LeftFile | None = None
+        self.trusts = False
         # the last status, and the beginning of the next one
         self.status = self.partial = b""
         # whether the last one that had opened its store has said it of all that it stored
@@ -94,6 +100,10 @@ class Filter:
         """The next one compares commits that come again with what this file has of them."""
         self.repeats = file
 
+    def note_left(self, file: LeftFile) -> None:
+        """The next ones trust the store where that is as the one before left it."""
+        self.left = file
+
     @contextlib.contextmanager
     def noting_none(self) -> Iterator[None]:
         """Filters that begin meanwhile note no commits: what a copy gives them is no session."""
@@ -112,6 +122,9 @@ class Filter:
         store, and has read what is to come before its first session."""
         version.check_program(self.words[0])
         words = self.watching(LOAD in more)
+        self.trusts = self.left is not None and self.left.begin()
+        if self.trusts:
+            words = [*words, TRUST]
         try:
             # (a session of its own: an interrupt at the terminal is for the connector)
             self.child = subprocess.Popen(
@@ -276,6 +289,8 @@ class Filter:
     def close(self, has_told_all: bool) -> None:
         if self.status:
             self.has_told_all = has_told_all
+        if self.left:
+            self.left.end(self.child.returncode, self.has_opened())
         for it in (self.child.stdin, self.child.stdout, self.child.stderr):
             if it:
                 it.close()

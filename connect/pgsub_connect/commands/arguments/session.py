@@ -31,13 +31,16 @@ def program() -> str:
     return shutil.which("pgsub") or checkout
 
 
+def program_option() -> Any:
+    text = "the program `pgsub` (default: the one installed beside this one)"
+    return option("--pgsub PROGRAM", text, "")
+
+
 @dataclasses.dataclass(frozen=True)
 class SizeOptions:
     """The program, and its memory in bytes and pages; 0 and None for what it is by default."""
 
-    pgsub: str = option(
-        "--pgsub PROGRAM", "the program `pgsub` (default: the one installed beside this one)", ""
-    )
+    pgsub: str = program_option()
     max_buffered: int = option(
         "--max-buffered BYTES",
         "the most that may be buffered of open transactions (default: half of the memory, at most 1 GiB)",
