@@ -11,7 +11,7 @@ const COPY_DATA_TAG: u8 = b'd';
 const MAX_LEN: u32 = 2_147_483_647;
 
 /// How many bytes of a frame come before its payload.
-pub(crate) const HEADER_LEN: usize = 5;
+pub const HEADER_LEN: usize = 5;
 
 // The number of the first four bytes, big-endian, and the bytes behind them.
 fn number(bytes: &[u8]) -> Option<(u32, &[u8])>
@@ -27,7 +27,7 @@ fn number(bytes: &[u8]) -> Option<(u32, &[u8])>
 /// The payload of the CopyData with which a piece begins, where that is whole and allowed. Else a
 /// deframer tells what the piece begins with.
 #[tactic(auto, using(crate::proofs::Fronts::front_is, crate::proofs::Fronts::front_short, crate::proofs::Fronts::payload_len))]
-pub(crate) fn front_payload(piece: &[u8], max_frame: u32) -> Option<&[u8]>
+pub fn front_payload(piece: &[u8], max_frame: u32) -> Option<&[u8]>
     ensures allowed { IfSome result (λ p. IsAllowed max_frame (CopyData p.now)) }
     ensures front { IfSome result (λ p. take (length p.now + 5) piece.now
         ≡ frame (CopyData p.now)) }

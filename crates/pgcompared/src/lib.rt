@@ -30,5 +30,6 @@ mod stream;
 
 pub use compared::Compared;
 pub use finding::{Finding, Lost};
+pub use front::{HEADER_LEN, front_payload};
 pub use laws::{ended_are_commits, sessions_are_heard, sessions_are_not_contradicted};
 pub use noting::Told;
