@@ -1,8 +1,8 @@
 -- How the watch over a session goes on, and where it ends.
-use Rattle.std.proofs.Common.{◌≡◌, ◌≢◌, ◌≤◌, ◌+◌, ◌⊎◌, ◌-◌, ◌∙◌, inl, inr, ⊎_elim, ℕ, List, [], ◌∷◌}
+use Rattle.std.proofs.Common.{◌≡◌, ◌≢◌, ◌≤◌, ◌⊎◌, ◌-◌, ◌∙◌, inl, inr, ⊎_elim, ℕ, List, [], ◌∷◌}
 use Rattle.std.proofs.Common.{◌++◌, Bool, true, false}
 use Rattle.std.proofs.Common.{None, Some, Ok, Err, refl, sym, ap, subst, arith, length, take, drop}
-use Rattle.std.proofs.Common.{append_assoc, append-nil, map}
+use Rattle.std.proofs.Common.{append_assoc, append-nil}
 use Rattle.std.specs.List.{AllByRecursion}
 use Rattle.std.proofs.lemmas.List.{length-append, map-append, take_all, take_rest, take-append-drop}
 use Rattle.std.specs.Prelude.{◌==◌}
@@ -31,7 +31,7 @@ use Rattle.pgrules.proofs.StillWatched.{still_watched}
 use Rattle.pgrules.proofs.Steps.{framed, all_push, sent_push, seen_push, heard_push, placed_push}
 use Rattle.pgrules.proofs.Steps.{decoded_push}
 
-nothing_is : (rest : List ℕ) → length rest ≡ 0 → rest ≡ []
+pub nothing_is : (rest : List ℕ) → length rest ≡ 0 → rest ≡ []
 nothing_is [] none = refl
 nothing_is (x ∷ xs) none = absurd (omega (arith, none))
 

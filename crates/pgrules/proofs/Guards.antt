@@ -2,20 +2,16 @@
 use Rattle.std.proofs.Common.{◌≡◌, ◌≤◌, ◌<◌, ◌+◌, ◌-◌, ◌⊎◌, ◌∙◌, inl}
 use Rattle.std.proofs.Common.{inr, ℕ, List, [], ◌∷◌, ◌++◌, Bool}
 use Rattle.std.proofs.Common.{true, false, Option, None, Some, refl, sym, ap, subst, arith, length}
-use Rattle.std.proofs.Common.{take, drop, append_assoc, append-nil, cond, ◌&&◌, true≢false}
+use Rattle.std.proofs.Common.{take, drop, append_assoc, append-nil, true≢false}
 use Rattle.std.specs.Option.{is_some}
-use Rattle.std.specs.List.{AllByRecursion}
-use Rattle.std.proofs.lemmas.List.{length-append, take-append-drop, take-take, drop-drop, drop-take}
-use Rattle.std.proofs.lemmas.List.{length-take, length-take-le, take_at}
-use Rattle.std.proofs.lemmas.Bool.Decides.{nat_tests}
-use Rattle.std.specs.Prelude.{nat_le}
+use Rattle.std.proofs.lemmas.List.{length-append, take-append-drop, take-take, drop-take}
+use Rattle.std.proofs.lemmas.List.{length-take, length-take-le}
 use Rattle.pgorder.specs.declared.Version.{Version}
 use Rattle.pgrules.specs.declared.findings.Findings.{Findings}
 use Rattle.pgrules.specs.declared.live.LiveWatch.{LiveWatch}
 use Rattle.pgrules.specs.declared.rules.Rule.{Rule}
-use Rattle.pgrules.specs.Guarding.{HasStopped, HearsAll, IsGuarded, IsOpen, IsUnbroken, part_of}
-use Rattle.pgrules.specs.Guarding.{ahead_of, behind_of}
-use Rattle.pgrules.specs.Live.{IsWatched, list_of}
+use Rattle.pgrules.specs.Guarding.{HasStopped, HearsAll, IsGuarded, IsOpen, IsUnbroken}
+use Rattle.pgrules.specs.Live.{IsWatched}
 use Rattle.pgrules.specs.Rules.{broken_rule}
 use Rattle.pgrules.proofs.Steps.{all_push}
 
@@ -157,90 +153,13 @@ pub none_rule : (o : Option Rule) → is_some o ≡ false → o ≡ None
 none_rule None e = refl
 none_rule (Some r) e = absurd (true≢false e)
 
--- ---- what is kept
+-- what is behind it
+pub behind_part : (taken len : ℕ) (room : List ℕ) → taken ≤ len → take (len - taken) (drop taken room) ≡ drop taken (take len room)
+behind_part taken len room le =
+    let sum : taken + (len - taken) ≡ len = omega (arith, le) in
+    sym (drop-take taken (len - taken) room) ∙ ap (λ k. drop taken (take k room)) sum
 
-pub both : (a b : Bool) → (a && b) ≡ true → (a ≡ true) × (b ≡ true)
-both true true e = (refl, refl)
-both true false e = absurd (true≢false (sym e))
-both false b e = absurd (true≢false (sym e))
-
-pub le_of : (a b : ℕ) → nat_le a b ≡ true → a ≤ b
-le_of a b e = grind (arith, nat_tests)
-
-le_is : (a b : ℕ) → a ≤ b → nat_le a b ≡ true
-le_is a b h = grind (arith, nat_tests)
-
-abbrev pub fits : List ℕ → ℕ → ℕ → Bool
-fits room from to = nat_le from to && nat_le to (length room)
-
-pub part_there : (room : List ℕ) (from to : ℕ) → fits room from to ≡ true → part_of room from to ≡ take (to - from) (drop from room)
-part_there room from to e = ap (λ b. cond b (take (to - from) (drop from room)) []) e
-
-pub part_none : (room : List ℕ) (from to : ℕ) → fits room from to ≡ false → part_of room from to ≡ []
-part_none room from to e = ap (λ b. cond b (take (to - from) (drop from room)) []) e
-
-pub fits_is : (room : List ℕ) (from to : ℕ) → from ≤ to → to ≤ length room → fits room from to ≡ true
-fits_is room from to a b = rw (le_is from to a, le_is to (length room) b) refl
-
-pub part_empty : (room : List ℕ) → part_of room 0 0 ≡ []
-part_empty room = go (fits room 0 0)
-  where
-    go : (b : Bool) → cond b (take 0 (drop 0 room)) [] ≡ []
-    go true = refl
-    go false = refl
-
--- the bytes behind the first n
-pub part_moves : (room : List ℕ) (from len n : ℕ) → n ≤ length (part_of room from len)
-    → part_of room (from + n) len ≡ drop n (part_of room from len)
-part_moves room from len n le = go (fits room from len) refl
-  where
-    there : fits room from len ≡ true → part_of room (from + n) len ≡ drop n (part_of room from len)
-    there e =
-        let two = both (nat_le from len) (nat_le len (length room)) e in
-        let a = le_of from len two.0 in
-        let b = le_of len (length room) two.1 in
-        let few : n ≤ len - from = short_of (len - from) n (drop from room) (subst (λ (xs : List ℕ). n ≤ length xs) (part_there room
-        from len e) le) in
-        let sum : n + (len - (from + n)) ≡ len - from = omega (arith, a, few) in
-        part_there room (from + n) len (fits_is room (from + n) len (omega (arith, a, few)) b)
-        ∙ ap (λ (ys : List ℕ). take (len - (from + n)) ys) (sym (drop-drop n from room))
-        ∙ sym (drop-take n (len - (from + n)) (drop from room)) ∙ ap (λ k. drop n (take k (drop from room))) sum
-        ∙ ap (λ (ys : List ℕ). drop n ys) (sym (part_there room from len e))
-
-    away : fits room from len ≡ false → part_of room (from + n) len ≡ drop n (part_of room from len)
-    away e =
-        let bound : n ≤ 0 = subst (λ (xs : List ℕ). n ≤ length xs) (part_none room from len e) le in
-        let none : n ≡ 0 = omega (arith, bound) in
-        let same : from + n ≡ from = omega (arith, none) in
-        ap (λ k. part_of room k len) same ∙ sym (ap (λ k. drop k (part_of room from len)) none)
-
-    go : (b : Bool) → fits room from len ≡ b → part_of room (from + n) len ≡ drop n (part_of room from len)
-    go true e = there e
-    go false e = away e
-
--- ---- what is handed on
-
-module _ (room copied rest : List ℕ) (from safe len n : ℕ) (le : n ≤ length (part_of room from len)) (few : n ≤ safe - from)
-    (same : copied ≡ take n (part_of room from len)) where
-  handed_is : take n (copied ++ rest) ≡ take n (part_of room from len)
-  handed_is =
-      take_at copied rest n (ap (λ (xs : List ℕ). length xs) same ∙ length-take-le n (part_of room from len) le) ∙ same
-
-  sum : safe - from ≡ n + (safe - (from + n))
-  sum = omega (arith, few)
-
-  pub kept_is : part_of room from len ≡ take n (copied ++ rest) ++ part_of room (from + n) len
-  kept_is =
-      sym (take-append-drop n (part_of room from len)) ∙ ap (λ (ys : List ℕ). ys ++ drop n (part_of room from len)) (sym handed_is)
-      ∙ ap (λ (ys : List ℕ). take n (copied ++ rest) ++ ys) (sym (part_moves room from len n le))
-
-  pub ahead_is : ahead_of room from safe len ≡ take n (copied ++ rest) ++ ahead_of room (from + n) safe len
-  ahead_is =
-      ap (λ k. take k (part_of room from len)) sum ∙ take_sum n (safe - (from + n)) (part_of room from len)
-      ∙ ap (λ (ys : List ℕ). ys ++ take (safe - (from + n)) (drop n (part_of room from len))) (sym handed_is)
-      ∙ ap (λ (ys : List ℕ). take n (copied ++ rest) ++ take (safe - (from + n)) ys) (sym (part_moves room from len n le))
-
-  pub behind_is : behind_of room (from + n) safe len ≡ behind_of room from safe len
-  behind_is =
-      ap (λ (ys : List ℕ). drop (safe - (from + n)) ys) (part_moves room from len n le)
-      ∙ drop-drop (safe - (from + n)) n (part_of room from len) ∙ ap (λ k. drop k (part_of room from len)) (sym sum)
+pub two_parts : (taken len : ℕ) (room : List ℕ) → taken ≤ len → take len room ≡ take taken room ++ take (len - taken) (drop taken room)
+two_parts taken len room le =
+    let sum : len ≡ taken + (len - taken) = omega (arith, le) in
+    ap (λ k. take k room) sum ∙ take_sum taken (len - taken) room

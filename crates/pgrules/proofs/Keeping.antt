@@ -1,65 +1,58 @@
--- What a reader that watches keeps, with each read.
-use Rattle.std.proofs.Common.{◌≡◌, ◌≤◌, ◌-◌, ◌∙◌, ℕ, List, [], ◌++◌, Bool, zero, suc, refl, ap}
-use Rattle.std.proofs.Common.{sym, subst, arith, length, take, drop}
-use Rattle.std.proofs.lemmas.List.{take-take}
+-- What a reader that watches has left, with each read.
+use Rattle.std.proofs.Common.{◌≡◌, ◌≤◌, ◌∙◌, ◌-◌, ℕ, List, [], ◌++◌, Bool, Option, None, Some}
+use Rattle.std.proofs.Common.{Result, refl, sym, ap, subst, arith, take, drop, length, append-nil}
+use Rattle.std.proofs.lemmas.List.{take_at}
+use Rattle.std.specs.Io.KnownBytes.{Keeps, ReadConsumes, prepend_known}
 use Rattle.pgorder.specs.declared.Version.{Version}
 use Rattle.pgrules.specs.declared.findings.Findings.{Findings}
 use Rattle.pgrules.specs.declared.live.LiveWatch.{LiveWatch}
-use Rattle.pgrules.specs.Guarding.{IsGuarded, ahead_of, behind_of, part_of}
-use Rattle.pgrules.proofs.Guards.{fits_is, handed, part_there}
+use Rattle.pgrules.specs.Guarding.{IsGuarded}
+use Rattle.pgrules.proofs.Guards.{behind_part, handed}
 
--- ---- what is kept
+-- ---- what is kept back
 
-take_none : (k : ℕ) → take {A = ℕ} k [] ≡ []
-take_none zero = refl
-take_none (suc k) = refl
-
-drop_none : (k : ℕ) → drop {A = ℕ} k [] ≡ []
-drop_none zero = refl
-drop_none (suc k) = refl
-
-pub part_read : (room : List ℕ) (len : ℕ) → len ≤ length room → part_of room 0 len ≡ take len room
-part_read room len le =
-    let all : len - 0 ≡ len = omega arith in
-    part_there room 0 len (fits_is room 0 len (omega arith) le) ∙ ap (λ k. take k room) all
+-- the front of what was written
+pub kept_front : (n m : ℕ) (room rest part : List ℕ) → take n room ≡ part → length room ≡ m → take n (take m (room ++ rest)) ≡ part
+kept_front n m room rest part is len = ap (λ (xs : List ℕ). take n xs) (take_at room rest m len) ∙ is
 
 module _ {L : Type 0} (hears : L → Findings → L → Type 0) (v : Version) (limit max : ℕ) (first : L) (stops : Bool) (given : List ℕ)
-    (now : LiveWatch) (l : L) where
-  -- nothing is ahead, and nothing kept back, where nothing is kept
-  pub nothing_ahead : (room : List ℕ) (from safe len : ℕ) → part_of room from len ≡ []
-      → IsGuarded hears v limit max first stops given [] [] now l
-      → IsGuarded hears v limit max first stops given (ahead_of room from safe len) (behind_of room from safe len) now l
-  nothing_ahead room from safe len none g =
-      subst (λ (xs : List ℕ). IsGuarded hears v limit max first stops given (take (safe - from) xs) (drop (safe - from) xs) now l) (sym
-      none)
-      (subst (λ (xs : List ℕ). IsGuarded hears v limit max first stops given xs (drop (safe - from) []) now l) (sym (take_none (safe -
-      from)))
-      (subst (λ (xs : List ℕ). IsGuarded hears v limit max first stops given [] xs now l) (sym (drop_none (safe - from))) g))
+    (now : LiveWatch) (l : L) (buf kept : List ℕ) (safe len : ℕ) (le : safe ≤ len) (is : kept ≡ take (len - safe) (drop safe buf))
+    (g : IsGuarded hears v limit max first stops given (take safe buf) (drop safe (take len buf)) now l) where
+  kept_back : IsGuarded hears v limit max first stops given (take safe buf) kept now l
+  kept_back =
+      subst (λ (xs : List ℕ). IsGuarded hears v limit max first stops given (take safe buf) xs now l)
+      (sym (is ∙ behind_part safe len buf le)) g
 
-  pub was_nothing : (room : List ℕ) (from safe len : ℕ) → part_of room from len ≡ []
-      → IsGuarded hears v limit max first stops given (ahead_of room from safe len) (behind_of room from safe len) now l
-      → IsGuarded hears v limit max first stops given [] [] now l
-  was_nothing room from safe len none g =
-      subst (λ (xs : List ℕ). IsGuarded hears v limit max first stops given [] xs now l) (drop_none (safe - from))
-      (subst (λ (xs : List ℕ). IsGuarded hears v limit max first stops given xs (drop (safe - from) []) now l) (take_none (safe - from))
-      (subst (λ (xs : List ℕ). IsGuarded hears v limit max first stops given (take (safe - from) xs) (drop (safe - from) xs) now l) none g))
+  -- the bytes before are handed on
+  pub some_handed : IsGuarded hears v limit max first stops (given ++ take safe buf) [] kept now l
+  some_handed =
+      handed hears v limit max first stops given (take safe buf) [] kept now l
+      (subst (λ (xs : List ℕ). IsGuarded hears v limit max first stops given xs kept now l) (sym (append-nil (take safe buf))) kept_back)
 
-  -- what was read is ahead, up to the frame that is kept back
-  pub read_ahead : (room : List ℕ) (safe len : ℕ) → len ≤ length room → safe ≤ len
-      → IsGuarded hears v limit max first stops given (take safe room) (drop safe (take len room)) now l
-      → IsGuarded hears v limit max first stops given (ahead_of room 0 safe len) (behind_of room 0 safe len) now l
-  read_ahead room safe len le few g =
-      let all : safe ≡ safe - 0 = omega arith in
-      subst (λ k. IsGuarded hears v limit max first stops given (take k (part_of room 0 len)) (drop k (part_of room 0 len)) now l) all
-      (subst (λ (xs : List ℕ). IsGuarded hears v limit max first stops given (take safe xs) (drop safe xs) now l) (sym (part_read room
-      len le))
-      (subst (λ (xs : List ℕ). IsGuarded hears v limit max first stops given xs (drop safe (take len room)) now l)
-      (sym (take-take safe len room few)) g))
+  -- none are
+  pub none_handed : safe ≡ 0 → IsGuarded hears v limit max first stops given [] kept now l
+  none_handed none = subst (λ k. IsGuarded hears v limit max first stops given (take k buf) kept now l) none kept_back
 
-  pub moved : (front ahead ahead' behind behind' : List ℕ) → ahead ≡ front ++ ahead' → behind' ≡ behind
-      → IsGuarded hears v limit max first stops given ahead behind now l
-      → IsGuarded hears v limit max first stops (given ++ front) ahead' behind' now l
-  moved front ahead ahead' behind behind' a b g =
-      handed hears v limit max first stops given front ahead' behind' now l
-      (subst (λ (xs : List ℕ). IsGuarded hears v limit max first stops given (front ++ ahead') xs now l) (sym b)
-      (subst (λ (xs : List ℕ). IsGuarded hears v limit max first stops given xs behind now l) a g))
+-- ---- nothing is kept back
+
+pub none_kept : (n : ℕ) (room : List ℕ) → n ≤ 0 → take n room ≡ []
+none_kept n room le = let none : n ≡ 0 = omega (arith, le) in ap (λ k. take k room) none
+
+prepend_none : (known : Option (List ℕ)) → prepend_known [] known ≡ known
+prepend_none None = refl
+prepend_none (Some xs) = refl
+
+same_known : (n : ℕ) (room : List ℕ) (known : Option (List ℕ)) → n ≤ 0 → prepend_known (take n room) known ≡ known
+same_known n room known le = ap (λ (xs : List ℕ). prepend_known xs known) (none_kept n room le) ∙ prepend_none known
+
+pub keeps_none : (n : ℕ) (room : List ℕ) (old new : Option (List ℕ)) → n ≤ 0 → Keeps old new → Keeps old (prepend_known (take n room) new)
+keeps_none n room old new le h = subst (Keeps old) (sym (same_known n room new le)) h
+
+module _ {E : Type 0} (n : ℕ) (room : List ℕ) (old new : Option (List ℕ)) (r : Result ℕ E) (buf : List ℕ) (le : n ≤ 0)
+    (h : ReadConsumes old new r buf) where
+  pub reads_from : ReadConsumes (prepend_known (take n room) old) new r buf
+  reads_from = subst (λ (x : Option (List ℕ)). ReadConsumes x new r buf) (sym (same_known n room old le)) h
+
+  pub reads_between : ReadConsumes (prepend_known (take n room) old) (prepend_known (take n room) new) r buf
+  reads_between =
+      subst (λ (x : Option (List ℕ)). ReadConsumes (prepend_known (take n room) old) x r buf) (sym (same_known n room new le)) reads_from

@@ -1,32 +1,32 @@
 -- A session under a watch, of which more bytes come.
-use Rattle.std.proofs.Common.{◌≡◌, ◌≢◌, ◌≤◌, ◌<◌, ◌+◌, ◌⊎◌, ◌∙◌, inl, inr, ℕ, List, [], ◌∷◌, ◌++◌}
-use Rattle.std.proofs.Common.{Bool, true, false, true≢false, Option, None, Some, Ok, Err, refl, sym}
-use Rattle.std.proofs.Common.{ap, subst, arith, length, take, append_assoc, append-nil, zero, suc}
-use Rattle.std.specs.List.{AllByRecursion, flat_map}
+use Rattle.std.proofs.Common.{◌≡◌, ◌≢◌, ◌≤◌, ◌+◌, ◌∙◌, ℕ, List, [], ◌∷◌, ◌++◌}
+use Rattle.std.proofs.Common.{Bool, true, false, true≢false, None, Ok, refl, sym}
+use Rattle.std.proofs.Common.{ap, subst, arith, length, take, append_assoc, append-nil}
+use Rattle.std.specs.List.{AllByRecursion}
 use Rattle.std.proofs.lemmas.Grind.{flat_map-append}
 use Rattle.std.proofs.lemmas.List.{length-append, map-append}
 use Rattle.pgwire.specs.declared.fault.WireFault.{WireFault}
 use Rattle.pgwire.specs.declared.fault.WireFault.TheVariants as wire_fault
 use Rattle.pgwire.specs.Frames as wire
-use Rattle.pgwire.specs.Deframed.{Deframed, fresh, Stands, Waits, IsFed, after_release}
+use Rattle.pgwire.specs.Deframed.{Deframed, Stands, Waits, IsFed, after_release}
 use Rattle.pgwire.proofs.Holding.{fault-append}
 use Rattle.pgorder.specs.declared.Version.{Version}
 use Rattle.pgwatch.specs.declared.watch.Watch.{Watch}
 use Rattle.pgwatch.specs.Hearing.{hear, at_start}
 use Rattle.pgsub_core.specs.Server.Stream.{Sent}
-use Rattle.pgsub_core.specs.Server.Sessions.{frames_of, last_frame, whole_frames, IsWireSent}
+use Rattle.pgsub_core.specs.Server.Sessions.{frames_of, whole_frames, IsWireSent}
 use Rattle.pgwatched.specs.Watched.{Framed, heard_of, sent_of}
 use Rattle.pgrules.specs.declared.findings.End.{End}
 use Rattle.pgrules.specs.declared.findings.End.TheVariants as end
 use Rattle.pgrules.specs.declared.seen.Seen.{Seen}
 use Rattle.pgrules.specs.Seen.{nothing_seen, seen_after, with_sent}
-use Rattle.pgrules.specs.Watching.{EndsAtFrame, EndsNext, Ends, HearsFrame, IsFound, IsHeard, Says}
+use Rattle.pgrules.specs.Watching.{EndsAtFrame, EndsNext, Ends, IsFound, IsHeard, Says}
 use Rattle.pgrules.specs.Watching.{frame_of}
 use Rattle.pgrules.specs.Live.{HasEnded, IsFramed, IsGoing}
 use Rattle.pgrules.proofs.StillWatched.{still_watched}
 use Rattle.pgrules.proofs.Steps.{framed, all_push, sent_push, seen_push, heard_push, placed_push}
 use Rattle.pgrules.proofs.Steps.{decoded_push}
-use Rattle.pgrules.proofs.Goes.{allowed_within, breaks_of}
+use Rattle.pgrules.proofs.Goes.{allowed_within}
 
 -- ---- one frame more
 

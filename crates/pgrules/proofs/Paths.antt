@@ -1,19 +1,21 @@
 -- A watch over sessions, with each front of a piece that it hears.
 use Rattle.std.proofs.Common.{◌≡◌, ◌≢◌, ◌≤◌, ◌+◌, ◌⊎◌, ◌∙◌, inl, inr, ℕ, List, [], ◌∷◌, ◌++◌}
-use Rattle.std.proofs.Common.{Bool, true, false, true≢false, Option, None, Some, Ok, Err, refl, sym}
+use Rattle.std.proofs.Common.{true, false, true≢false, Option, None, Some, Ok, Err, refl, sym}
 use Rattle.std.proofs.Common.{ap, subst, arith, length, take, append_assoc, append-nil, unwrap_or}
 use Rattle.std.specs.Option.{is_some}
-use Rattle.std.specs.List.{AllByRecursion, flat_map}
 use Rattle.std.proofs.lemmas.Grind.{flat_map-append}
-use Rattle.std.proofs.lemmas.List.{length-take-le}
+use Rattle.std.proofs.lemmas.List.{length-append, length-take-le}
 use Rattle.pgwire.specs.declared.fault.WireFault.{WireFault}
 use Rattle.pgwire.specs.declared.fault.WireFault.TheVariants as wire_fault
 use Rattle.pgwire.specs.Frames as wire
 use Rattle.pgwire.specs.Deframed.{Deframed, fresh, Stands as Whole, Waits, IsFed, IsReleased}
 use Rattle.pgwire.specs.Deframed.{after_release}
+use Rattle.pgwire.proofs.Holding.{not_both}
 use Rattle.pgorder.specs.declared.Version.{Version}
 use Rattle.pgwatch.specs.declared.watch.Watch.{Watch}
 use Rattle.pgwatch.specs.Hearing.{at_start}
+use Rattle.pgsub_core.specs.Server.Sessions.{whole_frames}
+use Rattle.pgwatched.specs.Watched.{sent_of}
 use Rattle.pgrules.specs.declared.findings.End.{End}
 use Rattle.pgrules.specs.declared.findings.End.TheVariants as end
 use Rattle.pgrules.specs.declared.findings.Findings.{Findings}
@@ -24,14 +26,23 @@ use Rattle.pgrules.specs.Watching.{EndsAtFrame, HearsFrame, IsFound}
 use Rattle.pgrules.specs.Live.{HasEnded, IsFramed, IsGoing, IsTold}
 use Rattle.pgrules.specs.Live.{IsWatched, Stands, StandsIn, Told}
 use Rattle.pgrules.specs.Live.{bytes_of, findings_of, list_of, reports, reports_of}
-use Rattle.pgrules.specs.Steps.{EndsWith, HearsNext, HearsWell, PassesOver, begun, begun_if}
+use Rattle.pgrules.specs.Steps.{EndsWith, HearsNext, HearsWhole, PassesOver, begun}
+use Rattle.pgrules.specs.Steps.{begun_if}
 use Rattle.pgrules.specs.Steps.{found_lost, lost_as}
 use Rattle.pgrules.proofs.Steps.{all_push}
-use Rattle.pgrules.proofs.Goes.{breaks_of, whole_of}
+use Rattle.pgrules.proofs.Goes.{breaks_of, nothing_is, whole_of}
 use Rattle.pgrules.proofs.Lives.{all_frames, data_framed, done_frames, ended_more, found_done}
-use Rattle.pgrules.proofs.Lives.{found_end, found_going, is_found, mid_first, mid_held, mid_max}
+use Rattle.pgrules.proofs.Lives.{found_end, is_found, mid_held}
 use Rattle.pgrules.proofs.Lives.{nothing_partial, sent_going, waits_framed, waits_going}
 use Rattle.pgrules.proofs.Lives.{found_lost as found_unframed}
+
+-- CopyData and CopyDone begin with other letters
+abbrev letter : List ℕ → ℕ
+letter [] = 0
+letter (x ∷ xs) = x
+
+other_tag : (rest more : List ℕ) → 100 ∷ rest ≡ 99 ∷ more → ⊥
+other_tag rest more is = let tags : 100 ≡ 99 = ap letter is in omega (arith, tags)
 
 pub none_of : (o : Option End) → is_some o ≡ false → o ≡ None
 none_of None e = refl
@@ -56,7 +67,8 @@ told_one v limit max bytes seen (end.Undecoded at fault) h = refl
 -- ---- a session begins
 
 module _ (v : Version) (limit max : ℕ) (g : LiveWatch) (version : g.version ≡ v) (limit_is : g.limit ≡ limit)
-    (new : g.deframer ≡ fresh max) (watch : g.watch ≡ at_start v 0 limit) (seen : g.seen ≡ nothing_seen) (at : g.at ≡ 0)
+    (frame_is : g.max_frame ≡ max) (new : g.deframer ≡ fresh max) (watch : g.watch ≡ at_start v 0 limit)
+    (seen : g.seen ≡ nothing_seen) (at : g.at ≡ 0)
     (came : g.came ≡ 0) (none : g.end ≡ None) (whole : g.lost ≡ false) where
   held_none : g.deframer.held ≡ []
   held_none = ap (λ (m : Deframed). m.held) new
@@ -66,6 +78,7 @@ module _ (v : Version) (limit max : ℕ) (g : LiveWatch) (version : g.version �
     version = version;
     limit_is = limit_is;
     max_is = ap (λ (m : Deframed). m.max) new;
+    frame_is = frame_is;
     in_session = subst (λ b. StandsIn v limit max [] g g.end b) (sym whole) (subst (λ o. StandsIn v limit max [] g o false) (sym none) (
       record {
         fs = [];
@@ -169,6 +182,7 @@ module _ (v : Version) (limit max : ℕ) (all : List ℕ) (g : LiveWatch) (told 
         version = i.stands.version;
         limit_is = i.stands.limit_is;
         max_is = i.stands.max_is;
+        frame_is = i.stands.frame_is;
         in_session =
             subst (λ b. StandsIn v limit max (i.now ++ take n piece) g g.end b) (sym lost)
             (go g.end (subst (λ b. StandsIn v limit max i.now g g.end b) lost i.stands.in_session));
@@ -196,6 +210,7 @@ module _ (v : Version) (limit max : ℕ) (all : List ℕ) (g : LiveWatch) (told 
             version = i.stands.version;
             limit_is = i.stands.limit_is;
             max_is = max_is;
+            frame_is = i.stands.frame_is;
             in_session = found_unframed v limit max i.now g.deframer g.watch g.seen g.at g.came u part fault breaks;
           }))
           (ap (λ xs. xs ++ list_of found) (told_none g none) ∙ ap (λ x. list_of x) its
@@ -208,6 +223,7 @@ module _ (v : Version) (limit max : ℕ) (all : List ℕ) (g : LiveWatch) (told 
             version = i.stands.version;
             limit_is = i.stands.limit_is;
             max_is = max_is;
+            frame_is = i.stands.frame_is;
             in_session =
                 subst (λ o. StandsIn v limit max (i.now ++ part) (record g { deframer = d; lost = true }) o true) (sym some)
                 (ended_more v limit max i.now part g.seen x (ended x some whole).1);
@@ -251,9 +267,10 @@ module _ (v : Version) (limit max : ℕ) (all : List ℕ) (g : LiveWatch) (told 
 
   -- ---- the next session
 
-  begins : (h : LiveWatch) → h.version ≡ v → h.limit ≡ limit → h.deframer.max ≡ max → h.lost ≡ false → Stands v limit max [] (begun h)
-  begins h version limit_is max_is whole =
-      stands_first v limit max (begun h) version limit_is (ap fresh max_is)
+  begins : (h : LiveWatch) → h.version ≡ v → h.limit ≡ limit → h.max_frame ≡ max → h.deframer.max ≡ max → h.lost ≡ false
+      → Stands v limit max [] (begun h)
+  begins h version limit_is frame_is max_is whole =
+      stands_first v limit max (begun h) version limit_is frame_is (ap fresh max_is)
       (ap (λ x. at_start x 0 h.limit) version ∙ ap (λ n. at_start v 0 n) limit_is) refl refl refl refl whole
 
   module _ (piece : List ℕ) (n : ℕ) (mid : Deframed) (fed : IsFed g.deframer piece (Ok n) mid) (whole : g.lost ≡ false) where
@@ -269,9 +286,9 @@ module _ (v : Version) (limit max : ℕ) (all : List ℕ) (g : LiveWatch) (told 
     -- the session has ended with CopyDone
     ends_here : (found : Findings) (h new : LiveWatch) → Whole mid wire.CopyDone
         → IsFound v max limit (i.now ++ take n piece) found → reports found ≡ reports (findings_of g)
-        → h.version ≡ g.version → h.limit ≡ g.limit → h.deframer.max ≡ max → h.lost ≡ g.lost → new ≡ begun h
-        → IsWatched v limit max (all ++ take n piece) new (told ++ [])
-    ends_here found h new stands is same version limit_is max_is lost new_is =
+        → h.version ≡ g.version → h.limit ≡ g.limit → h.max_frame ≡ g.max_frame → h.deframer.max ≡ max → h.lost ≡ g.lost
+        → new ≡ begun h → IsWatched v limit max (all ++ take n piece) new (told ++ [])
+    ends_here found h new stands is same version limit_is frame_is max_is lost new_is =
         session_ends (take n piece) new found (record {
           fs = f.fs;
           whole = all_frames max i.now piece g.deframer mid n f i.stands.max_is fed wire.CopyDone stands;
@@ -279,7 +296,7 @@ module _ (v : Version) (limit max : ℕ) (all : List ℕ) (g : LiveWatch) (told 
           is = is;
         }) same
         (subst (Stands v limit max []) (sym new_is)
-        (begins h (version ∙ i.stands.version) (limit_is ∙ i.stands.limit_is) max_is (lost ∙ whole)))
+        (begins h (version ∙ i.stands.version) (limit_is ∙ i.stands.limit_is) (frame_is ∙ i.stands.frame_is) max_is (lost ∙ whole)))
         (ap (λ (x : LiveWatch). x.end) new_is)
 
     released_data : (payload : List ℕ) (h new : LiveWatch) → Whole mid (wire.CopyData payload) → h.deframer ≡ mid → PassesOver h new
@@ -323,6 +340,7 @@ module _ (v : Version) (limit max : ℕ) (all : List ℕ) (g : LiveWatch) (told 
               version = i.stands.version;
               limit_is = i.stands.limit_is;
               max_is = max_is;
+              frame_is = i.stands.frame_is;
               in_session =
                   subst (λ b. StandsIn v limit max (i.now ++ take n piece) (record g { deframer = d }) g.end b) (sym whole)
                   (subst (λ o. StandsIn v limit max (i.now ++ take n piece) (record g { deframer = d }) o false) (sym some)
@@ -339,7 +357,7 @@ module _ (v : Version) (limit max : ℕ) (all : List ℕ) (g : LiveWatch) (told 
         go (inl (wire.CopyDone, stands)) =
             let rel = released_done (record g { deframer = mid }) new stands refl passes in
             ends_here (record { seen = g.seen; end = x }) (record g { deframer = rel.0 }) new stands
-            (is_found v limit max (i.now ++ take n piece) g.seen x more) (sym (told_some g x some)) refl refl rel.1 refl rel.2
+            (is_found v limit max (i.now ++ take n piece) g.seen x more) (sym (told_some g x some)) refl refl refl rel.1 refl rel.2
         go (inr (same, waits)) =
             stays mid mid_max_is (waits_framed max i.now piece g.deframer mid n f i.stands.max_is fed waits)
             (released_none (record g { deframer = mid }) new waits refl passes)
@@ -370,16 +388,17 @@ module _ (v : Version) (limit max : ℕ) (all : List ℕ) (g : LiveWatch) (told 
       count_is : came ≡ g.came + length (take n piece)
       count_is = omega (arith, count, taken)
 
-      going_on : (new : LiveWatch) → new.version ≡ g.version → new.limit ≡ g.limit → new.deframer.max ≡ max → new.lost ≡ g.lost
-          → new.end ≡ None → IsFramed max (i.now ++ take n piece) new.deframer
+      going_on : (new : LiveWatch) → new.version ≡ g.version → new.limit ≡ g.limit → new.max_frame ≡ g.max_frame
+          → new.deframer.max ≡ max → new.lost ≡ g.lost → new.end ≡ None → IsFramed max (i.now ++ take n piece) new.deframer
           → IsGoing v limit max (i.now ++ take n piece) new.deframer new.watch new.seen new.at new.came
           → IsWatched v limit max (all ++ take n piece) new (told ++ [])
-      going_on new version limit_is max_is lost end_is framed_on on =
+      going_on new version limit_is frame_is max_is lost end_is framed_on on =
           goes_on (take n piece) new None
           (record {
             version = version ∙ i.stands.version;
             limit_is = limit_is ∙ i.stands.limit_is;
             max_is = max_is;
+            frame_is = frame_is ∙ i.stands.frame_is;
             in_session =
                 subst (λ b. StandsIn v limit max (i.now ++ take n piece) new new.end b) (sym (lost ∙ whole))
                 (subst (λ o. StandsIn v limit max (i.now ++ take n piece) new o false) (sym end_is) (framed_on, on));
@@ -389,7 +408,7 @@ module _ (v : Version) (limit max : ℕ) (all : List ℕ) (g : LiveWatch) (told 
       waits_on : (new : LiveWatch) → Waits mid → new ≡ h → IsWatched v limit max (all ++ take n piece) new (told ++ [])
       waits_on new waits same =
           subst (λ x. IsWatched v limit max (all ++ take n piece) x (told ++ [])) (sym same)
-          (going_on h refl refl mid_max_is refl none (waits_framed max i.now piece g.deframer mid n f i.stands.max_is fed waits)
+          (going_on h refl refl refl mid_max_is refl none (waits_framed max i.now piece g.deframer mid n f i.stands.max_is fed waits)
           (waits_going v limit max i.now g.deframer g.watch g.seen g.at g.came u (take n piece) mid came held_is count_is))
 
       -- a message or a keepalive was heard well
@@ -400,7 +419,7 @@ module _ (v : Version) (limit max : ℕ) (all : List ℕ) (g : LiveWatch) (told 
       sent_on payload new w seen stands (inl (s, says, heard, seen_is)) passes =
           let rel = released_data payload (record h { watch = w; seen = seen; at = came }) new stands refl passes in
           subst (λ x. IsWatched v limit max (all ++ take n piece) x (told ++ [])) (sym rel.2)
-          (going_on (record h { watch = w; seen = seen; at = came; deframer = rel.0 }) refl refl
+          (going_on (record h { watch = w; seen = seen; at = came; deframer = rel.0 }) refl refl refl
           (ap (λ (m : Deframed). m.max) rel.1 ∙ mid_max_is) refl none
           (data_framed max i.now piece g.deframer mid n f i.stands.max_is fed payload rel.0 stands rel.1)
           (sent_going v limit max i.now g.deframer g.watch g.seen g.at g.came u (take n piece) mid (wire.CopyData payload) held_is stands
@@ -418,7 +437,7 @@ module _ (v : Version) (limit max : ℕ) (all : List ℕ) (g : LiveWatch) (told 
           stands
           (found_done v limit max i.now g.deframer g.watch g.seen g.at g.came u (take n piece) mid wire.CopyDone held_is stands
           mid_max_is refl)
-          (sym (told_none g none)) refl refl rel.1 refl rel.2
+          (sym (told_none g none)) refl refl refl rel.1 refl rel.2
 
       -- the watch ends with the frame
       ends_on : (frame : wire.Frame) (new : LiveWatch) (found : Option Findings) → Whole mid frame → EndsWith h frame new found
@@ -441,6 +460,7 @@ module _ (v : Version) (limit max : ℕ) (all : List ℕ) (g : LiveWatch) (told 
             version = i.stands.version;
             limit_is = i.stands.limit_is;
             max_is = ap (λ (m : Deframed). m.max) rel ∙ mid_max_is;
+            frame_is = i.stands.frame_is;
             in_session =
                 subst (λ b. StandsIn v limit max (i.now ++ take n piece) (record h { watch = w; deframer = d; end = Some x }) (Some x) b)
                 (sym whole) (data_framed max i.now piece g.deframer mid n f i.stands.max_is fed payload d stands rel, has);
@@ -459,3 +479,96 @@ module _ (v : Version) (limit max : ℕ) (all : List ℕ) (g : LiveWatch) (told 
       path_next new found (inr (wire.CopyDone, stands, inl (w, seen, hears, passes, is))) =
           subst (λ o. IsWatched v limit max (all ++ take n piece) new (told ++ list_of o)) (sym is) (done_on new w seen stands hears passes)
       path_next new found (inr (frame, stands, inr ends)) = ends_on frame new found stands ends
+
+  -- ---- a payload of CopyData is heard in its place
+
+  module _ (payload piece : List ℕ) (none : g.end ≡ None) (whole : g.lost ≡ false) (same : g.came ≡ g.at)
+      (allowed : wire.IsAllowed g.max_frame (wire.CopyData payload))
+      (front : take (length payload + 5) piece ≡ wire.frame (wire.CopyData payload)) (bound : length payload + 5 ≤ length piece) where
+    nothing_held : g.deframer.held ≡ []
+    nothing_held =
+        let u = (going none whole).1 in
+        nothing_is g.deframer.held
+        (omega (
+          arith,
+          same,
+          u.at_is,
+          u.came_is,
+          ap (λ (xs : List ℕ). length xs) u.is.whole,
+          length-append (whole_frames (sent_of u.fs) false) g.deframer.held,
+        ))
+
+    -- as if it had been fed
+    abbrev fed_with : Deframed
+    fed_with = record g.deframer { held = take (length payload + 5) piece }
+
+    fed_stands : Whole fed_with (wire.CopyData payload)
+    fed_stands = record {
+      allowed = subst (λ m. wire.IsAllowed m (wire.CopyData payload)) (i.stands.frame_is ∙ sym i.stands.max_is) allowed;
+      whole = front;
+      first = (framed whole).first;
+      fault = (framed whole).sound;
+    }
+
+    fed_is : IsFed g.deframer piece (Ok (length payload + 5)) fed_with
+    fed_is = (
+      (framed whole).sound,
+      bound,
+      ap (λ (xs : List ℕ). record g.deframer { held = xs ++ take (length payload + 5) piece }) (sym nothing_held),
+      inl (wire.CopyData payload, fed_stands),
+    )
+
+    released_is : IsReleased fed_with (after_release fed_with (wire.CopyData payload))
+    released_is = record {
+      stood = stood;
+      waited = λ waits. absurd (not_both fed_with (wire.CopyData payload) fed_stands waits);
+    }
+      where
+        stood : (frame : wire.Frame) → Whole fed_with frame
+            → after_release fed_with (wire.CopyData payload) ≡ after_release fed_with frame
+        stood (wire.CopyData other) stands = refl
+        stood wire.CopyDone stands = absurd (other_tag _ _ (sym front ∙ stands.whole))
+
+    -- what it was before
+    back : after_release fed_with (wire.CopyData payload) ≡ g.deframer
+    back =
+        ap (λ (xs : List ℕ). record g.deframer { held = xs; done = false }) (sym nothing_held)
+        ∙ ap (λ b. record g.deframer { done = b }) (sym (framed whole).first)
+
+    pub path_whole : (new : LiveWatch) (found : Option Findings) → max ≤ 2147483643 → HearsWhole g payload new found
+        → IsWatched v limit max (all ++ take (length payload + 5) piece) new (told ++ list_of found)
+    path_whole new found most (inl (came, count, inl (w, seen, hears, is, found_is))) =
+        path_next piece (length payload + 5) fed_with fed_is whole none came count most new found
+        (inr (
+          wire.CopyData payload,
+          fed_stands,
+          inl (
+            w,
+            seen,
+            hears,
+            (
+              after_release fed_with (wire.CopyData payload),
+              released_is,
+              is ∙ ap (λ d. record g { watch = w; seen = seen; at = came; came = came; deframer = d }) (sym back),
+            ),
+            found_is,
+          ),
+        ))
+    path_whole new found most (inl (came, count, inr (x, w, ends, is, found_is))) =
+        path_next piece (length payload + 5) fed_with fed_is whole none came count most new found
+        (inr (
+          wire.CopyData payload,
+          fed_stands,
+          inr (
+            x,
+            w,
+            after_release fed_with (wire.CopyData payload),
+            ends,
+            released_is,
+            is ∙ ap (λ d. record g { watch = w; came = came; end = Some x; deframer = d }) (sym back),
+            found_is,
+          ),
+        ))
+    path_whole new found most (inr (is, found_is)) =
+        path_lose (take (length payload + 5) piece) g.deframer wire_fault.Memory new found i.stands.max_is
+        (λ other. absurd (other refl)) whole is found_is

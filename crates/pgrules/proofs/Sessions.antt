@@ -1,8 +1,8 @@
 -- What is found of a session, and the histories that have it.
-use Rattle.std.proofs.Common.{◌≡◌, ◌≢◌, ◌∙◌, ℕ, List, [], ◌∷◌}
+use Rattle.std.proofs.Common.{◌≢◌, ◌∙◌, ℕ, List, [], ◌∷◌}
 use Rattle.std.proofs.Common.{◌++◌, Bool, true, false, Option, Some}
 use Rattle.std.proofs.Common.{None, ap, sym, subst, append-nil, unwrap_or}
-use Rattle.std.specs.List.{AllByRecursion, flat_map}
+use Rattle.std.specs.List.{AllByRecursion}
 use Rattle.std.proofs.lemmas.Grind.{flat_map-append}
 use Rattle.pgorder.specs.declared.Version.{Version}
 use Rattle.pgwire.specs.Frames as wire
@@ -14,7 +14,7 @@ use Rattle.pgrules.specs.declared.findings.End.{End}
 use Rattle.pgrules.specs.declared.findings.End.TheVariants as end
 use Rattle.pgrules.specs.declared.findings.Findings.{Findings}
 use Rattle.pgrules.specs.declared.live.LiveWatch.{LiveWatch}
-use Rattle.pgrules.specs.Live.{HasEnded, IsTold, IsWatched, Stands}
+use Rattle.pgrules.specs.Live.{IsTold, Stands}
 use Rattle.pgrules.specs.Live.{StandsIn, Told, bytes_of, findings_of}
 use Rattle.pgrules.specs.Live.{reports, reports_of}
 use Rattle.pgrules.specs.Watching.{Ends, IsFound}

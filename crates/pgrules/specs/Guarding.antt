@@ -1,24 +1,12 @@
 -- What a reader hands on that watches.
-use Rattle.std.specs.Prelude.{◌≡◌, ◌≤◌, ◌-◌, ◌⊎◌, ℕ, List, [], ◌∷◌}
-use Rattle.std.specs.Prelude.{◌++◌, length, take, drop, Bool, true, None}
-use Rattle.std.specs.Prelude.{is_some, if◌then◌else◌, nat_le, ◌&&◌}
+use Rattle.std.specs.Prelude.{◌≡◌, ◌≤◌, ◌⊎◌, ℕ, List, [], ◌∷◌, ◌++◌, length, Bool, true, None}
+use Rattle.std.specs.Prelude.{is_some}
 use Rattle.std.specs.List.{AllByRecursion}
 use Rattle.pgorder.specs.declared.Version.{Version}
 use Rattle.pgrules.specs.declared.findings.Findings.{Findings}
 use Rattle.pgrules.specs.declared.live.LiveWatch.{LiveWatch}
 use Rattle.pgrules.specs.Live.{IsWatched}
 use Rattle.pgrules.specs.Rules.{broken_rule}
-
--- the bytes from one place to another, where there are such
-abbrev pub part_of : List ℕ → ℕ → ℕ → List ℕ
-part_of room from to = if nat_le from to && nat_le to (length room) then take (to - from) (drop from room) else []
-
--- of what was read last: what may be handed on, and what is kept back behind it
-abbrev pub ahead_of : List ℕ → ℕ → ℕ → ℕ → List ℕ
-ahead_of room from safe len = take (safe - from) (part_of room from len)
-
-abbrev pub behind_of : List ℕ → ℕ → ℕ → ℕ → List ℕ
-behind_of room from safe len = drop (safe - from) (part_of room from len)
 
 -- no rule is broken with it
 abbrev pub IsUnbroken : Findings → Type 0

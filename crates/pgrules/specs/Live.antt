@@ -1,6 +1,6 @@
 -- PostgreSQL documentation, Streaming Replication Protocol, START_REPLICATION: what a watch says of
 -- sessions that come one after the other, in any pieces.
-use Rattle.std.specs.Prelude.{◌≡◌, ◌+◌, ℕ, List, [], ◌∷◌, ◌++◌, length, Bool, true, false}
+use Rattle.std.specs.Prelude.{◌≡◌, ℕ, List, [], ◌∷◌, ◌++◌, length, Bool, true, false}
 use Rattle.std.specs.Prelude.{Option, Some, None, unwrap_or}
 use Rattle.std.specs.List.{AllByRecursion, flat_map}
 use Rattle.pgwire.specs.Frames as wire
@@ -56,6 +56,7 @@ pub record Stands (v : Version) (limit max : ℕ) (bytes : List ℕ) (g : LiveWa
   pub version : g.version ≡ v
   pub limit_is : g.limit ≡ limit
   pub max_is : g.deframer.max ≡ max
+  pub frame_is : g.max_frame ≡ max
   pub in_session : StandsIn v limit max bytes g g.end g.lost
 
 -- ---- all sessions

@@ -1,6 +1,8 @@
 -- What the calls of a watch over sessions do to it.
-use Rattle.std.specs.Prelude.{◌≡◌, ◌⊎◌, Bool, true, false, Option, Some, None}
+use Rattle.std.specs.Prelude.{◌≡◌, ◌⊎◌, ◌+◌, ℕ, List, length, Bool, true, false, Option, Some}
+use Rattle.std.specs.Prelude.{None}
 use Rattle.pgwire.specs.declared.fault.WireFault.{WireFault}
+use Rattle.pgwire.specs.declared.fault.WireFault.TheVariants as wire_fault
 use Rattle.pgwire.specs.Frames as wire
 use Rattle.pgwire.specs.Deframed.{Deframed, Stands, Waits, IsReleased, fresh}
 use Rattle.pgwatch.specs.declared.watch.Watch.{Watch}
@@ -58,3 +60,22 @@ abbrev pub HearsNext : LiveWatch → LiveWatch → Option Findings → Type 0
 HearsNext old new found =
     (Waits old.deframer × (new ≡ old) × (found ≡ None))
     ⊎ ((frame : wire.Frame) × Stands old.deframer frame × (HearsWell old frame new found ⊎ EndsWith old frame new found))
+
+-- A payload of CopyData is heard in its place, where nothing is held: behind it so many bytes have
+-- come.
+abbrev pub HearsInPlace : LiveWatch → List ℕ → ℕ → LiveWatch → Option Findings → Type 0
+HearsInPlace old payload came new found =
+    (w : Watch) × (seen : Seen) × HearsFrame old.watch old.seen old.at (wire.CopyData payload) w seen
+    × (new ≡ record old { watch = w; seen = seen; at = came; came = came }) × (found ≡ None)
+
+-- the watch over the session ends with it
+abbrev pub EndsInPlace : LiveWatch → List ℕ → ℕ → LiveWatch → Option Findings → Type 0
+EndsInPlace old payload came new found =
+    (e : End) × (w : Watch) × EndsAtFrame old.watch old.at (wire.CopyData payload) e
+    × (new ≡ record old { watch = w; came = came; end = Some e }) × (found ≡ Some (record { seen = old.seen; end = e }))
+
+abbrev pub HearsWhole : LiveWatch → List ℕ → LiveWatch → Option Findings → Type 0
+HearsWhole old payload new found =
+    ((came : ℕ) × (came ≡ old.came + (length payload + 5))
+    × (HearsInPlace old payload came new found ⊎ EndsInPlace old payload came new found))
+    ⊎ ((new ≡ lost_as old wire_fault.Memory old.end) × (found ≡ found_lost old wire_fault.Memory old.end))

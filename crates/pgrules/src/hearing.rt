@@ -44,7 +44,12 @@ fn hear_keepalive(watch: &mut Watch, seen: &mut Seen, at: u64, end: Lsn)
 }
 
 /// Hears a payload of CopyData.
-fn hear_payload(watch: &mut Watch, seen: &mut Seen, at: u64, payload: &[u8]) -> Result<(), End>
+pub(crate) fn hear_payload(
+    watch: &mut Watch,
+    seen: &mut Seen,
+    at: u64,
+    payload: &[u8],
+) -> Result<(), End>
     ensures heard { watch.old.ended ≡ None →
         OnOk result (HearsFrame watch.old seen.old at (CopyData payload.now) watch.new seen.new) }
     ensures ended { watch.old.ended ≡ None →

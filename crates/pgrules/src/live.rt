@@ -2,15 +2,18 @@
 //!
 //! PostgreSQL documentation, Streaming Replication Protocol, START_REPLICATION.
 
-ghost use Rattle.std.specs.Prelude.{◌≡◌, ◌≤◌, ◌<◌, ◌++◌, ℕ, List, [], None, length, take};
+ghost use Rattle.std.specs.Prelude.{◌≡◌, ◌≤◌, ◌<◌, ◌+◌, ◌++◌, ℕ, List, [], None, false, length};
+ghost use Rattle.std.specs.Prelude.{take, IfSome};
+ghost use Rattle.pgwire.specs.Frames.{CopyData, IsAllowed, frame};
 ghost use Rattle.pgorder.specs.declared.Version.{Version as OfVersion};
 ghost use Rattle.pgrules.specs.declared.findings.Findings.{Findings as OfSession};
 ghost use Rattle.pgrules.specs.Live.{IsWatched, findings_of, list_of};
-ghost use Rattle.pgrules.specs.Steps.{HearsNext, PassesOver, found_lost, lost_as};
+ghost use Rattle.pgrules.specs.Steps.{HearsNext, HearsWhole, PassesOver, found_lost, lost_as};
 
 use crate::findings::{End, Findings};
-use crate::hearing::hear_frame;
+use crate::hearing::{hear_frame, hear_payload};
 use crate::seen::Seen;
+use pgcompared::{HEADER_LEN, front_payload};
 use pglsn::Lsn;
 use pgorder::Version;
 use pgwatch::Watch;
@@ -28,6 +31,7 @@ pub struct LiveWatch {
     alloc: Global,
     version: Version,
     limit: u64,
+    max_frame: u32,
     deframer: Deframer,
     watch: Watch,
     seen: Seen,
@@ -60,6 +64,7 @@ impl LiveWatch {
             alloc,
             version,
             limit,
+            max_frame,
             deframer: Deframer::new(alloc, max_frame),
             watch: Watch::new(alloc, version, Lsn(0), limit),
             seen: Seen::nothing(),
@@ -95,6 +100,59 @@ impl LiveWatch {
                 found: None,
             };
         }
+        match self.whole_front(piece) {
+            Some(payload) => Front {
+                count: payload.len() + HEADER_LEN,
+                found: self.hear_whole(payload),
+            },
+            None => self.hear_part(piece),
+        }
+    }
+
+    // The payload of the CopyData with which a piece begins, where that is whole, nothing is held
+    // and the watch goes on. It's heard in its place then.
+    fn whole_front<'p>(&self, piece: &'p [u8]) -> Option<&'p [u8]>
+        ensures goes_on { IfSome result (λ _. self.now.end ≡ None) }
+        ensures held { IfSome result (λ _. self.now.came ≡ self.now.at) }
+        ensures allowed { IfSome result (λ p. IsAllowed self.now.max_frame (CopyData p.now)) }
+        ensures front { IfSome result (λ p. take (length p.now + 5) piece.now
+            ≡ frame (CopyData p.now)) }
+        ensures bound { IfSome result (λ p. length p.now + 5 ≤ length piece.now) }
+    {
+        if self.end.is_none() && self.came == self.at {
+            front_payload(piece, self.max_frame)
+        } else {
+            None
+        }
+    }
+
+    // Hears a payload of CopyData in its place, where nothing is held.
+    fn hear_whole(&mut self, payload: &[u8]) -> Option<Findings>
+        ensures { self.old.watch.ended ≡ None → HearsWhole self.old payload.now self.new result }
+    {
+        let len = (payload.len() + HEADER_LEN) as u64;
+        let Some(came) = self.came.checked_add(len) else {
+            return self.lose(WireFault::Memory);
+        };
+        self.came = came;
+        if let Err(end) = hear_payload(&mut self.watch, &mut self.seen, self.at, payload) {
+            self.end = Some(end);
+            return Some(self.findings());
+        }
+        self.at = came;
+        None
+    }
+
+    // Hears the front of a piece that goes into the deframer.
+    fn hear_part(&mut self, piece: &[u8]) -> Front
+        requires some { 0 < length piece.now }
+        requires whole { self.old.lost ≡ false }
+        ensures count { (result.count ≤ length piece.now) × (0 < result.count) }
+        ensures watched { (v : OfVersion) (limit max : ℕ) (all : List ℕ) (told : List OfSession) →
+            max ≤ 2147483643 → IsWatched v limit max all self.old told →
+            IsWatched v limit max (all ++ take result.count piece.now) self.new
+            (told ++ list_of result.found) }
+    {
         let count = match self.deframer.feed(piece) {
             Ok(count) if count > 0 => count,
             // (a deframer that waits takes some)

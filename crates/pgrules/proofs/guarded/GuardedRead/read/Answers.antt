@@ -1,10 +1,19 @@
-use Rattle.std.proofs.Common.{take}
-use Rattle.pgrules.proofs.Keeping.{moved}
+use Rattle.std.proofs.Common.{[], subst, List, ℕ}
+use Rattle.pgrules.specs.Guarding.{IsGuarded}
+use Rattle.pgrules.proofs.Keeping.{none_kept, reads_between, reads_from}
 use Rattle.pgrules.proofs.guarded.GuardedRead.read.Goals as goal
 
-pub returns-in_default-2-clause-handed : goal.returns-in_default-2-clause-handed
-returns-in_default-2-clause-handed g c v limit max first given most k =
-    rw (c.hand_on.ensures.watch.0, c.hand_on.ensures.watch.1)
-    (moved g.L.FindingListener.hears v limit max first c.args.self.now.stops given c.ready.new.self.watch c.ready.new.self.listener
-    (take c.hand_on.result c.hand_on.new.buf) _ _ _ _ c.hand_on.ensures.ahead c.hand_on.ensures.behind
-    (c.ready.ensures.guarded v limit max first given most k))
+pub returns-then-self-clause-bytes : goal.returns-then-self-clause-bytes
+returns-then-self-clause-bytes g c =
+    reads_between c.args.self.now.kept c.args.self.now.room.items _ _ _ _ c.if-self-gt0.false c.read.ensures.bytes
+
+pub returns-clause-bytes : goal.returns-clause-bytes
+returns-clause-bytes g c =
+    reads_from c.args.self.now.kept c.args.self.now.room.items _ _ _ _ c.if-self-gt0.false c.read_watched.ensures.bytes
+
+pub returns-clause-failed : goal.returns-clause-failed
+returns-clause-failed g c v limit max first given most k =
+    c.read_watched.ensures.failed v limit max first given most
+    (subst (λ (xs : List ℕ). IsGuarded g.L.FindingListener.hears v limit max first c.args.self.now.stops given [] xs c.args.self.now.watch
+    c.args.self.now.listener)
+    (none_kept c.args.self.now.kept c.args.self.now.room.items c.if-self-gt0.false) k)
