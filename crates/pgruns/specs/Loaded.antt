@@ -26,6 +26,11 @@ abbrev pub KeepsReader : {R : Type 0} → Option LoadPlan → R → R → Type 0
 KeepsReader None old new = new ≡ old
 KeepsReader (Some plan) old new = Unit {0}
 
+-- Behind a load the reader was told that sessions begin.
+abbrev pub IsBegun : {R : Type 0} → (R → R → Type 0) → Option LoadPlan → R → R → Type 0
+IsBegun begins None old new = new ≡ old
+IsBegun begins (Some plan) old new = (loaded : _) × begins loaded new
+
 -- and else a load is read, at most
 abbrev pub KeepsLink : {R W : Type 0} → Option LoadPlan → Link R W → Link R W → Type 0
 KeepsLink None old new = new ≡ old

@@ -37,6 +37,7 @@ use crate::closing::{Closing, close_told, followed_status, run_status};
 use crate::fed::{ApplyPlan, FollowPlan, LiveIo, apply_over};
 use crate::loaded::follow_loaded;
 use crate::opening::{FeedOpening, Opening};
+use crate::session_reader::SessionReader;
 use pgfeed::{Feed, Folder};
 use pgfollow::Clock;
 use pgledger::Supposing;
@@ -49,7 +50,7 @@ use pgsub_cli::run_dump;
 use pgsub_cli::storing::tell_unopened;
 use sqlite::{Alter, Connection, FileFrom, FileStore, Start};
 use std::alloc::Global;
-use std::io::{Read, Write};
+use std::io::Write;
 use std::time::Clock as Ticks;
 
 /// What a run leaves of the files at a path: those of its store. Where no store was opened, the
@@ -77,10 +78,10 @@ fn dump_store<S: Alter + Drop, W: Output + Drop, E: Output>(
 
 /// Follows a server over the store in files, as `run_follow` does, and keeps a feed of its commits
 /// where the plan asks for one. A load that it asks for comes first: from the same reader, to its
-/// end and not a byte further, into the store, which is to be new; the feed is opened at its point,
-/// and the first status confirms it. At the end the log goes into the file of the database. Returns
-/// the exit status, what is left of the files, the feed, if one was opened, and why the load wasn't
-/// taken.
+/// end and not a byte further, into the store, which is to be new; the reader is told then that
+/// sessions begin, the feed is opened at its point, and the first status confirms it. At the end
+/// the log goes into the file of the database. Returns the exit status, what is left of the files,
+/// the feed, if one was opened, and why the load wasn't taken.
 ///
 /// `F` stands for what the files hold when they are opened. The
 /// store that is followed over holds that, or what a load into it has led to (`AfterLoad`), what it
@@ -100,7 +101,7 @@ pub fn follow<
     D: Folder + Supposing + Drop,
     B: FeedOpening<D> + Drop,
     L: Listener + Drop,
-    R: Read + Drop,
+    R: SessionReader + Drop,
     W: Write + Drop,
     K: Clock + Drop,
     E: Output + Drop,

@@ -16,6 +16,7 @@ mod load_plan;
 mod loaded;
 mod new_file;
 mod opening;
+mod session_reader;
 mod telling;
 
 pub use closing::Closing;
@@ -25,3 +26,4 @@ pub use filed::{Filed, apply, dump, follow};
 pub use laws::new_files_are_empty;
 pub use load_plan::LoadPlan;
 pub use opening::{FeedOpening, LeftUnopened, Opening, StoreFile, TrustedFile};
+pub use session_reader::SessionReader;

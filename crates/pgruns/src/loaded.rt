@@ -15,12 +15,13 @@ ghost use Rattle.pgsub_cli.specs.FollowedLive.{ending_of};
 ghost use Rattle.pgsub_cli.specs.FollowStatus.{status_of_follow};
 ghost use Rattle.pgruns.specs.Fed.{FollowsBeside, IsRun, IsUnfed, TellsUnfed, status_of_unfed};
 ghost use Rattle.pgruns.specs.Filed.{position_of};
-ghost use Rattle.pgruns.specs.Loaded.{AfterLoad, KeepsLink, KeepsReader, TellsUnloaded, Unloads};
-ghost use Rattle.pgruns.specs.Loaded.{status_of_unloaded};
+ghost use Rattle.pgruns.specs.Loaded.{AfterLoad, IsBegun, KeepsLink, KeepsReader, TellsUnloaded};
+ghost use Rattle.pgruns.specs.Loaded.{Unloads, status_of_unloaded};
 
 use crate::fed::{FollowPlan, LiveIo, follow_over};
 use crate::load_plan::LoadPlan;
 use crate::opening::FeedOpening;
+use crate::session_reader::SessionReader;
 use crate::telling::tell_unloaded;
 use pgapply::ReplicaStore;
 use pgfeed::{Feed, Folder};
@@ -32,10 +33,11 @@ use pgsub_cli::files::Output;
 use pgsub_cli::reported::Listener;
 use sqlite::Alter;
 use std::alloc::Global;
-use std::io::{Read, Write};
+use std::io::Write;
 
-// Loads into the store what comes first. Of what follows it nothing is read.
-fn load_planned<C: ReplicaStore + Drop, R: Read>(
+// Loads into the store what comes first. Of what follows it nothing is read, and the reader is told
+// that sessions begin there.
+fn load_planned<C: ReplicaStore + Drop, R: SessionReader>(
     alloc: Global,
     store: C,
     plan: LoadPlan,
@@ -46,17 +48,21 @@ fn load_planned<C: ReplicaStore + Drop, R: Read>(
         × (loaded ≡ result.1)) }
     ensures stopped { IfSome result.0 (Unloads C.holds C.place C.reopens C.serves C.is_honest
         (Some plan) (R.remaining reader.old) (R.remaining reader.new) store result.1) }
+    ensures begun { result.0 ≡ None → IsBegun R.begins (Some plan) reader.old reader.new }
     ensures honest { C.is_honest result.1 → C.is_honest store }
 {
     let (ended, store) = load_from(alloc, store, plan.limits, plan.max_frame, reader);
     match ended {
-        Ok(_point) => (None, store),
+        Ok(_point) => {
+            reader.begin_sessions();
+            (None, store)
+        }
         Err(fault) => (Some(fault), store),
     }
 }
 
 // The same, where a load is planned.
-fn load_first<C: ReplicaStore + Drop, R: Read>(
+fn load_first<C: ReplicaStore + Drop, R: SessionReader>(
     alloc: Global,
     store: C,
     plan: Option<LoadPlan>,
@@ -68,6 +74,7 @@ fn load_first<C: ReplicaStore + Drop, R: Read>(
     ensures stopped { IfSome result.0 (Unloads C.holds C.place C.reopens C.serves C.is_honest plan
         (R.remaining reader.old) (R.remaining reader.new) store result.1) }
     ensures reader { KeepsReader plan reader.old reader.new }
+    ensures begun { result.0 ≡ None → IsBegun R.begins plan reader.old reader.new }
     ensures honest { C.is_honest result.1 → C.is_honest store }
 {
     match plan {
@@ -77,14 +84,15 @@ fn load_first<C: ReplicaStore + Drop, R: Read>(
 }
 
 /// Loads into an opened store of any kind what comes first, where a load is planned, and follows
-/// the server over it then, as `follow_over` does. Returns what that returns, and why the load
-/// wasn't taken: standard error has got it then, and nothing was followed.
+/// the server over it then, as `follow_over` does: the reader is told that sessions begin. Returns
+/// what that returns, and why the load wasn't taken: standard error has got it then, and nothing
+/// was followed.
 pub(crate) fn follow_loaded<
     S: Alter + Drop,
     D: Folder + Supposing + Drop,
     B: FeedOpening<D> + Drop,
     L: Listener + Drop,
-    R: Read + Drop,
+    R: SessionReader + Drop,
     W: Write + Drop,
     K: Clock + Drop,
     E: Output + Drop,

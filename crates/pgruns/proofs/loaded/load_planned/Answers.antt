@@ -12,8 +12,11 @@ returns-in-Ok-clause-loaded g c none =
         new = new;
         read = λ own empty. (c.in-Ok._point, rw c.in-Ok.is at (loaded.ensures.reads own empty new));
       },
-      λ empty. (refl, refl),
+      λ empty. (sym c.begin_sessions.ensures.unread, refl),
     )
+
+pub returns-in-Ok-clause-begun : goal.returns-in-Ok-clause-begun
+returns-in-Ok-clause-begun g c none = (_, c.begin_sessions.ensures.begun)
 
 pub returns-in-Err-clause-stopped : goal.returns-in-Err-clause-stopped
 returns-in-Err-clause-stopped g c =
