@@ -18,8 +18,8 @@ use pgorder::Version;
 use pgpast::{Comparing, Notes, NotesFault, PlainFile, RepeatLines};
 use pgrules::Guarded;
 use pgruns::{
-    ApplyPlan, FeedPlan, FileFolder, Filed, FollowPlan, LiveIo, LoadPlan, StoreFile, TrustedFile,
-    apply, dump, follow,
+    ApplyPlan, FeedPlan, FileFolder, Filed, FollowPlan, LiveIo, LoadPlan, SessionReader, StoreFile,
+    TrustedFile, apply, dump, follow,
 };
 use pgsub_cli::fault::RunFault;
 use pgsub_cli::reporting::Reporter;
@@ -323,7 +323,7 @@ impl Clock for SystemClock<'_> {
 /// load where one is asked for, and statuses go to standard output. Standard error is told of
 /// changes that found no row as soon as their commits are stored. A feed's folder is of any kind,
 /// as in `run_over`. Returns the exit status, and the input.
-fn run_live<R: Read + Drop, D: Folder + Supposing + Drop>(
+fn run_live<R: SessionReader + Drop, D: Folder + Supposing + Drop>(
     rt: &HostRuntime,
     task: &Task,
     server: (Version, R),
@@ -353,8 +353,8 @@ fn run_live<R: Read + Drop, D: Folder + Supposing + Drop>(
     (status_of((status, left, feed)), io.link)
 }
 
-/// The same, where the server is watched for the rules of a well-formed one. Returns the exit
-/// status, and the watched input.
+/// The same, where the server is watched for the rules of a well-formed one, behind a load where
+/// one is asked for. Returns the exit status, and the watched input.
 fn run_guarded<R: Read + Drop, D: Folder + Supposing + Drop>(
     rt: &HostRuntime,
     task: &Task,
@@ -366,7 +366,8 @@ fn run_guarded<R: Read + Drop, D: Folder + Supposing + Drop>(
     let watch = live_watch(rt.alloc(), version, limits_of(task));
     let lines = WatchLines::new(rt.alloc(), rt.stderr());
     let stops = watching == Watching::Stop;
-    let input = Guarded::new(rt.alloc(), input, lines, watch, stops)?;
+    let waits = load_of(task).is_some();
+    let input = Guarded::new(rt.alloc(), input, lines, watch, stops, waits)?;
     let (status, link) = run_live(rt, task, (version, input), path, feed);
     if status == FOLLOW_IO && link.reader.has_stopped() {
         return Ok((FOLLOW_BROKEN, link));
@@ -446,6 +447,11 @@ fn run_watched<D: Folder + Supposing + Drop>(
         ..
     } = task
     {
+        // (what is compared is taken for a session from its first byte on)
+        if load_of(task).is_some() {
+            let _ = eprintln!(rt; "error: the argument '--load' cannot be used with '--repeats'");
+            return Ok(USAGE);
+        }
         return run_compared(rt, task, server, (path, file.as_str()), feed);
     }
     let (version, watching) = server;
@@ -465,11 +471,6 @@ fn run_follow<D: Folder + Supposing + Drop>(
     let Some(watching) = watch else {
         return run_live(rt, task, (version, rt.stdin()), path, feed).0;
     };
-    // (a watch takes what comes first for a session)
-    if load_of(task).is_some() {
-        let _ = eprintln!(rt; "error: the argument '--load' cannot be used with '--watch'");
-        return USAGE;
-    }
     match run_watched(rt, task, (version, watching), path, feed) {
         Ok(status) => status,
         Err(AllocError) => {
