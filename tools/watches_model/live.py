@@ -1,17 +1,21 @@
 """Sessions on one pipe, as `pgsub follow` gets them, and the lines that `--watch` tells of them."""
 
 import random
+import struct
 from collections.abc import Callable, Iterator, Sequence
 from dataclasses import dataclass
 from typing import NamedTuple
 
 from .edits import edited
-from .frames import COPY_DONE
+from .frames import COPY_DONE, copy_data
 from .judging import Verdict, judged
 from .streams import Stream, content_of
 
-# bytes of sessions and the words of `--watch` -> what came of it
-Follow = Callable[[bytes, int, str | None], "Followed"]
+# what comes, the version, and further words -> what came of it
+Follow = Callable[..., "Followed"]
+
+# A load of no table, which ends at a point of a server.
+LOAD = copy_data(b"p" + struct.pack(">Q", 0x1000000))
 
 
 class Followed(NamedTuple):
@@ -137,5 +141,28 @@ def stopped_difference(pipe: Pipe, follow: Follow) -> str | None:
     return lines_differ(stop.lines, verdicts[: broken + 1], broken + 1 if status == 17 else 0)
 
 
+def loaded_difference(pipe: Pipe, follow: Follow) -> str | None:
+    """What is wrong where the sessions come behind a load, of which nothing may be told."""
+    verdicts, content = pipe.verdicts(), LOAD + pipe.content()
+    plain = follow(content, pipe.version, None, "--load")
+    told = follow(content, pipe.version, "tell", "--load")
+    if plain._replace(lines=[]) != told._replace(lines=[]):
+        return f"load, tell: status {told.status}, not {plain.status}, or another store"
+    runs = plain.status in (0, 16)
+    if differ := lines_differ(told.lines, verdicts, len(verdicts) if runs else 0):
+        return f"load, tell: {differ}"
+    stop = follow(content, pipe.version, "stop", "--load")
+    broken = next((at for at, it in enumerate(verdicts, 1) if it.is_broken()), len(verdicts))
+    is_broken = verdicts[broken - 1].is_broken()
+    if runs and stop.status != (17 if is_broken else plain.status):
+        return f"load, stop: status {stop.status}"
+    differ = lines_differ(stop.lines, verdicts[:broken], broken if stop.status == 17 else 0)
+    return f"load, stop: {differ}" if differ else None
+
+
 def difference(pipe: Pipe, follow: Follow) -> str | None:
-    return told_difference(pipe, follow) or stopped_difference(pipe, follow)
+    return (
+        told_difference(pipe, follow)
+        or stopped_difference(pipe, follow)
+        or loaded_difference(pipe, follow)
+    )
