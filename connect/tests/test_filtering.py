@@ -249,16 +249,14 @@ class Loads(Case):
         self.assertEqual((ended.status, ended.said), (BROKEN, "pgsub: load 9 CutInput"))
         self.assertFalse(ended.is_rejection())
 
-    def test_a_watch_begins_with_the_next_one(self) -> None:
-        """It would take a load for a session."""
+    def test_a_watch_is_of_the_first_one(self) -> None:
+        """It begins with the first session, behind the load."""
         for stops in (True, False):
-            watch = ("--watch", "stop" if stops else "tell")
+            watch = ["--watch", "stop" if stops else "tell"]
             with mock.patch("subprocess.Popen", side_effect=subprocess.Popen) as run:
-                child = self.loaded(*watch, "--cache", "9")
-            words = run.call_args[0][0]
-            self.assertNotIn("--watch", words)
-            self.assertEqual(words[-5:], ["--cache", "9", "--proto", "2", LOAD])
-            self.assertEqual((child.is_to_stop(), tuple(child.words[-4:-2])), (stops, watch))
+                child = self.loaded(*watch)
+            self.assertEqual(run.call_args[0][0][-5:], [*watch, "--proto", "2", LOAD])
+            self.assertEqual(child.is_to_stop(), stops)
             child.kill()
 
 

@@ -83,7 +83,7 @@ class File(Quiet):
         self.assertTrue(files_of(self.store)[-1].endswith(".connector"))
 
     def test_not_with_a_load(self) -> None:
-        """Which isn't watched, either."""
+        """It would be compared as a session."""
         child = Filter(["/bin/cat", "follow"], ())
         child.note_repeats(self.file)
         self.assertEqual(child.watching(True), child.words)

@@ -8,7 +8,6 @@ import signal
 import subprocess
 from collections.abc import Iterator, Sequence
 
-from pgsub_feed import log
 from pgsub_feed.errors import Passing
 from pgsub_feed.interruption import Check, never
 
@@ -25,7 +24,7 @@ from .room import room_text
 
 # How long an opening store is waited for until it is looked for the end, in seconds.
 LOOK = 0.5
-# What has it read tables before its first session, and what has it watch its server.
+# What has it read tables before its first session, and what has it watch its server's sessions.
 LOAD, WATCH = "--load", "--watch"
 # What has it compare commits that come again with those that came before.
 REPEATS = "--repeats"
@@ -33,12 +32,6 @@ REPEATS = "--repeats"
 TRUST = "--trust-store"
 # What a filter needs of the environment: not the passwords of a server.
 KEPT = ("PATH", "LANG", "LC_ALL", "LC_MESSAGES", "TMPDIR", "TZ", "HOME")
-
-
-def without(words: Sequence[str], option: str) -> list[str]:
-    """The words without an option and its value."""
-    at = words.index(option) if option in words else len(words)
-    return [*words[:at], *words[at + 2 :]]
 
 
 class Filter:
@@ -149,16 +142,13 @@ class Filter:
         self.runs = True
 
     def watching(self, loads: bool) -> list[str]:
-        """Its words, without those by which the server is watched where it reads a load first,
+        """Its words, with the file that it compares commits with: not where it reads a load first,
         which it would take for a session."""
         self.compares = self.repeats is not None and not loads
         if self.repeats and self.compares:
             self.repeats.prepare()
             return [*self.words, REPEATS, self.repeats.path]
-        if not loads or WATCH not in self.words:
-            return self.words
-        log.info("what the server sends is compared with its rules from the next start on")
-        return without(self.words, WATCH)
+        return self.words
 
     def start(self, check: Check = never) -> int:
         """Starts the filter, waits for its first status, and returns the LSN up to which its store
