@@ -4,7 +4,7 @@ from collections.abc import Sequence
 
 from .judging import RULES, Ending, Verdict
 
-UNWATCHED = "rule 1 not watched"
+UNWATCHED = "rule 1 not watched: follow --repeats compares commits that come again"
 
 
 def lines_of(verdict: Verdict, ending: Ending, tried: set[str]) -> list[str]:

@@ -67,11 +67,16 @@ abbrev pub rule_text : Findings → Rule → List ℕ
 rule_text f r = standing_text (standing_of f r)
 
 -- Rule 1 shows over reconnections alone.
+abbrev pub compared_text : List ℕ
+compared_text = codes "not watched: follow --repeats compares commits that come again"
+
 abbrev pub first_text : Findings → List ℕ
 first_text f =
     codes "session\norder "
     ++ (rule_text f rule.Order
-    ++ (codes "\nrule 1 not watched\nrule 2 " ++ (rule_text f rule.Nested ++ (codes "\nrule 3 " ++ (rule_text f rule.Described ++ 10 ∷ [])))))
+    ++ (codes "\nrule 1 "
+    ++ (compared_text
+    ++ (codes "\nrule 2 " ++ (rule_text f rule.Nested ++ (codes "\nrule 3 " ++ (rule_text f rule.Described ++ 10 ∷ [])))))))
 
 abbrev pub last_text : Findings → List ℕ
 last_text f =

@@ -115,6 +115,9 @@ fn rule_of(found: Findings, rule: Rule) -> RuleText
     RuleText { found, rule }
 }
 
+/// How rule 1 stands: it shows over reconnections alone.
+const COMPARED: &str = "not watched: follow --repeats compares commits that come again";
+
 /// The lines of the first rules.
 #[derive(Drop)]
 struct FirstRules(Findings);
@@ -128,7 +131,7 @@ impl fmt::Display for FirstRules {
         let described = rule_of(self.0, Rule::Described);
         write!(
             f,
-            "session\norder {order}\nrule 1 not watched\nrule 2 {nested}\nrule 3 {described}\n"
+            "session\norder {order}\nrule 1 {COMPARED}\nrule 2 {nested}\nrule 3 {described}\n"
         )
     }
 }
