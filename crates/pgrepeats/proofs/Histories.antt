@@ -80,7 +80,7 @@ module _ (history : List Commit) (p : Past) (at : ℕ) (d : Commit) (h : IsHisto
 
   not_passed : (l : ℕ) (c : Commit) → p.last ≡ Some l → IsOf history c → must_come c ≡ true → l < c.end → c.end < d.end → ⊥
   not_passed l c e is must lo hi =
-      ⊎_elim (λ (came : c.end ≤ at). (i.last l e).2 c is must lo came) (λ (left : at < c.end). next.none c is must left hi)
+      ⊎_elim (λ (came : c.end ≤ at). (i.last l e).1 c is must lo came) (λ (left : at < c.end). next.none c is must left hi)
       (up_to c.end at)
 
   not_left : (l end : ℕ) → p.last ≡ Some l → l < end → end < d.end → EndsOne history end → ⊥
@@ -125,7 +125,6 @@ module _ (history : List Commit) (p : Past) (at : ℕ) (d : Commit) (h : IsHisto
         ahead = λ some c is must over. omega (arith, over, k.2);
         last = λ l same.
             let eq : d.end ≡ l = some_is d.end l same in (
-              omega (arith, eq, k.1),
               omega (arith, eq),
               λ c is must lo hi. omega (arith, eq, lo, hi),
             );
@@ -133,29 +132,16 @@ module _ (history : List Commit) (p : Past) (at : ℕ) (d : Commit) (h : IsHisto
 
   -- ---- nothing is known of it
 
-  unknown_passed : (why : (d.end ≤ p.since) ⊎ (must_come d ≡ false)) (l : ℕ) (c : Commit) → p.last ≡ Some l → IsOf history c
-      → must_come c ≡ true → l < c.end → c.end ≤ d.end → ⊥
-  unknown_passed why l c e is must lo hi =
-      ⊎_elim (λ (same : c.end ≡ d.end).
-      ⊎_elim (λ (low : d.end ≤ p.since). omega (arith, low, (i.last l e).0, lo, same))
-      (λ (no : must_come d ≡ false).
-      true≢false (sym must ∙ ap must_come (one 0 history c d h is next.is same) ∙ no)) why)
-      (λ (other : c.end ≡ d.end → ⊥). not_passed l c e is must lo (omega (arith, hi, other))) (cases_eq c.end d.end)
-
-  kept_unknown : (count : ℕ) → d.end ≤ p.newest → (d.end ≤ p.since) ⊎ (must_come d ≡ false)
-      → IsPastOf history (record p { unknown = count }) d.end
-  kept_unknown count below why = record {
+  kept_unknown : (count : ℕ) → d.end ≤ p.newest → IsPastOf history (record p { last = Some d.end; unknown = count }) d.end
+  kept_unknown count below = record {
     noted = i.noted;
     whole = i.whole;
     changed = i.changed;
     newest = i.newest;
     since = i.since;
     ahead = λ some c is must over. omega (arith, over, below);
-    last = λ l same. (
-      (i.last l same).0,
-      omega (arith, (i.last l same).1, next.above),
-      λ c is must lo hi. unknown_passed why l c same is must lo hi,
-    );
+    last = λ l same.
+        let eq : d.end ≡ l = some_is d.end l same in (omega (arith, eq), λ c is must lo hi. omega (arith, eq, lo, hi));
   }
 
   -- ---- it is new
@@ -240,7 +226,6 @@ module _ (history : List Commit) (p : Past) (at : ℕ) (d : Commit) (h : IsHisto
           ahead = λ some c is must over. omega (arith, over, w.newest);
           last = λ l same.
               let eq : d.end ≡ l = some_is d.end l (sym w.last ∙ same) in (
-                omega (arith, eq, since_low w.keeps.since_is),
                 omega (arith, eq),
                 λ c is must lo hi. omega (arith, eq, lo, hi),
               );
@@ -251,7 +236,7 @@ module _ (history : List Commit) (p : Past) (at : ℕ) (d : Commit) (h : IsHisto
   kept new answer.Equal w =
       subst (λ (x : Past). IsPastOf history x d.end) (sym w.goes) (kept_equal w.noted w.was)
   kept new answer.Unknown w =
-      subst (λ (x : Past). IsPastOf history x d.end) (sym w.goes) (kept_unknown _ w.below w.why)
+      subst (λ (x : Past). IsPastOf history x d.end) (sym w.goes) (kept_unknown _ w.below)
 
 pub histories_are_not_contradicted : HistoriesAreNotContradicted
 histories_are_not_contradicted history p at d x h i next c = not_contradicted history p at d h i next x c

@@ -42,7 +42,7 @@ pub record IsPastOf (history : List Commit) (p : Past) (at : ℕ) : Type 0 where
   pub newest : (p.newest ≡ 0) ⊎ ((c : Commit) × IsOf history c × (c.end ≡ p.newest))
   pub since : p.since ≤ p.newest
   pub ahead : HasComeTo history p at
-  pub last : (l : ℕ) → p.last ≡ Some l → (p.since ≤ l) × (l ≤ at)
+  pub last : (l : ℕ) → p.last ≡ Some l → (l ≤ at)
       × ((c : Commit) → IsOf history c → must_come c ≡ true → l < c.end → c.end ≤ at → ⊥)
 
 -- no commit that a session of the same history sends is contradicted

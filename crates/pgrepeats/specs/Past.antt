@@ -109,7 +109,7 @@ pub record IsUnknown (p : Past) (d : Commit) (new : Past) : Type 0 where
   pub none : noted_at p d.end ≡ None
   pub below : d.end ≤ p.newest
   pub why : (d.end ≤ p.since) ⊎ (must_come d ≡ false)
-  pub goes : new ≡ record p { unknown = min (p.unknown + 1) (2 ^ 64 - 1) }
+  pub goes : new ≡ record p { last = Some d.end; unknown = min (p.unknown + 1) (2 ^ 64 - 1) }
 
 abbrev pub Answers : Past → Commit → Past → Result Answer Trouble → Type 0
 Answers p d new (Ok answer.New) = IsNew p d new

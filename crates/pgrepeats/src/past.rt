@@ -42,7 +42,7 @@ pub struct Past {
     newest: u64,
     /// Where the newest one ends that changes something.
     changed: u64,
-    /// Where the session's last one ends that is noted.
+    /// Where the session's last one ends.
     last: Option<u64>,
     forgotten: u64,
     unknown: u64,
@@ -155,6 +155,7 @@ impl Past {
             }));
         }
         self.unknown = self.unknown.saturating_add(1);
+        self.last = Some(commit.end);
         Ok(Answer::Unknown)
     }
 
