@@ -142,11 +142,11 @@ by_lost v limit x xs before h true well rest heard still = absurd (true≢false 
 
 -- ---- all frames
 
-version_is : (v : Version) (limit max : ℕ) (past : Past) (steps : List Step) (h : Hearing) → Leads v limit max past steps h
+version_is : (v : Version) (limit max : ℕ) (past : Past) (reached : ℕ) (steps : List Step) (h : Hearing) → Leads v limit max past reached steps h
     → (h.version ≡ v) × (h.limit ≡ limit)
-version_is v limit max past [] h first = (ap (λ (x : Hearing). x.version) first, ap (λ (x : Hearing). x.limit) first)
-version_is v limit max past (x ∷ xs) h (before, leads, allowed, takes) =
-    let is = version_is v limit max past xs before leads in (takes.1 ∙ is.0, takes.2 ∙ is.1)
+version_is v limit max past reached [] h first = (ap (λ (x : Hearing). x.version) first, ap (λ (x : Hearing). x.limit) first)
+version_is v limit max past reached (x ∷ xs) h (before, leads, allowed, takes) =
+    let is = version_is v limit max past reached xs before leads in (takes.1 ∙ is.0, takes.2 ∙ is.1)
 
 step : (v : Version) (limit : ℕ) (frame : wire.Frame) (told : Told) (xs : List Step) (before h : Hearing) (next : ℕ)
     → (before.version ≡ v) × (before.limit ≡ limit) → (before.lost ≡ false → IsSessionHeard v limit xs before)
@@ -157,12 +157,12 @@ step v limit wire.CopyDone told xs before h next is rest takes still =
 step v limit (wire.CopyData bytes) told xs before h next is rest takes still =
     by_lost v limit (record { frame = wire.CopyData bytes; told = told }) xs before h before.lost refl rest takes.0 still
 
-all_steps : (v : Version) (limit max : ℕ) (past : Past) (steps : List Step) (h : Hearing) → Leads v limit max past steps h
+all_steps : (v : Version) (limit max : ℕ) (past : Past) (reached : ℕ) (steps : List Step) (h : Hearing) → Leads v limit max past reached steps h
     → h.lost ≡ false → IsSessionHeard v limit steps h
-all_steps v limit max past [] h first still = at_first v limit [] h tt (ap (λ (x : Hearing). x.session) first)
-all_steps v limit max past (x ∷ xs) h (before, leads, allowed, takes) still =
-    step v limit x.frame x.told xs before h (before.at + length (wire.frame x.frame)) (version_is v limit max past xs before leads)
-    (λ well. all_steps v limit max past xs before leads well) takes.0 still
+all_steps v limit max past reached [] h first still = at_first v limit [] h tt (ap (λ (x : Hearing). x.session) first)
+all_steps v limit max past reached (x ∷ xs) h (before, leads, allowed, takes) still =
+    step v limit x.frame x.told xs before h (before.at + length (wire.frame x.frame)) (version_is v limit max past reached xs before leads)
+    (λ well. all_steps v limit max past reached xs before leads well) takes.0 still
 
 pub sessions_are_heard : SessionsAreHeard
-sessions_are_heard v limit max past steps h leads still = all_steps v limit max past steps h leads still
+sessions_are_heard v limit max past reached steps h leads still = all_steps v limit max past reached steps h leads still

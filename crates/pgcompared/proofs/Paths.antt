@@ -1,5 +1,6 @@
 -- Sessions that are compared, with each front of a piece that comes.
-use Rattle.std.proofs.Common.{◌≡◌, ◌≢◌, ◌+◌, ◌∙◌, inl, inr, ℕ, List, [], ◌∷◌, ◌++◌}
+use Rattle.std.proofs.Common.{◌≡◌, ◌≢◌, ◌≤◌, ◌+◌, ◌∙◌, inl, inr, ℕ, List, [], ◌∷◌, ◌++◌, Bool}
+use Rattle.std.proofs.Common.{nat_le}
 use Rattle.std.proofs.Common.{true, false, None, Some, Ok, Err, refl, sym, ap}
 use Rattle.std.proofs.Common.{subst}
 use Rattle.std.proofs.Common.{arith, length, take, take_all, append_assoc, append-nil, ⊎_elim}
@@ -29,9 +30,10 @@ nothing_long : (held : List ℕ) → length held ≡ 0 → held ≡ []
 nothing_long [] none = refl
 nothing_long (x ∷ xs) none = absurd (omega (arith, none))
 
-pub at_first : (v : Version) (limit max : ℕ) (past : Past) (c : Compared) → c.deframer ≡ fresh max
-    → c.max_frame ≡ max → c.hearing ≡ first_hearing v limit past → c.came ≡ 0 → c.deaf ≡ false → IsCompared v limit max past [] c []
-at_first v limit max past c new same first came whole = record {
+pub at_first : (v : Version) (limit max : ℕ) (past : Past) (reached : ℕ) (c : Compared) → c.deframer ≡ fresh max
+    → c.max_frame ≡ max → c.hearing ≡ first_hearing v limit past reached → c.came ≡ 0 → c.deaf ≡ false
+    → IsCompared v limit max past reached [] c []
+at_first v limit max past reached c new same first came whole = record {
   limit_is = same;
   steps = [];
   leads = first;
@@ -92,10 +94,68 @@ fed_max old new piece wire_fault.Short fed = ap (λ (m : Deframed). m.max) fed.0
 fed_max old new piece wire_fault.Trailing fed = ap (λ (m : Deframed). m.max) fed.0
 fed_max old new piece wire_fault.BadReplyByte fed = ap (λ (m : Deframed). m.max) fed.0
 
-module _ (v : Version) (limit max : ℕ) (past : Past) (all : List ℕ) (c : Compared) (told : List Told)
-    (i : IsCompared v limit max past all c told) where
+-- ---- before the first byte
+
+frame_some : (f : wire.Frame) → 1 ≤ length (wire.frame f)
+frame_some (wire.CopyData bytes) = omega arith
+frame_some wire.CopyDone = omega arith
+
+none_came : (steps : List Step) (rest : List ℕ) → [] ≡ bytes_of steps ++ rest → steps ≡ []
+none_came [] rest e = refl
+none_came (x ∷ xs) rest e =
+    absurd (omega (
+      arith,
+      ap (λ (bytes : List ℕ). length bytes) e,
+      length-append (bytes_of xs ++ wire.frame x.frame) rest,
+      length-append (bytes_of xs) (wire.frame x.frame),
+      frame_some x.frame,
+    ))
+
+-- others came up to here
+abbrev reaching : ℕ → Hearing → Hearing
+reaching reached h = record h { noting = record h.noting { reached = reached; is_whole = nat_le reached h.noting.past.newest } }
+
+leads_reaching : (v : Version) (limit max : ℕ) (past : Past) (before reached : ℕ) (steps : List Step) (h : Hearing) → steps ≡ []
+    → Leads v limit max past before steps h → Leads v limit max past reached steps (reaching reached h)
+leads_reaching v limit max past before reached steps h none leads =
+    subst (λ (xs : List Step). Leads v limit max past reached xs (reaching reached h)) (sym none)
+    (ap (reaching reached) (subst (λ (xs : List Step). Leads v limit max past before xs h) none leads))
+
+stands_reaching : (max reached : ℕ) (steps : List Step) (c : Compared) (told : List Told) (b : Bool)
+    → StandsBehind max [] steps c told b → StandsBehind max [] steps (record c { hearing = reaching reached c.hearing }) told b
+stands_reaching max reached steps c told false s = s
+stands_reaching max reached steps c told true d = record {
+  front = d.front;
+  rest = d.rest;
+  whole = d.whole;
+  fault = d.fault;
+  is = d.is;
+  told_is = d.told_is;
+}
+
+come_none : (max : ℕ) (steps : List Step) (c : Compared) (told : List Told) (b : Bool) → StandsBehind max [] steps c told b
+    → steps ≡ []
+come_none max steps c told false s = none_came steps c.deframer.held s.0.whole
+come_none max steps c told true d =
+    none_came steps (d.front ++ d.rest) (d.whole ∙ append_assoc (bytes_of steps) d.front d.rest)
+
+pub path_reach : (v : Version) (limit max : ℕ) (past : Past) (before reached : ℕ) (c : Compared) (told : List Told)
+    → IsCompared v limit max past before [] c told → (new : Compared) → new ≡ record c { hearing = reaching reached c.hearing }
+    → IsCompared v limit max past reached [] new told
+path_reach v limit max past before reached c told i new new_is =
+    subst (λ (x : Compared). IsCompared v limit max past reached [] x told) (sym new_is) (record {
+      steps = i.steps;
+      leads =
+          leads_reaching v limit max past before reached i.steps c.hearing (come_none max i.steps c told c.deaf i.stands) i.leads;
+      max_is = i.max_is;
+      limit_is = i.limit_is;
+      stands = stands_reaching max reached i.steps c told c.deaf i.stands;
+    })
+
+module _ (v : Version) (limit max : ℕ) (past : Past) (reached : ℕ) (all : List ℕ) (c : Compared) (told : List Told)
+    (i : IsCompared v limit max past reached all c told) where
   -- the frames couldn't be told apart before
-  pub path_deaf : (part : List ℕ) → c.deaf ≡ true → IsCompared v limit max past (all ++ part) c (told ++ [])
+  pub path_deaf : (part : List ℕ) → c.deaf ≡ true → IsCompared v limit max past reached (all ++ part) c (told ++ [])
   path_deaf part deaf =
       let d : IsDeaf max all i.steps c.hearing told = subst (StandsBehind max all i.steps c told) deaf i.stands in
       record {
@@ -121,11 +181,11 @@ module _ (v : Version) (limit max : ℕ) (past : Past) (all : List ℕ) (c : Com
   path_lose : (part : List ℕ) (d : Deframed) (fault : WireFault) (new : Compared) → d.max ≡ max
       → (fault ≢ wire_fault.Memory → wire.IsFramingFault max false (c.deframer.held ++ part) fault) → c.deaf ≡ false
       → new ≡ record c { deframer = d; deaf = true }
-      → IsCompared v limit max past (all ++ part) new (told ++ spoken (told_deaf c.hearing.lost c.hearing.at fault))
+      → IsCompared v limit max past reached (all ++ part) new (told ++ spoken (told_deaf c.hearing.lost c.hearing.at fault))
   path_lose part d fault new max_is breaks whole new_is =
       let g = going whole in
       let now = told ++ spoken (told_deaf c.hearing.lost c.hearing.at fault) in
-      subst (λ x. IsCompared v limit max past (all ++ part) x now) (sym new_is) (record {
+      subst (λ x. IsCompared v limit max past reached (all ++ part) x now) (sym new_is) (record {
         steps = i.steps;
         leads = i.leads;
         max_is = max_is;
@@ -143,7 +203,7 @@ module _ (v : Version) (limit max : ℕ) (past : Past) (all : List ℕ) (c : Com
 
   pub path_err : (piece : List ℕ) (n : ℕ) (d : Deframed) (fault : WireFault) (new : Compared) → n ≡ length piece
       → IsFed c.deframer piece (Err fault) d → c.deaf ≡ false → new ≡ record c { deframer = d; deaf = true }
-      → IsCompared v limit max past (all ++ take n piece) new (told ++ spoken (told_deaf c.hearing.lost c.hearing.at fault))
+      → IsCompared v limit max past reached (all ++ take n piece) new (told ++ spoken (told_deaf c.hearing.lost c.hearing.at fault))
   path_err piece n d fault new all_taken fed whole new_is =
       let f = (going whole).0 in
       path_lose (take n piece) d fault new (fed_max c.deframer d piece fault fed ∙ i.max_is)
@@ -157,7 +217,7 @@ module _ (v : Version) (limit max : ℕ) (past : Past) (all : List ℕ) (c : Com
 
   pub path_over : (piece : List ℕ) (n k : ℕ) (mid : Deframed) (new : Compared) → IsFed c.deframer piece (Ok k) mid → c.deaf ≡ false
       → new ≡ record c { deframer = mid; deaf = true }
-      → IsCompared v limit max past (all ++ take n piece) new
+      → IsCompared v limit max past reached (all ++ take n piece) new
       (told ++ spoken (told_deaf c.hearing.lost c.hearing.at wire_fault.Memory))
   path_over piece n k mid new fed whole new_is =
       path_lose (take n piece) mid wire_fault.Memory new (ap (λ (m : Deframed). m.max) fed.2 ∙ i.max_is)
@@ -196,9 +256,9 @@ module _ (v : Version) (limit max : ℕ) (past : Past) (all : List ℕ) (c : Com
 
     -- no frame is whole yet
     waits : (new : Compared) (now : Told) → Waits mid → new ≡ record c { deframer = mid; came = came } → now ≡ told_nothing false
-        → IsCompared v limit max past (all ++ take n piece) new (told ++ spoken now)
+        → IsCompared v limit max past reached (all ++ take n piece) new (told ++ spoken now)
     waits new now w new_is now_is =
-        subst (λ x. IsCompared v limit max past (all ++ take n piece) x (told ++ spoken now)) (sym new_is) (record {
+        subst (λ x. IsCompared v limit max past reached (all ++ take n piece) x (told ++ spoken now)) (sym new_is) (record {
           steps = i.steps;
           leads = i.leads;
           max_is = mid_max;
@@ -221,7 +281,7 @@ module _ (v : Version) (limit max : ℕ) (past : Past) (all : List ℕ) (c : Com
       abbrev next : Step
       next = record { frame = frame; told = now }
 
-      leads_to : Leads v limit max past (next ∷ i.steps) h
+      leads_to : Leads v limit max past reached (next ∷ i.steps) h
       leads_to = (
         c.hearing,
         i.leads,
@@ -232,9 +292,9 @@ module _ (v : Version) (limit max : ℕ) (past : Past) (all : List ℕ) (c : Com
       -- another one begins behind it
       behind : (d : Deframed) (came' : ℕ) (new : Compared) → d.max ≡ max → d.held ≡ [] → d.done ≡ false → d.fault ≡ None
           → came' ≡ h.at → new ≡ record c { deframer = d; hearing = h; came = came' }
-          → IsCompared v limit max past (all ++ take n piece) new (told ++ spoken now)
+          → IsCompared v limit max past reached (all ++ take n piece) new (told ++ spoken now)
       behind d came' new max_is held done fault at new_is =
-          subst (λ x. IsCompared v limit max past (all ++ take n piece) x (told ++ spoken now)) (sym new_is) (record {
+          subst (λ x. IsCompared v limit max past reached (all ++ take n piece) x (told ++ spoken now)) (sym new_is) (record {
             steps = next ∷ i.steps;
             leads = leads_to;
             max_is = max_is;
@@ -258,7 +318,7 @@ module _ (v : Version) (limit max : ℕ) (past : Past) (all : List ℕ) (c : Com
     data_next : (payload : List ℕ) (stands : Stands mid (wire.CopyData payload)) (h : Hearing) (now : Told) (d : Deframed) (new : Compared)
         → Takes c.hearing (wire.CopyData payload) came h now → d ≡ after_release mid (wire.CopyData payload)
         → new ≡ passed_over d.done (record c { deframer = mid }) d h came
-        → IsCompared v limit max past (all ++ take n piece) new (told ++ spoken now)
+        → IsCompared v limit max past reached (all ++ take n piece) new (told ++ spoken now)
     data_next payload stands h now d new takes d_is new_is =
         behind (wire.CopyData payload) stands h now takes d came new (ap (λ (m : Deframed). m.max) d_is ∙ mid_max)
         (ap (λ (m : Deframed). m.held) d_is) (ap (λ (m : Deframed). m.done) d_is) (ap (λ (m : Deframed). m.fault) d_is ∙ mid_fault)
@@ -268,7 +328,7 @@ module _ (v : Version) (limit max : ℕ) (past : Past) (all : List ℕ) (c : Com
     done_next : (stands : Stands mid wire.CopyDone) (h : Hearing) (now : Told) (d : Deframed) (new : Compared)
         → Takes c.hearing wire.CopyDone came h now → d ≡ after_release mid wire.CopyDone
         → new ≡ passed_over d.done (record c { deframer = mid }) d h came
-        → IsCompared v limit max past (all ++ take n piece) new (told ++ spoken now)
+        → IsCompared v limit max past reached (all ++ take n piece) new (told ++ spoken now)
     done_next stands h now d new takes d_is new_is =
         behind wire.CopyDone stands h now takes (fresh d.max) 0 new (ap (λ (m : Deframed). m.max) d_is ∙ mid_max) refl refl refl
         (sym takes.0.2)
@@ -276,14 +336,14 @@ module _ (v : Version) (limit max : ℕ) (past : Past) (all : List ℕ) (c : Com
 
     stood : (frame : wire.Frame) (stands : Stands mid frame) (h : Hearing) (now : Told) (d : Deframed) (new : Compared)
         → Takes c.hearing frame came h now → IsReleased mid d → new ≡ passed_over d.done (record c { deframer = mid }) d h came
-        → IsCompared v limit max past (all ++ take n piece) new (told ++ spoken now)
+        → IsCompared v limit max past reached (all ++ take n piece) new (told ++ spoken now)
     stood (wire.CopyData payload) stands h now d new takes rel new_is =
         data_next payload stands h now d new takes (rel.stood (wire.CopyData payload) stands) new_is
     stood wire.CopyDone stands h now d new takes rel new_is =
         done_next stands h now d new takes (rel.stood wire.CopyDone stands) new_is
 
     pub path_next : (new : Compared) (now : Told) → HearsNext (record c { deframer = mid }) came new now
-        → IsCompared v limit max past (all ++ take n piece) new (told ++ spoken now)
+        → IsCompared v limit max past reached (all ++ take n piece) new (told ++ spoken now)
     path_next new now (inl (w, new_is, now_is)) = waits new now w new_is now_is
     path_next new now (inr (frame, stands, (h, d, takes, rel, new_is))) = stood frame stands h now d new takes rel new_is
 
@@ -307,7 +367,7 @@ module _ (v : Version) (limit max : ℕ) (past : Past) (all : List ℕ) (c : Com
       abbrev heard_next : Step
       heard_next = record { frame = copy_data; told = now }
 
-      heard_leads : Leads v limit max past (heard_next ∷ i.steps) h
+      heard_leads : Leads v limit max past reached (heard_next ∷ i.steps) h
       heard_leads = (
         c.hearing,
         i.leads,
@@ -326,9 +386,9 @@ module _ (v : Version) (limit max : ℕ) (past : Past) (all : List ℕ) (c : Com
       }
 
       heard_whole : (new : Compared) → new ≡ record c { hearing = h; came = came }
-          → IsCompared v limit max past (all ++ wire.frame copy_data) new (told ++ spoken now)
+          → IsCompared v limit max past reached (all ++ wire.frame copy_data) new (told ++ spoken now)
       heard_whole new new_is =
-          subst (λ x. IsCompared v limit max past (all ++ wire.frame copy_data) x (told ++ spoken now)) (sym new_is) (record {
+          subst (λ x. IsCompared v limit max past reached (all ++ wire.frame copy_data) x (told ++ spoken now)) (sym new_is) (record {
             steps = heard_next ∷ i.steps;
             leads = heard_leads;
             max_is = i.max_is;
@@ -341,10 +401,10 @@ module _ (v : Version) (limit max : ℕ) (past : Past) (all : List ℕ) (c : Com
 
     pub path_whole : (piece : List ℕ) → take (length payload + 5) piece ≡ wire.frame copy_data → (new : Compared) (now : Told)
         → HearsWhole c payload new now
-        → IsCompared v limit max past (all ++ take (length payload + 5) piece) new (told ++ spoken now)
+        → IsCompared v limit max past reached (all ++ take (length payload + 5) piece) new (told ++ spoken now)
     path_whole piece is new now (inl (h, came, count, takes, new_is)) =
-        subst (λ (xs : List ℕ). IsCompared v limit max past (all ++ xs) new (told ++ spoken now)) (sym is)
+        subst (λ (xs : List ℕ). IsCompared v limit max past reached (all ++ xs) new (told ++ spoken now)) (sym is)
         (heard_whole h came now count takes new new_is)
     path_whole piece is new now (inr (new_is, now_is)) =
-        subst (λ (t : Told). IsCompared v limit max past (all ++ take (length payload + 5) piece) new (told ++ spoken t)) (sym now_is)
+        subst (λ (t : Told). IsCompared v limit max past reached (all ++ take (length payload + 5) piece) new (told ++ spoken t)) (sym now_is)
         (path_lose (take (length payload + 5) piece) c.deframer wire_fault.Memory new i.max_is (λ other. absurd (other refl)) whole new_is)

@@ -45,5 +45,5 @@ pub record IsSessionHeard (v : Version) (limit : ℕ) (steps : List Step) (h : H
 -- so it is heard, unless it is lost
 abbrev pub SessionsAreHeard : Type 0
 SessionsAreHeard =
-    (v : Version) (limit max : ℕ) (past : Past) (steps : List Step) (h : Hearing) → Leads v limit max past steps h → h.lost ≡ false
-    → IsSessionHeard v limit steps h
+    (v : Version) (limit max : ℕ) (past : Past) (reached : ℕ) (steps : List Step) (h : Hearing)
+    → Leads v limit max past reached steps h → h.lost ≡ false → IsSessionHeard v limit steps h

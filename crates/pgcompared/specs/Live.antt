@@ -15,7 +15,7 @@ use Rattle.pgcompared.specs.declared.finding.Lost.TheVariants as lost
 use Rattle.pgcompared.specs.declared.hearing.Hearing.{Hearing}
 use Rattle.pgcompared.specs.declared.noting.Told.{Told}
 use Rattle.pgcompared.specs.Frames.{Takes, lost_at}
-use Rattle.pgcompared.specs.Noting.{begun_session, told_nothing}
+use Rattle.pgcompared.specs.Noting.{noting_from, told_nothing}
 use Rattle.pgcompared.specs.Sessions.{at_start}
 
 -- a frame, and what was told of it
@@ -23,22 +23,22 @@ pub record Step : Type 0 where
   pub frame : wire.Frame
   pub told : Told
 
--- before the first frame
-abbrev pub first_hearing : Version → ℕ → Past → Hearing
-first_hearing v limit past = record {
+-- before the first frame, with these commits noted, up to where others came
+abbrev pub first_hearing : Version → ℕ → Past → ℕ → Hearing
+first_hearing v limit past reached = record {
   version = v;
   limit = limit;
   session = at_start v limit;
-  noting = record { past = begun_session past; begun = false; equal = 0 };
+  noting = noting_from past reached 0;
   at = 0;
   lost = false;
 }
 
 -- the frames, the last one first, were heard one after the other
-abbrev pub Leads : Version → ℕ → ℕ → Past → List Step → Hearing → Type 0
-Leads v limit max past [] h = h ≡ first_hearing v limit past
-Leads v limit max past (x ∷ xs) h =
-    (before : Hearing) × Leads v limit max past xs before × wire.IsAllowed max x.frame
+abbrev pub Leads : Version → ℕ → ℕ → Past → ℕ → List Step → Hearing → Type 0
+Leads v limit max past reached [] h = h ≡ first_hearing v limit past reached
+Leads v limit max past reached (x ∷ xs) h =
+    (before : Hearing) × Leads v limit max past reached xs before × wire.IsAllowed max x.frame
     × Takes before x.frame (before.at + length (wire.frame x.frame)) h x.told
 
 abbrev pub bytes_of : List Step → List ℕ
@@ -84,10 +84,11 @@ StandsBehind max all steps c told false =
     IsGoing max all steps c.deframer c.hearing.at c.came × (told ≡ told_of steps)
 StandsBehind max all steps c told true = IsDeaf max all steps c.hearing told
 
--- These bytes came, with these commits noted before, and this was told of them.
-pub record IsCompared (v : Version) (limit max : ℕ) (past : Past) (all : List ℕ) (c : Compared) (told : List Told) : Type 0 where
+-- These bytes came, with these commits noted before, up to where others came, and this was told.
+pub record IsCompared (v : Version) (limit max : ℕ) (past : Past) (reached : ℕ) (all : List ℕ) (c : Compared) (told : List Told)
+    : Type 0 where
   pub steps : List Step
-  pub leads : Leads v limit max past steps c.hearing
+  pub leads : Leads v limit max past reached steps c.hearing
   pub max_is : c.deframer.max ≡ max
   pub limit_is : c.max_frame ≡ max
   pub stands : StandsBehind max all steps c told c.deaf

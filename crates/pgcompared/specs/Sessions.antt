@@ -1,7 +1,7 @@
 -- Logical Streaming Replication Protocol: what a session's messages do to what is kept of it, and
 -- which transactions commit.
 use Rattle.std.specs.Prelude.{◌≡◌, ℕ, ℤ, Bool, true, false, Option, Some, None, Result, Ok}
-use Rattle.std.specs.Prelude.{Err, pos, if◌then◌else◌}
+use Rattle.std.specs.Prelude.{Err, pos, nat_lt, length, if◌then◌else◌}
 use Rattle.pglogical.specs.declared.message.Item.{Item}
 use Rattle.pglogical.specs.declared.message.Item.TheVariants as item
 use Rattle.pglogical.specs.declared.message.Message.{Message}
@@ -24,12 +24,13 @@ use Rattle.pgcompared.specs.declared.session.Session.{Session}
 use Rattle.pgcompared.specs.Streams.{Opened, closed, digest_at, none_opened, with_block}
 use Rattle.pgcompared.specs.Streams.{with_block_item, with_cut, with_item, without_block}
 
+-- an item changes something: a Truncate of no table doesn't
 abbrev pub is_change : Item → Bool
 is_change (item.Relation def) = false
 is_change (item.Insert oid row) = true
 is_change (item.Update oid prior row) = true
 is_change (item.Delete oid kind row) = true
-is_change (item.Truncate options oids) = true
+is_change (item.Truncate options oids) = nat_lt 0 (length oids)
 
 -- the change that an item is, as it is encoded outside blocks
 abbrev pub change_in : Item → Option Change

@@ -43,7 +43,7 @@ impl Compared {
     /// another subtransaction begin. One with more isn't compared: at its commit all is forgotten.
     pub fn new(alloc: Global, version: Version, max_frame: u32, limit: u64, past: Past) -> Compared
         requires { max_frame ≤ 2147483643 }
-        ensures { IsCompared version limit max_frame past [] result [] }
+        ensures { IsCompared version limit max_frame past 0 [] result [] }
     {
         Compared {
             max_frame,
@@ -52,6 +52,16 @@ impl Compared {
             came: 0,
             deaf: false,
         }
+    }
+
+    /// Before the first byte of all: commits came up to here, and those that end above all that is
+    /// noted may not be noted. Before this call all that came is noted.
+    pub fn reach(&mut self, reached: u64)
+        ensures { (v : OfVersion) (limit max : ℕ) (past : PastCommits) (before : ℕ)
+            (told : List Answered) → IsCompared v limit max past before [] self.old told →
+            IsCompared v limit max past reached [] self.new told }
+    {
+        self.hearing.noting.reach(reached);
     }
 
     /// What is noted.
@@ -74,9 +84,10 @@ impl Compared {
         requires some { 0 < length piece.now }
         requires untold { told.old ≡ told_nothing false }
         ensures count { (result ≤ length piece.now) × (0 < result) }
-        ensures compared { (v : OfVersion) (limit max : ℕ) (past : PastCommits) (all : List ℕ)
-            (before : List Answered) → IsCompared v limit max past all self.old before →
-            IsCompared v limit max past (all ++ take result piece.now) self.new
+        ensures compared { (v : OfVersion) (limit max : ℕ) (past : PastCommits)
+            (reached : ℕ) (all : List ℕ) (before : List Answered) →
+            IsCompared v limit max past reached all self.old before →
+            IsCompared v limit max past reached (all ++ take result piece.now) self.new
             (before ++ spoken told.new) }
     {
         if self.deaf {
@@ -128,9 +139,10 @@ impl Compared {
         requires whole { self.old.deaf ≡ false }
         requires untold { told.old ≡ told_nothing false }
         ensures count { (result ≤ length piece.now) × (0 < result) }
-        ensures compared { (v : OfVersion) (limit max : ℕ) (past : PastCommits) (all : List ℕ)
-            (before : List Answered) → IsCompared v limit max past all self.old before →
-            IsCompared v limit max past (all ++ take result piece.now) self.new
+        ensures compared { (v : OfVersion) (limit max : ℕ) (past : PastCommits)
+            (reached : ℕ) (all : List ℕ) (before : List Answered) →
+            IsCompared v limit max past reached all self.old before →
+            IsCompared v limit max past reached (all ++ take result piece.now) self.new
             (before ++ spoken told.new) }
     {
         let count = match self.deframer.feed(piece) {

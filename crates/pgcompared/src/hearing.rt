@@ -32,9 +32,9 @@ pub(crate) struct Hearing {
 }
 
 impl Hearing {
-    /// None has come. This is noted before.
+    /// None has come. This is all that came before.
     pub(crate) fn new(alloc: Global, version: Version, limit: u64, past: Past) -> Hearing
-        ensures { result ≡ first_hearing version limit past }
+        ensures { result ≡ first_hearing version limit past 0 }
     {
         Hearing {
             version,

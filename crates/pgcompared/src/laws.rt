@@ -2,7 +2,8 @@
 //! their contracts are the laws.
 
 ghost use Rattle.pgcompared.specs.HeardSessions.{SessionsAreHeard};
-ghost use Rattle.pgcompared.specs.Laws.{EndedAreCommits, SessionsAreNotContradicted};
+ghost use Rattle.pgcompared.specs.Laws.{EndedAreCommits, LivesAreNotContradicted};
+ghost use Rattle.pgcompared.specs.Laws.{SessionsAreNotContradicted};
 
 /// The frames of a session that isn't lost are heard message by message, and the transactions that
 /// commit are told of.
@@ -17,7 +18,13 @@ pub fn ended_are_commits()
 {}
 
 /// No alarm is false: no commit of a session of the history of which the noted ones are is
-/// contradicted, whatever they lost at their end.
+/// contradicted.
 pub fn sessions_are_not_contradicted()
     ensures { SessionsAreNotContradicted }
+{}
+
+/// Nor is one of a whole life of sessions, each of which starts at most where the store is,
+/// whatever is lost of what was noted up to where it was at first.
+pub fn lives_are_not_contradicted()
+    ensures { LivesAreNotContradicted }
 {}

@@ -5,6 +5,7 @@
 //!
 //! ```text
 //! let mut compared = Compared::new(alloc, Version::Two, MAX_FRAME, 65_536, past);
+//! compared.reach(position);               // that of the store, which may be above all in `past`
 //! let mut told = Told::nothing(false);
 //! let count = compared.hear_front(piece, &mut told);      // up to the end of one frame
 //! match told.found {
@@ -31,5 +32,6 @@ mod stream;
 pub use compared::Compared;
 pub use finding::{Finding, Lost};
 pub use front::{HEADER_LEN, front_payload};
-pub use laws::{ended_are_commits, sessions_are_heard, sessions_are_not_contradicted};
+pub use laws::{ended_are_commits, lives_are_not_contradicted};
+pub use laws::{sessions_are_heard, sessions_are_not_contradicted};
 pub use noting::Told;

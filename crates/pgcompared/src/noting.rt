@@ -1,10 +1,10 @@
 //! The commits of sessions, told to what is noted.
 
-ghost use Rattle.std.specs.Prelude.{◌≡◌, None, Some, true, false, ◌⊎◌};
+ghost use Rattle.std.specs.Prelude.{◌≡◌, None, Some, true, false, ◌⊎◌, nat_le};
 ghost use Rattle.pgrepeats.specs.Past.{Answers, Contradicts, IsForgotten};
 ghost use Rattle.pgcompared.specs.declared.finding.Finding.TheVariants as finding;
 ghost use Rattle.pgcompared.specs.Noting.{BeginsSession, ForgetsIf, HearsEnded, is_above};
-ghost use Rattle.pgcompared.specs.Noting.{Restarts, Tells, begun_session, equal_with, noted_by};
+ghost use Rattle.pgcompared.specs.Noting.{Restarts, Tells, equal_with, noted_by, noting_from};
 ghost use Rattle.pgcompared.specs.Noting.{told_nothing};
 ghost use Rattle.pgcompared.specs.Frames.{lost_at};
 
@@ -12,11 +12,14 @@ use crate::finding::{Finding, Lost};
 use crate::session::Ended;
 use pgrepeats::{Answer, Commit, Past, Trouble};
 
-/// What is noted, and whether a commit was heard.
+/// What is noted, and up to where commits came.
 #[derive(Drop)]
 pub(crate) struct Noting {
     pub(crate) past: Past,
-    begun: bool,
+    // up to here commits came that may not be noted
+    reached: u64,
+    // none that came is missing between what is noted and what the session sends above it
+    is_whole: bool,
     equal: u64,
 }
 
@@ -57,16 +60,28 @@ impl Told {
 }
 
 impl Noting {
-    /// This is noted, and no commit was heard.
+    /// This is all that came.
     pub(crate) fn new(mut past: Past) -> Noting
-        ensures { result ≡ record { past = begun_session past; begun = false; equal = 0 } }
+        ensures { result ≡ noting_from past 0 0 }
     {
         past.begin_session();
         Noting {
             past,
-            begun: false,
+            reached: 0,
+            is_whole: true,
             equal: 0,
         }
+    }
+
+    /// Before the first commit: others came up to here, which may not be noted.
+    pub(crate) fn reach(&mut self, reached: u64)
+        ensures { self.new ≡ record self.old {
+          reached = reached;
+          is_whole = nat_le reached self.old.past.newest;
+        } }
+    {
+        self.reached = reached;
+        self.is_whole = reached <= self.past.newest();
     }
 
     /// How many commits came before, just so.
@@ -76,43 +91,47 @@ impl Noting {
         self.equal
     }
 
-    /// The next session begins. Of the last one's commits some aren't noted where it `forgets`.
+    /// The next session begins. Of the last one's commits some aren't noted where it `forgets`,
+    /// and nobody knows up to where these came.
     pub(crate) fn begin_session(&mut self, forgets: bool)
         ensures { BeginsSession forgets self.old self.new }
     {
         forget_if(&mut self.past, forgets);
         self.past.begin_session();
+        let reached = if forgets { u64::MAX } else { self.reached };
+        self.reach(reached);
     }
 
     /// Hears a transaction that commits with the frame `at`.
     ///
     /// Commits may have come that aren't noted: what was noted may have lost its end in a crash, or
-    /// a run noted nothing. They end above all that is noted. Where the first commit that is heard
-    /// ends there too, some before it may be missing, and all is forgotten. Where it ends at or
-    /// below, its session sends each one behind it, those that aren't noted too.
+    /// a run noted nothing. They end above all that is noted. Where a session's first commit ends
+    /// there too, some before it may be missing, and all is forgotten. Where it ends at or below,
+    /// the session sends each one behind it, those that aren't noted too.
     pub(crate) fn hear(&mut self, at: u64, ended: Ended) -> Told
         ensures { HearsEnded self.old at ended self.new result }
     {
         match ended {
-            Ended::Over { .. } => {
-                self.begun = true;
+            Ended::Over { end } => {
+                self.reached = self.reached.max(end);
+                self.is_whole = true;
                 self.past.forget();
                 Told::nothing(true)
             }
             Ended::Whole(commit) => {
                 let forgot = self.is_above(commit);
-                self.begun = true;
+                self.is_whole = true;
                 forget_if(&mut self.past, forgot);
                 self.tell(at, commit, forgot)
             }
         }
     }
 
-    // Whether it is the first commit that is heard, and ends above all that is noted.
+    // Whether some that came may be missing between it and what is noted, below it.
     fn is_above(&self, commit: Commit) -> bool
         ensures { result ≡ is_above self.now commit }
     {
-        !self.begun && self.past.newest() < commit.end
+        !self.is_whole && self.past.newest() < commit.end
     }
 
     // Compares a commit.

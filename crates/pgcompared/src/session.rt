@@ -192,6 +192,7 @@ fn change_of(item: &ItemRef<'_>, front: &[u8], back: &[u8]) -> Option<Change>
     }
 }
 
+// Whether an item changes something: a Truncate of no table doesn't.
 fn is_change(item: &ItemRef<'_>) -> bool
     ensures { result ≡ is_change item.now }
 {
@@ -200,7 +201,7 @@ fn is_change(item: &ItemRef<'_>) -> bool
         ItemParts::Insert { .. } => true,
         ItemParts::Update { .. } => true,
         ItemParts::Delete { .. } => true,
-        ItemParts::Truncate { .. } => true,
+        ItemParts::Truncate { oids, .. } => oids.len() > 0,
     }
 }
 

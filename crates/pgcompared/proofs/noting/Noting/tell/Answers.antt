@@ -12,13 +12,14 @@ returns-in-Ok-hear c = (
       c.in-Err-Contradicted.ensures).0,
   (
     record c.args.self.now { past = c.restart.new.self },
-    (_, c.restart.ensures, refl, refl),
+    (_, c.restart.ensures, refl, refl, refl),
     record {
       answer = c.in-Ok-hear.answer;
       is =
           subst (λ (x : Noting). Answers c.restart.new.self c.args.commit x.past (Ok c.in-Ok-hear.answer))
           (sym c.answer-in-Ok-hear.ensures.new) c.in-Ok-hear.ensures;
-      begun = ap (λ (x : Noting). x.begun) c.answer-in-Ok-hear.ensures.new;
+      reached = ap (λ (x : Noting). x.reached) c.answer-in-Ok-hear.ensures.new;
+      whole = ap (λ (x : Noting). x.is_whole) c.answer-in-Ok-hear.ensures.new;
       equal = ap (λ (x : Noting). x.equal) c.answer-in-Ok-hear.ensures.new;
       forgot_is = ap (λ (x : Told). x.forgot) c.answer-in-Ok-hear.ensures.told;
       noted = ap (λ (x : Told). x.noted) c.answer-in-Ok-hear.ensures.told;
