@@ -27,12 +27,12 @@ all_push : (hs : List Told) (h : Told) → AllByRecursion IsAgreed hs → IsAgre
 all_push [] h all is = (is, tt)
 all_push (g ∷ hs) h all is = (all.0, all_push hs h all.1 is)
 
-heard_push : (v : Version) (limit max : ℕ) (past : Past) (bytes : List ℕ) (c : Compared) (hs : List Told) (h : Told)
-    → IsCompared v limit max past bytes c
+heard_push : (v : Version) (limit max : ℕ) (past : Past) (reached : ℕ) (bytes : List ℕ) (c : Compared) (hs : List Told) (h : Told)
+    → IsCompared v limit max past reached bytes c
     (flat_map spoken hs ++ spoken h)
-    → HasHeard v limit max past bytes c (hs ++ h ∷ [])
-heard_push v limit max past bytes c hs h is =
-    subst (IsCompared v limit max past bytes c) (flat_map_more spoken [] hs h) is
+    → HasHeard v limit max past reached bytes c (hs ++ h ∷ [])
+heard_push v limit max past reached bytes c hs h is =
+    subst (IsCompared v limit max past reached bytes c) (flat_map_more spoken [] hs h) is
 
 none_before : (part rest : List ℕ) → 1 ≤ length part → [] ≡ part ++ rest → ⊥
 none_before part rest some e = omega (arith, some, ap (λ (xs : List ℕ). length xs) e, length-append part rest)
@@ -62,73 +62,73 @@ module _ {F L : Type 0} {ghosts : notes_file.Ghosts F} (holds : F → List ℕ �
       go true e = inl (e, (ok e).0, (ok e).1, refl)
       go false e = inr (inr (e, ap (λ (n : Notes F ghosts). (n, l)) (ended e)))
 
-  module _ (v : Version) (limit max : ℕ) (past : Past) (first : Notes F ghosts × L) (stops : Bool) (given : List ℕ) where
+  module _ (v : Version) (limit max : ℕ) (past : Past) (reached : ℕ) (first : Notes F ghosts × L) (stops : Bool) (given : List ℕ) where
     -- at the start
-    pub begins : (now : Compared) → IsCompared v limit max past [] now [] → given ≡ []
-        → IsHanded holds hears loses v limit max past first stops given [] [] now first
+    pub begins : (now : Compared) → IsCompared v limit max past reached [] now [] → given ≡ []
+        → IsHanded holds hears loses v limit max past reached first stops given [] [] now first
     begins now is none = record {
       before = now;
       well = [];
       mid = first;
       goes = refl;
-      compared = subst (λ (xs : List ℕ). HasHeard v limit max past (xs ++ []) now []) (sym none) is;
+      compared = subst (λ (xs : List ℕ). HasHeard v limit max past reached (xs ++ []) now []) (sym none) is;
       agreed = λ asked. tt;
       state = inl (refl, refl, refl);
     }
 
     -- what is handed on isn't ahead any more
     pub handed : (front ahead behind : List ℕ) (now : Compared) (kept : Notes F ghosts × L)
-        → IsHanded holds hears loses v limit max past first stops given (front ++ ahead) behind now kept
-        → IsHanded holds hears loses v limit max past first stops (given ++ front) ahead behind now kept
+        → IsHanded holds hears loses v limit max past reached first stops given (front ++ ahead) behind now kept
+        → IsHanded holds hears loses v limit max past reached first stops (given ++ front) ahead behind now kept
     handed front ahead behind now kept g =
         let same = sym (append_assoc given front ahead) in record {
           before = g.before;
           well = g.well;
           mid = g.mid;
           goes = g.goes;
-          compared = subst (λ (xs : List ℕ). HasHeard v limit max past xs g.before g.well) same g.compared;
+          compared = subst (λ (xs : List ℕ). HasHeard v limit max past reached xs g.before g.well) same g.compared;
           agreed = g.agreed;
           state = subst (λ (xs : List ℕ). IsOpen behind g.before now g.mid kept
-              ⊎ HasStopped hears v limit max past stops xs behind now g.well g.mid kept) same g.state;
+              ⊎ HasStopped hears v limit max past reached stops xs behind now g.well g.mid kept) same g.state;
         }
 
     module _ (ahead : List ℕ) (now : Compared) (kept : Notes F ghosts × L)
-        (g : IsHanded holds hears loses v limit max past first stops given ahead [] now kept) where
+        (g : IsHanded holds hears loses v limit max past reached first stops given ahead [] now kept) where
       open_is : IsOpen [] g.before now g.mid kept
       open_is = go g.state
         where
-          go : IsOpen [] g.before now g.mid kept ⊎ HasStopped hears v limit max past stops (given ++ ahead) [] now g.well g.mid kept
+          go : IsOpen [] g.before now g.mid kept ⊎ HasStopped hears v limit max past reached stops (given ++ ahead) [] now g.well g.mid kept
               → IsOpen [] g.before now g.mid kept
           go (inl it) = it
           go (inr s) = absurd (none_before s.part s.rest s.some s.parts)
 
-      pub compared_now : HasHeard v limit max past (given ++ ahead) now g.well
-      compared_now = subst (λ x. HasHeard v limit max past (given ++ ahead) x g.well) (sym open_is.1) g.compared
+      pub compared_now : HasHeard v limit max past reached (given ++ ahead) now g.well
+      compared_now = subst (λ x. HasHeard v limit max past reached (given ++ ahead) x g.well) (sym open_is.1) g.compared
 
       goes_now : Goes holds hears loses g.well first kept
       goes_now = subst (λ (x : Notes F ghosts × L). Goes holds hears loses g.well first x) (sym open_is.2) g.goes
 
       -- it goes on
       pub goes_on : (part : List ℕ) (next : Compared) (h : Told) (l : L) (new : Notes F ghosts × L)
-          → IsCompared v limit max past ((given ++ ahead) ++ part) next (flat_map spoken g.well ++ spoken h)
+          → IsCompared v limit max past reached ((given ++ ahead) ++ part) next (flat_map spoken g.well ++ spoken h)
           → (stops ≡ true → contradicts h.found ≡ false) → Tells hears h.found kept.1 l → KeepsTold holds loses h (kept.0, l) new
-          → IsHanded holds hears loses v limit max past first stops given (ahead ++ part) [] next new
+          → IsHanded holds hears loses v limit max past reached first stops given (ahead ++ part) [] next new
       goes_on part next h l new is whole tells keeps = record {
         before = next;
         well = g.well ++ h ∷ [];
         mid = new;
         goes = goes_push g.well h first kept l new goes_now tells keeps;
-        compared = subst (λ (xs : List ℕ). HasHeard v limit max past xs next (g.well ++ h ∷ [])) (append_assoc given ahead part)
-            (heard_push v limit max past ((given ++ ahead) ++ part) next g.well h is);
+        compared = subst (λ (xs : List ℕ). HasHeard v limit max past reached xs next (g.well ++ h ∷ [])) (append_assoc given ahead part)
+            (heard_push v limit max past reached ((given ++ ahead) ++ part) next g.well h is);
         agreed = λ asked. all_push g.well h (g.agreed asked) (whole asked);
         state = inl (refl, refl, refl);
       }
 
       -- a commit contradicts those before it, and it stops
       pub stops_here : (part rest : List ℕ) (next : Compared) (h : Told) (l : L) → 1 ≤ length part
-          → IsCompared v limit max past ((given ++ ahead) ++ part) next (flat_map spoken g.well ++ spoken h) → stops ≡ true
+          → IsCompared v limit max past reached ((given ++ ahead) ++ part) next (flat_map spoken g.well ++ spoken h) → stops ≡ true
           → contradicts h.found ≡ true → Tells hears h.found kept.1 l
-          → IsHanded holds hears loses v limit max past first stops given ahead (part ++ rest) next (kept.0, l)
+          → IsHanded holds hears loses v limit max past reached first stops given ahead (part ++ rest) next (kept.0, l)
       stops_here part rest next h l some is asked breaks tells = record {
         before = now;
         well = g.well;
@@ -143,12 +143,31 @@ module _ {F L : Type 0} {ghosts : notes_file.Ghosts F} (holds : F → List ℕ �
           rest = rest;
           some = some;
           parts = refl;
-          compared = heard_push v limit max past ((given ++ ahead) ++ part) next g.well h is;
+          compared = heard_push v limit max past reached ((given ++ ahead) ++ part) next g.well h is;
           breaks = breaks;
           notes_are = refl;
           told = tells;
         });
       }
+
+    -- before any byte came, where others had come up to another place
+    pub reaches : (now new : Compared) (kept : Notes F ghosts × L) (more : ℕ) → given ≡ []
+        → ((told : List Told) → IsCompared v limit max past reached [] now told → IsCompared v limit max past more [] new told)
+        → IsHanded holds hears loses v limit max past reached first stops given [] [] now kept
+        → IsHanded holds hears loses v limit max past more first stops given [] [] new kept
+    reaches now new kept more none moves g =
+        let heard : HasHeard v limit max past reached [] now g.well =
+        subst (λ (xs : List ℕ). HasHeard v limit max past reached (xs ++ []) now g.well) none (compared_now [] now kept g) in
+        record {
+          before = new;
+          well = g.well;
+          mid = kept;
+          goes = goes_now [] now kept g;
+          compared = subst (λ (xs : List ℕ). HasHeard v limit max past more (xs ++ []) new g.well) (sym none)
+              (moves (flat_map spoken g.well) heard);
+          agreed = g.agreed;
+          state = inl (refl, refl, refl);
+        }
 
 -- ---- the bytes of a piece
 

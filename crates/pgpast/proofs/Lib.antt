@@ -1,4 +1,5 @@
 pub mod Fields
+pub mod Flushed
 pub mod Chains
 pub mod Handings
 pub mod Keeping

@@ -34,8 +34,8 @@ abbrev pub IsAgreed : Told → Type 0
 IsAgreed t = contradicts t.found ≡ false
 
 -- these bytes came, in pieces of which the fronts gave this
-abbrev pub HasHeard : Version → ℕ → ℕ → Past → List ℕ → Compared → List Told → Type 0
-HasHeard v limit max past all c told = IsCompared v limit max past all c (flat_map spoken told)
+abbrev pub HasHeard : Version → ℕ → ℕ → Past → ℕ → List ℕ → Compared → List Told → Type 0
+HasHeard v limit max past reached all c told = IsCompared v limit max past reached all c (flat_map spoken told)
 
 -- a listener is told what is found
 abbrev pub Tells : {L : Type 0} → (L → Finding → L → Type 0) → Option Finding → L → L → Type 0
@@ -66,8 +66,7 @@ IsOpen behind before now mid kept = (behind ≡ []) × (now ≡ before) × (kept
 -- It has stopped: what is kept back begins with the bytes that complete the frame of a commit that
 -- contradicts those before it. That was told, and the commit isn't noted.
 pub record HasStopped {F L : Type 0} {g : notes_file.Ghosts F} (hears : L → Finding → L → Type 0) (v : Version) (limit max : ℕ)
-    (past : Past) (stops : Bool)
-    (safe behind : List ℕ) (now : Compared) (well : List Told) (mid kept : Notes F g × L)
+    (past : Past) (reached : ℕ) (stops : Bool) (safe behind : List ℕ) (now : Compared) (well : List Told) (mid kept : Notes F g × L)
     : Type 0 where
   pub asked : stops ≡ true
   pub last : Told
@@ -75,22 +74,40 @@ pub record HasStopped {F L : Type 0} {g : notes_file.Ghosts F} (hears : L → Fi
   pub rest : List ℕ
   pub some : 1 ≤ length part
   pub parts : behind ≡ part ++ rest
-  pub compared : HasHeard v limit max past (safe ++ part) now (well ++ last ∷ [])
+  pub compared : HasHeard v limit max past reached (safe ++ part) now (well ++ last ∷ [])
   pub breaks : contradicts last.found ≡ true
   pub notes_are : kept.0 ≡ mid.0
   pub told : Tells hears last.found mid.1 kept.1
 
 -- These bytes were handed on, these may be next, and these were read and are kept back: the first
 -- two are compared, each session from its first byte on, and what was told of them was passed on
--- and noted, from the notes and the listener that were there at first. Where it is asked to stop,
--- no commit of them contradicts those before it.
+-- and noted, from the notes and the listener that were there at first, and up to where commits had
+-- come. Where it is asked to stop, no commit of them contradicts those before it.
 pub record IsHanded {F L : Type 0} {g : notes_file.Ghosts F} (holds : F → List ℕ → Type 0) (hears : L → Finding → L → Type 0)
-    (loses : L → L → Type 0) (v : Version) (limit max : ℕ) (past : Past) (first : Notes F g × L) (stops : Bool)
+    (loses : L → L → Type 0) (v : Version) (limit max : ℕ) (past : Past) (reached : ℕ) (first : Notes F g × L) (stops : Bool)
     (given ahead behind : List ℕ) (now : Compared) (kept : Notes F g × L) : Type 0 where
   pub before : Compared
   pub well : List Told
   pub mid : Notes F g × L
   pub goes : Goes holds hears loses well first mid
-  pub compared : HasHeard v limit max past (given ++ ahead) before well
+  pub compared : HasHeard v limit max past reached (given ++ ahead) before well
   pub agreed : stops ≡ true → AllByRecursion IsAgreed well
-  pub state : IsOpen behind before now mid kept ⊎ HasStopped hears v limit max past stops (given ++ ahead) behind now well mid kept
+  pub state : IsOpen behind before now mid kept
+      ⊎ HasStopped hears v limit max past reached stops (given ++ ahead) behind now well mid kept
+
+-- ---- up to where commits had come
+
+-- as the store says, once it was asked
+abbrev pub reached_of : Option ℕ → ℕ
+reached_of None = 0
+reached_of (Some reached) = reached
+
+-- it is asked before any byte comes
+abbrev pub IsAskedFirst : Option ℕ → List ℕ → Type 0
+IsAskedFirst None bytes = bytes ≡ []
+IsAskedFirst (Some reached) bytes = Unit {0}
+
+-- it is asked once
+abbrev pub Asks : {P : Type 0} → (P → ℕ → Type 0) → P → Option ℕ → Option ℕ → Type 0
+Asks says store None new = (reached : ℕ) × (new ≡ Some reached) × says store reached
+Asks says store (Some reached) new = new ≡ Some reached

@@ -11,12 +11,13 @@ ghost use Rattle.pgorder.specs.declared.Version.{Version};
 ghost use Rattle.pgrepeats.specs.declared.past.Past.{Past as Noted};
 ghost use Rattle.pgcompared.specs.Live.{IsCompared};
 ghost use Rattle.pgcompared.specs.declared.finding.Finding.{Finding as Found};
-ghost use Rattle.pgpast.specs.Handing.{IsHanded, KeepsTold, Tells, ahead_of, behind_of};
-ghost use Rattle.pgpast.specs.Handing.{contradicts, part_of};
+ghost use Rattle.pgpast.specs.Handing.{Asks, IsAskedFirst, IsHanded, KeepsTold, Tells};
+ghost use Rattle.pgpast.specs.Handing.{ahead_of, behind_of, contradicts, part_of, reached_of};
 
 use crate::file::NotesFile;
 use crate::lines::Counts;
 use crate::notes::Notes;
+use crate::position::StorePosition;
 use pgcompared::{Compared, Finding, Told};
 use std::alloc::{AllocError, Global};
 use std::io;
@@ -45,16 +46,27 @@ pub trait RepeatListener {
 /// A reader that hands on what another one gives, compares the commits that come with those that
 /// came before, notes them, and tells a listener what is found.
 ///
+/// At the first read it asks for the store's position. Where what is noted ends below that, commits
+/// came that aren't noted.
+///
 /// One that stops hands on nothing of the frame of a commit that contradicts those before, from the
 /// read on that completes it, and doesn't note it: it hands on what came before, and then each read
 /// fails. So the next run finds the same.
 #[derive(Drop)]
-pub struct Comparing<R: Read + Drop, F: NotesFile + Drop, L: RepeatListener + Drop> {
+pub struct Comparing<
+    R: Read + Drop,
+    F: NotesFile + Drop,
+    L: RepeatListener + Drop,
+    P: StorePosition + Drop,
+> {
     reader: R,
     notes: Notes<F>,
     listener: L,
+    store: P,
     compared: Compared,
     stops: bool,
+    // The store's position, once it was asked for.
+    reached: Option<u64>,
     // What was read last ends at `len`. Up to `from` it was handed on, and up to `safe` it may be.
     room: Vec<u8>,
     from: usize,
@@ -96,7 +108,12 @@ fn keep<F: NotesFile + Drop, L: RepeatListener>(notes: &mut Notes<F>, listener: 
     }
 }
 
-impl<R: Read + Drop, F: NotesFile + Drop, L: RepeatListener + Drop> Comparing<R, F, L> {
+impl<
+    R: Read + Drop,
+    F: NotesFile + Drop,
+    L: RepeatListener + Drop,
+    P: StorePosition + Drop,
+> Comparing<R, F, L, P> {
     /// One of which nothing is read yet. With `stops` it stops at a contradiction.
     ///
     /// # Errors
@@ -106,14 +123,17 @@ impl<R: Read + Drop, F: NotesFile + Drop, L: RepeatListener + Drop> Comparing<R,
         alloc: Global,
         reader: R,
         listener: L,
+        store: P,
         compared: Compared,
         notes: Notes<F>,
         stops: bool,
-    ) -> Result<Comparing<R, F, L>, AllocError>
+    ) -> Result<Comparing<R, F, L, P>, AllocError>
         ensures reader { IfOk result (λ it. (it.reader ≡ reader) × (it.stops ≡ stops)) }
-        ensures handed { (v : Version) (limit max : ℕ) (past : Noted) →
-            IsCompared v limit max past [] compared [] →
-            IfOk result (λ it. IsHanded F.holds L.hears L.loses v limit max past
+        ensures unread { IfOk result (λ it. (it.store ≡ store) × (it.reached ≡ None)
+            × (part_of it.room.items it.from it.len ≡ [])) }
+        ensures handed { (v : Version) (limit max : ℕ) (past : Noted) (reached : ℕ) →
+            IsCompared v limit max past reached [] compared [] →
+            IfOk result (λ it. IsHanded F.holds L.hears L.loses v limit max past reached
             (notes, listener) stops []
             (ahead_of it.room.items it.from it.safe it.len)
             (behind_of it.room.items it.from it.safe it.len) it.compared (it.notes, it.listener)) }
@@ -123,8 +143,10 @@ impl<R: Read + Drop, F: NotesFile + Drop, L: RepeatListener + Drop> Comparing<R,
             reader,
             notes,
             listener,
+            store,
             compared,
             stops,
+            reached: None,
             room,
             from: 0,
             safe: 0,
@@ -155,6 +177,36 @@ impl<R: Read + Drop, F: NotesFile + Drop, L: RepeatListener + Drop> Comparing<R,
         }
     }
 
+    // Asks at the first read up to where the store has all that came.
+    fn ask(&mut self)
+        ensures asks { Asks P.says self.old.store self.old.reached self.new.reached }
+        ensures stops { self.new.stops ≡ self.old.stops }
+        ensures same { self.new ≡ record self.old {
+          compared = self.new.compared;
+          reached = self.new.reached;
+        } }
+        ensures handed { (v : Version) (limit max : ℕ) (past : Noted) (first : _)
+            (given : List ℕ) →
+            IsAskedFirst self.old.reached
+            (given ++ part_of self.old.room.items self.old.from self.old.len) →
+            IsHanded F.holds L.hears L.loses v limit max past
+            (reached_of self.old.reached) first self.old.stops given
+            (ahead_of self.old.room.items self.old.from self.old.safe self.old.len)
+            (behind_of self.old.room.items self.old.from self.old.safe self.old.len)
+            self.old.compared (self.old.notes, self.old.listener) →
+            IsHanded F.holds L.hears L.loses v limit max past
+            (reached_of self.new.reached) first self.new.stops given
+            (ahead_of self.new.room.items self.new.from self.new.safe self.new.len)
+            (behind_of self.new.room.items self.new.from self.new.safe self.new.len)
+            self.new.compared (self.new.notes, self.new.listener) }
+    {
+        if self.reached.is_none() {
+            let reached = self.store.position();
+            self.compared.reach(reached);
+            self.reached = Some(reached);
+        }
+    }
+
     // Hears the front of what was read behind `taken`, up to the end of one frame, and returns how
     // many bytes that is; none where it stops before them.
     fn hear_front(&mut self, taken: usize, len: usize) -> Option<usize>
@@ -165,21 +217,21 @@ impl<R: Read + Drop, F: NotesFile + Drop, L: RepeatListener + Drop> Comparing<R,
           notes = self.new.notes;
           listener = self.new.listener;
         } }
-        ensures goes_on { (v : Version) (limit max : ℕ) (past : Noted) (first : _)
-            (given : List ℕ) →
-            IsHanded F.holds L.hears L.loses v limit max past first
+        ensures goes_on { (v : Version) (limit max : ℕ) (past : Noted) (reached : ℕ)
+            (first : _) (given : List ℕ) →
+            IsHanded F.holds L.hears L.loses v limit max past reached first
             self.old.stops given (take taken self.old.room.items) []
             self.old.compared (self.old.notes, self.old.listener) →
-            IfSome result (λ n. IsHanded F.holds L.hears L.loses v limit max past first
+            IfSome result (λ n. IsHanded F.holds L.hears L.loses v limit max past reached first
             self.old.stops given
             (take (taken + n) self.old.room.items) [] self.new.compared
             (self.new.notes, self.new.listener)) }
-        ensures stops { (v : Version) (limit max : ℕ) (past : Noted) (first : _)
-            (given : List ℕ) →
-            IsHanded F.holds L.hears L.loses v limit max past first
+        ensures stops { (v : Version) (limit max : ℕ) (past : Noted) (reached : ℕ)
+            (first : _) (given : List ℕ) →
+            IsHanded F.holds L.hears L.loses v limit max past reached first
             self.old.stops given (take taken self.old.room.items) []
             self.old.compared (self.old.notes, self.old.listener) → result ≡ None →
-            IsHanded F.holds L.hears L.loses v limit max past first
+            IsHanded F.holds L.hears L.loses v limit max past reached first
             self.old.stops given (take taken self.old.room.items)
             (drop taken (take len self.old.room.items)) self.new.compared
             (self.new.notes, self.new.listener) }
@@ -205,12 +257,12 @@ impl<R: Read + Drop, F: NotesFile + Drop, L: RepeatListener + Drop> Comparing<R,
           notes = self.new.notes;
           listener = self.new.listener;
         } }
-        ensures handed { (v : Version) (limit max : ℕ) (past : Noted) (first : _)
-            (given : List ℕ) →
-            IsHanded F.holds L.hears L.loses v limit max past first
+        ensures handed { (v : Version) (limit max : ℕ) (past : Noted) (reached : ℕ)
+            (first : _) (given : List ℕ) →
+            IsHanded F.holds L.hears L.loses v limit max past reached first
             self.old.stops given [] [] self.old.compared
             (self.old.notes, self.old.listener) →
-            IsHanded F.holds L.hears L.loses v limit max past first
+            IsHanded F.holds L.hears L.loses v limit max past reached first
             self.old.stops given (take result self.old.room.items)
             (drop result (take len self.old.room.items)) self.new.compared
             (self.new.notes, self.new.listener) }
@@ -249,12 +301,13 @@ impl<R: Read + Drop, F: NotesFile + Drop, L: RepeatListener + Drop> Comparing<R,
         ensures none { result ≡ Ok false →
             part_of self.new.room.items self.new.from self.new.len ≡ [] }
         ensures stops { self.new.stops ≡ self.old.stops }
-        ensures handed { (v : Version) (limit max : ℕ) (past : Noted) (first : _)
-            (given : List ℕ) →
-            IsHanded F.holds L.hears L.loses v limit max past first
+        ensures asked { self.new.reached ≡ self.old.reached }
+        ensures handed { (v : Version) (limit max : ℕ) (past : Noted) (reached : ℕ)
+            (first : _) (given : List ℕ) →
+            IsHanded F.holds L.hears L.loses v limit max past reached first
             self.old.stops given [] [] self.old.compared
             (self.old.notes, self.old.listener) →
-            IsHanded F.holds L.hears L.loses v limit max past first
+            IsHanded F.holds L.hears L.loses v limit max past reached first
             self.old.stops given
             (ahead_of self.new.room.items self.new.from self.new.safe self.new.len)
             (behind_of self.new.room.items self.new.from self.new.safe self.new.len)
@@ -280,14 +333,15 @@ impl<R: Read + Drop, F: NotesFile + Drop, L: RepeatListener + Drop> Comparing<R,
         ensures none { result ≡ Ok false → IsAtEnd (R.remaining self.new.reader)
             × (part_of self.new.room.items self.new.from self.new.len ≡ []) }
         ensures stops { self.new.stops ≡ self.old.stops }
-        ensures handed { (v : Version) (limit max : ℕ) (past : Noted) (first : _)
-            (given : List ℕ) →
-            IsHanded F.holds L.hears L.loses v limit max past first
+        ensures asked { self.new.reached ≡ self.old.reached }
+        ensures handed { (v : Version) (limit max : ℕ) (past : Noted) (reached : ℕ)
+            (first : _) (given : List ℕ) →
+            IsHanded F.holds L.hears L.loses v limit max past reached first
             self.old.stops given
             (ahead_of self.old.room.items self.old.from self.old.safe self.old.len)
             (behind_of self.old.room.items self.old.from self.old.safe self.old.len)
             self.old.compared (self.old.notes, self.old.listener) →
-            IsHanded F.holds L.hears L.loses v limit max past first
+            IsHanded F.holds L.hears L.loses v limit max past reached first
             self.old.stops given
             (ahead_of self.new.room.items self.new.from self.new.safe self.new.len)
             (behind_of self.new.room.items self.new.from self.new.safe self.new.len)
@@ -323,13 +377,8 @@ impl<R: Read + Drop, F: NotesFile + Drop, L: RepeatListener + Drop> Comparing<R,
         self.from += count;
         count
     }
-}
-
-impl<R: Read + Drop, F: NotesFile + Drop, L: RepeatListener + Drop> Read for Comparing<R, F, L> {
-    ghost remaining = { λ it. prepend_known (part_of it.room.items it.from it.len)
-        (R.remaining it.reader) };
-
-    fn read(&mut self, buf: &mut [u8]) -> io::Result<usize>
+    // Reads where the store was asked.
+    fn read_on(&mut self, buf: &mut [u8]) -> io::Result<usize>
         ensures bound { ReadsAtMost result buf.new }
         ensures bytes { ReadConsumes
             (prepend_known (part_of self.old.room.items self.old.from self.old.len)
@@ -337,27 +386,28 @@ impl<R: Read + Drop, F: NotesFile + Drop, L: RepeatListener + Drop> Read for Com
             (prepend_known (part_of self.new.room.items self.new.from self.new.len)
             (R.remaining self.new.reader)) result buf.new }
         ensures stops { self.new.stops ≡ self.old.stops }
-        ensures handed { (v : Version) (limit max : ℕ) (past : Noted) (first : _)
-            (given : List ℕ) →
-            IsHanded F.holds L.hears L.loses v limit max past first
+        ensures asked { self.new.reached ≡ self.old.reached }
+        ensures handed { (v : Version) (limit max : ℕ) (past : Noted) (reached : ℕ)
+            (first : _) (given : List ℕ) →
+            IsHanded F.holds L.hears L.loses v limit max past reached first
             self.old.stops given
             (ahead_of self.old.room.items self.old.from self.old.safe self.old.len)
             (behind_of self.old.room.items self.old.from self.old.safe self.old.len)
             self.old.compared (self.old.notes, self.old.listener) →
-            IfOk result (λ n. IsHanded F.holds L.hears L.loses v limit max past first
+            IfOk result (λ n. IsHanded F.holds L.hears L.loses v limit max past reached first
             self.old.stops
             (given ++ take n buf.new)
             (ahead_of self.new.room.items self.new.from self.new.safe self.new.len)
             (behind_of self.new.room.items self.new.from self.new.safe self.new.len)
             self.new.compared (self.new.notes, self.new.listener)) }
-        ensures failed { (v : Version) (limit max : ℕ) (past : Noted) (first : _)
-            (given : List ℕ) →
-            IsHanded F.holds L.hears L.loses v limit max past first
+        ensures failed { (v : Version) (limit max : ℕ) (past : Noted) (reached : ℕ)
+            (first : _) (given : List ℕ) →
+            IsHanded F.holds L.hears L.loses v limit max past reached first
             self.old.stops given
             (ahead_of self.old.room.items self.old.from self.old.safe self.old.len)
             (behind_of self.old.room.items self.old.from self.old.safe self.old.len)
             self.old.compared (self.old.notes, self.old.listener) →
-            OnErr result (IsHanded F.holds L.hears L.loses v limit max past first
+            OnErr result (IsHanded F.holds L.hears L.loses v limit max past reached first
             self.old.stops given
             (ahead_of self.new.room.items self.new.from self.new.safe self.new.len)
             (behind_of self.new.room.items self.new.from self.new.safe self.new.len)
@@ -370,5 +420,58 @@ impl<R: Read + Drop, F: NotesFile + Drop, L: RepeatListener + Drop> Read for Com
             0 if !buf.is_empty() => Err(ErrorKind::Other.into()),
             count => Ok(count),
         }
+    }
+}
+
+impl<R: Read + Drop, F: NotesFile + Drop, L: RepeatListener + Drop, P: StorePosition + Drop> Read
+    for Comparing<R, F, L, P> {
+    ghost remaining = { λ it. prepend_known (part_of it.room.items it.from it.len)
+        (R.remaining it.reader) };
+
+    fn read(&mut self, buf: &mut [u8]) -> io::Result<usize>
+        ensures bound { ReadsAtMost result buf.new }
+        ensures bytes { ReadConsumes
+            (prepend_known (part_of self.old.room.items self.old.from self.old.len)
+            (R.remaining self.old.reader))
+            (prepend_known (part_of self.new.room.items self.new.from self.new.len)
+            (R.remaining self.new.reader)) result buf.new }
+        ensures stops { self.new.stops ≡ self.old.stops }
+        ensures asks { Asks P.says self.old.store self.old.reached self.new.reached }
+        ensures handed { (v : Version) (limit max : ℕ) (past : Noted) (first : _)
+            (given : List ℕ) →
+            IsAskedFirst self.old.reached
+            (given ++ part_of self.old.room.items self.old.from self.old.len) →
+            IsHanded F.holds L.hears L.loses v limit max past
+            (reached_of self.old.reached) first
+            self.old.stops given
+            (ahead_of self.old.room.items self.old.from self.old.safe self.old.len)
+            (behind_of self.old.room.items self.old.from self.old.safe self.old.len)
+            self.old.compared (self.old.notes, self.old.listener) →
+            IfOk result (λ n. IsHanded F.holds L.hears L.loses v limit max past
+            (reached_of self.new.reached) first
+            self.old.stops
+            (given ++ take n buf.new)
+            (ahead_of self.new.room.items self.new.from self.new.safe self.new.len)
+            (behind_of self.new.room.items self.new.from self.new.safe self.new.len)
+            self.new.compared (self.new.notes, self.new.listener)) }
+        ensures failed { (v : Version) (limit max : ℕ) (past : Noted) (first : _)
+            (given : List ℕ) →
+            IsAskedFirst self.old.reached
+            (given ++ part_of self.old.room.items self.old.from self.old.len) →
+            IsHanded F.holds L.hears L.loses v limit max past
+            (reached_of self.old.reached) first
+            self.old.stops given
+            (ahead_of self.old.room.items self.old.from self.old.safe self.old.len)
+            (behind_of self.old.room.items self.old.from self.old.safe self.old.len)
+            self.old.compared (self.old.notes, self.old.listener) →
+            OnErr result (IsHanded F.holds L.hears L.loses v limit max past
+            (reached_of self.new.reached) first
+            self.old.stops given
+            (ahead_of self.new.room.items self.new.from self.new.safe self.new.len)
+            (behind_of self.new.room.items self.new.from self.new.safe self.new.len)
+            self.new.compared (self.new.notes, self.new.listener)) }
+    {
+        self.ask();
+        self.read_on(buf)
     }
 }

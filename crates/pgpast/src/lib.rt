@@ -7,7 +7,10 @@
 //! let opened = Notes::open(alloc, file)?;                 // its commits are heard by a `Past`
 //! let compared = Compared::new(alloc, Version::Two, MAX_FRAME, limit, opened.past);
 //! let lines = RepeatLines::new(alloc, rt.stderr(), path)?;
-//! let reader = Comparing::new(alloc, rt.stdin(), lines, compared, opened.notes, stops)?;
+//! let position = Cell::new(u64::MAX);                     // until the first status is written
+//! let writer = FirstStatus::new(rt.stdout(), &position);
+//! let (input, notes) = (rt.stdin(), opened.notes);
+//! let reader = Comparing::new(alloc, input, lines, &position, compared, notes, stops)?;
 //! ```
 //!
 //! A record has the CRC of the one before it, so records that were written after a lost one aren't
@@ -21,6 +24,7 @@ mod laws;
 mod lines;
 mod loading;
 mod notes;
+mod position;
 mod record;
 
 pub use comparing::{Comparing, RepeatListener};
@@ -29,3 +33,4 @@ pub use file::{NotesFile, PlainFile};
 pub use laws::records_are_told_apart;
 pub use lines::{Counts, RepeatLines};
 pub use notes::{Found, Notes, Opened};
+pub use position::{FirstStatus, StorePosition};

@@ -34,7 +34,7 @@ fn crc_of(bytes: &[u8]) -> u32
 }
 
 // The number of the first eight bytes, big-endian, and the bytes behind them.
-fn long(bytes: &[u8]) -> Option<(u64, &[u8])>
+pub(crate) fn long(bytes: &[u8]) -> Option<(u64, &[u8])>
     ensures { MatchOption result (length bytes.now < 8)
         (λ it. bytes.now ≡ to_be_bytes w64 it.0 ++ it.1.now) }
 {

@@ -15,7 +15,7 @@ use pgfeed::{Folder, Origin, SegmentLimits};
 use pgfollow::{Clock, Link};
 use pgledger::Supposing;
 use pgorder::Version;
-use pgpast::{Comparing, Notes, NotesFault, PlainFile, RepeatLines};
+use pgpast::{Comparing, FirstStatus, Notes, NotesFault, PlainFile, RepeatLines};
 use pgrules::Guarded;
 use pgruns::{
     ApplyPlan, FeedPlan, FileFolder, Filed, FollowPlan, LiveIo, LoadPlan, SessionReader, StoreFile,
@@ -29,11 +29,11 @@ use pgsub_core::Side;
 use pgtasks::{run, run_in_memory};
 use sqlite::{FileFrom, Start, Unknown};
 use std::alloc::AllocError;
-use std::cell::RefCell;
+use std::cell::{Cell, RefCell};
 use std::fs::File;
-use std::io::{ErrorKind, Read};
+use std::io::{ErrorKind, Read, Write};
 use std::process::ExitCode;
-use std::rt::{Stderr, Stdin, Stdout};
+use std::rt::{Stderr, Stdin};
 use std::time::{SystemTime, UNIX_EPOCH};
 use std::{env, fs, io};
 
@@ -319,18 +319,18 @@ impl Clock for SystemClock<'_> {
     }
 }
 
-/// Follows a server over the store in the file at a path: what it sends comes from `input`, after a
-/// load where one is asked for, and statuses go to standard output. Standard error is told of
-/// changes that found no row as soon as their commits are stored. A feed's folder is of any kind,
-/// as in `run_over`. Returns the exit status, and the input.
-fn run_live<R: SessionReader + Drop, D: Folder + Supposing + Drop>(
+/// Follows a server over the store in the file at a path: what it sends comes from the first of its
+/// two ends, after a load where one is asked for, and statuses go to the second one. Standard error
+/// is told of changes that found no row as soon as their commits are stored. A feed's folder is of
+/// any kind, as in `run_over`. Returns the exit status, and the ends.
+fn run_live<R: SessionReader + Drop, W: Write + Drop, D: Folder + Supposing + Drop>(
     rt: &HostRuntime,
     task: &Task,
-    server: (Version, R),
+    version: Version,
+    (input, output): (R, W),
     path: &str,
     feed: Option<FeedPlan<'_, D>>,
-) -> (u8, Link<R, Stdout>) {
-    let (version, input) = server;
+) -> (u8, Link<R, W>) {
     let plan = FollowPlan {
         load: load_of(task),
         feed,
@@ -339,7 +339,7 @@ fn run_live<R: SessionReader + Drop, D: Folder + Supposing + Drop>(
         version,
     };
     let mut io = LiveIo {
-        link: Link::new(input, rt.stdout()),
+        link: Link::new(input, output),
         clock: SystemClock { rt },
         err: rt.stderr(),
     };
@@ -354,38 +354,39 @@ fn run_live<R: SessionReader + Drop, D: Folder + Supposing + Drop>(
 }
 
 /// The same, where the server is watched for the rules of a well-formed one, behind a load where
-/// one is asked for. Returns the exit status, and the watched input.
-fn run_guarded<R: Read + Drop, D: Folder + Supposing + Drop>(
+/// one is asked for. Returns the exit status, and the ends, of which the first is watched.
+fn run_guarded<R: Read + Drop, W: Write + Drop, D: Folder + Supposing + Drop>(
     rt: &HostRuntime,
     task: &Task,
-    server: (Version, Watching, R),
+    (version, watching): (Version, Watching),
+    (input, output): (R, W),
     path: &str,
     feed: Option<FeedPlan<'_, D>>,
-) -> Result<(u8, Link<Guarded<R, WatchLines<Stderr>>, Stdout>), AllocError> {
-    let (version, watching, input) = server;
+) -> Result<(u8, Link<Guarded<R, WatchLines<Stderr>>, W>), AllocError> {
     let watch = live_watch(rt.alloc(), version, limits_of(task));
     let lines = WatchLines::new(rt.alloc(), rt.stderr());
     let stops = watching == Watching::Stop;
     let waits = load_of(task).is_some();
     let input = Guarded::new(rt.alloc(), input, lines, watch, stops, waits)?;
-    let (status, link) = run_live(rt, task, (version, input), path, feed);
+    let (status, link) = run_live(rt, task, version, (input, output), path, feed);
     if status == FOLLOW_IO && link.reader.has_stopped() {
         return Ok((FOLLOW_BROKEN, link));
     }
     Ok((status, link))
 }
 
-/// Standard input, whose commits are compared with those that are noted in a file.
-type ComparedInput = Comparing<Stdin, PlainFile, RepeatLines<Stderr>>;
+/// Standard input, whose commits are compared with those that are noted in a file. The cell has the
+/// store's position, once that is open.
+type ComparedInput<'p> = Comparing<Stdin, PlainFile, RepeatLines<Stderr>, &'p Cell<u64>>;
 
 /// Opens the file in which commits are noted, and tells how many it holds.
-fn compared_input(
+fn compared_input<'p>(
     rt: &HostRuntime,
     task: &Task,
-    server: (Version, Watching),
+    (version, watching): (Version, Watching),
     file: &str,
-) -> Result<ComparedInput, NotesFault> {
-    let (version, watching) = server;
+    position: &'p Cell<u64>,
+) -> Result<ComparedInput<'p>, NotesFault> {
     let alloc = rt.alloc();
     let opened = Notes::open(alloc, PlainFile::open(rt, file)?)?;
     let found = opened.found();
@@ -394,7 +395,8 @@ fn compared_input(
     let compared = Compared::new(alloc, version, max_frame, COMPARED_LIMIT, opened.past);
     let lines = RepeatLines::new(alloc, rt.stderr(), file)?;
     let stops = watching == Watching::Stop;
-    let input = Comparing::new(alloc, rt.stdin(), lines, compared, opened.notes, stops)?;
+    let notes = opened.notes;
+    let input = Comparing::new(alloc, rt.stdin(), lines, position, compared, notes, stops)?;
     Ok(input)
 }
 
@@ -420,12 +422,13 @@ fn run_compared<D: Folder + Supposing + Drop>(
     (path, file): (&str, &str),
     feed: Option<FeedPlan<'_, D>>,
 ) -> Result<u8, AllocError> {
-    let input = match compared_input(rt, task, server, file) {
+    let position = Cell::new(u64::MAX);
+    let input = match compared_input(rt, task, server, file, &position) {
         Ok(input) => input,
         Err(fault) => return Ok(tell_notes(rt, file, fault)),
     };
-    let (version, watching) = server;
-    let (status, link) = run_guarded(rt, task, (version, watching, input), path, feed)?;
+    let output = FirstStatus::new(rt.stdout(), &position);
+    let (status, link) = run_guarded(rt, task, server, (input, output), path, feed)?;
     let counts = link.reader.reader().counts();
     let _ = eprintln!(rt; "pgsub: repeats: {counts}");
     if status == FOLLOW_IO && link.reader.reader().has_stopped() {
@@ -454,8 +457,8 @@ fn run_watched<D: Folder + Supposing + Drop>(
         }
         return run_compared(rt, task, server, (path, file.as_str()), feed);
     }
-    let (version, watching) = server;
-    let (status, _link) = run_guarded(rt, task, (version, watching, rt.stdin()), path, feed)?;
+    let ends = (rt.stdin(), rt.stdout());
+    let (status, _link) = run_guarded(rt, task, server, ends, path, feed)?;
     Ok(status)
 }
 
@@ -469,7 +472,7 @@ fn run_follow<D: Folder + Supposing + Drop>(
 ) -> u8 {
     let (version, watch) = server;
     let Some(watching) = watch else {
-        return run_live(rt, task, (version, rt.stdin()), path, feed).0;
+        return run_live(rt, task, version, (rt.stdin(), rt.stdout()), path, feed).0;
     };
     match run_watched(rt, task, (version, watching), path, feed) {
         Ok(status) => status,

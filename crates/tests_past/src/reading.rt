@@ -5,9 +5,11 @@ ghost use Rattle.std.specs.Prelude.{⊤};
 use crate::memory::MemoryFile;
 use pgcompared::{Compared, Finding};
 use pgorder::Version;
-use pgpast::{Comparing, Notes, RepeatListener};
+use pgpast::{Comparing, FirstStatus, Notes, RepeatListener, StorePosition};
+use pgrepeats::{Commit, Digest, Past};
 use std::alloc::Global;
-use std::io::Read;
+use std::cell::Cell;
+use std::io::{Read, Write};
 use std::process::Abort;
 
 /// Counts what is found.
@@ -74,8 +76,20 @@ fn set_back(rt: &(impl Abort + AllocGlobal)) -> Vec<u8> {
     bytes
 }
 
-fn compared(alloc: Global, past: pgrepeats::Past) -> Compared {
+fn compared(alloc: Global, past: Past) -> Compared {
     Compared::new(alloc, Version::Two, 1000, 100, past)
+}
+
+/// A store at a position.
+#[derive(Drop)]
+struct At(u64);
+
+impl StorePosition for At {
+    ghost says = { λ _ _. ⊤ };
+
+    fn position(&self) -> u64 {
+        self.0
+    }
 }
 
 /// What is handed on of these bytes, and whether a read failed.
@@ -86,12 +100,24 @@ fn handed(
     found: &mut u32,
 ) -> (Vec<u8>, bool) {
     let empty = MemoryFile::holding(Vec::new(rt.alloc()));
-    let opened = Notes::open(rt.alloc(), empty).expect(rt, "open");
+    handed_beside(rt, (empty, At(0)), bytes, stops, found)
+}
+
+/// The same beside a file of noted commits, and a store.
+fn handed_beside<P: StorePosition + Drop>(
+    rt: &(impl Abort + AllocGlobal),
+    (file, store): (MemoryFile, P),
+    bytes: &[u8],
+    stops: bool,
+    found: &mut u32,
+) -> (Vec<u8>, bool) {
+    let opened = Notes::open(rt.alloc(), file).expect(rt, "open");
     let compared = compared(rt.alloc(), opened.past);
     let made = Comparing::new(
         rt.alloc(),
         bytes,
         Count { found },
+        store,
         compared,
         opened.notes,
         stops,
@@ -128,4 +154,82 @@ fn it_stops_before_another_commit(rt: HostRuntime) {
     let whole = 2 * (FRAMES[0] + FRAMES[1]) + 5 + FRAMES[0];
     assert!(&rt; out.len() == whole);
     assert!(&rt; bytes.as_slice().starts_with(out.as_slice()));
+}
+
+/// A file in which two transactions are noted, of which the second one ends at 32.
+fn noted(rt: &(impl Abort + AllocGlobal)) -> MemoryFile {
+    let opened = Notes::open(rt.alloc(), MemoryFile::holding(Vec::new(rt.alloc())));
+    let mut notes = opened.expect(rt, "open").notes;
+    for (lsn, xid) in [(8, 10), (24, 20)] {
+        let commit = Commit {
+            end: lsn + 8,
+            lsn,
+            xid,
+            time: 0,
+            digest: Digest::of_none(),
+        };
+        notes.keep(false, Some(commit)).expect(rt, "keep");
+    }
+    notes.into_file()
+}
+
+/// A new transaction, and then a session of a server that was set back behind that.
+fn set_back_behind_a_new_one(rt: &(impl Abort + AllocGlobal)) -> Vec<u8> {
+    let mut bytes = Vec::new(rt.alloc());
+    pair(rt, &mut bytes, 40, 30);
+    put(rt, &mut bytes, b"c\0\0\0\x04");
+    pair(rt, &mut bytes, 24, 21);
+    bytes
+}
+
+/// A store above all that is noted has commits that aren't.
+#[test]
+fn what_is_noted_stays_where_the_store_has_no_more(rt: HostRuntime) {
+    let bytes = set_back_behind_a_new_one(&rt);
+    for (position, contradicted) in [(32, 1), (33, 0)] {
+        let mut found = 0;
+        let store = (noted(&rt), At(position));
+        let _ = handed_beside(&rt, store, bytes.as_slice(), false, &mut found);
+        assert!(&rt; found == contradicted);
+    }
+}
+
+/// The frame of a status that confirms this.
+fn status(rt: &(impl Abort + AllocGlobal), flushed: u64) -> Vec<u8> {
+    let mut bytes = Vec::new(rt.alloc());
+    put(rt, &mut bytes, b"d\0\0\0\x26r");
+    for lsn in [7, flushed, 8, 9] {
+        put(rt, &mut bytes, &lsn.to_be_bytes());
+    }
+    put(rt, &mut bytes, b"\0");
+    bytes
+}
+
+/// The store is asked at the first read, when the first status is written.
+#[test]
+fn the_first_status_tells_the_position(rt: HostRuntime) {
+    let position = Cell::new(u64::MAX);
+    let mut out = Vec::new(rt.alloc());
+    let mut writer = FirstStatus::new(&mut out, &position);
+    for flushed in [32, 40] {
+        let bytes = status(&rt, flushed);
+        assert!(&rt; writer.write_all(bytes.as_slice()).is_ok());
+    }
+    assert!(&rt; writer.flush().is_ok());
+    assert!(&rt; position.get() == 32);
+    let bytes = set_back_behind_a_new_one(&rt);
+    let mut found = 0;
+    let store = (noted(&rt), &position);
+    let _ = handed_beside(&rt, store, bytes.as_slice(), false, &mut found);
+    assert!(&rt; found == 1);
+}
+
+/// Bytes that are no status tell none.
+#[test]
+fn what_is_too_short_tells_no_position(rt: HostRuntime) {
+    let position = Cell::new(u64::MAX);
+    let mut out = Vec::new(rt.alloc());
+    let mut writer = FirstStatus::new(&mut out, &position);
+    assert!(&rt; writer.write_all(&status(&rt, 32).as_slice()[..21]).is_ok());
+    assert!(&rt; position.get() == u64::MAX);
 }

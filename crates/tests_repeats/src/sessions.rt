@@ -4,12 +4,11 @@ use crate::wire::Wire;
 use pgcompared::{Compared, Finding, Lost, Told};
 use pglsn::Lsn;
 use pgorder::Version;
-use pgrepeats::{Change, Commit, Contradiction, Digest, Part, Past};
+use pgrepeats::{Answer, Change, Commit, Contradiction, Digest, Part, Past, Trouble};
 use std::alloc::Global;
 use std::process::Abort;
 
-/// What is found of bytes that come in pieces. The first commit of all forgets what came before,
-/// which is nothing here.
+/// What is found of bytes that come in pieces.
 #[derive(Clone, Copy, Debug, PartialEq, Eq)]
 struct Sum {
     noted: usize,
@@ -100,7 +99,6 @@ fn a_session_that_comes_again_is_equal(rt: HostRuntime) {
     assert!(rt;
         sum == Sum {
             noted: 2,
-            forgot: 1,
             ..Sum::NOTHING
         }
     );
@@ -125,7 +123,7 @@ fn a_server_that_was_set_back_is_found_at_its_frame(rt: HostRuntime) {
     assert!(rt;
         sum == Sum {
             noted: 4,
-            forgot: 2,
+            forgot: 1,
             found: 1,
             last: found
         }
@@ -162,7 +160,6 @@ fn what_is_streamed_is_the_same_as_what_comes_whole(rt: HostRuntime) {
     assert!(rt;
         sum == Sum {
             noted: 1,
-            forgot: 1,
             ..Sum::NOTHING
         } && compared.equal() == 1
     );
@@ -184,7 +181,7 @@ fn a_change_that_is_not_rolled_back_any_more_is_found(rt: HostRuntime) {
     }
     let mut compared = fresh(rt.alloc(), 100);
     let sum = sum_of(&rt, &mut compared, &wire.bytes);
-    assert!(rt; sum.found == 1 && sum.forgot == 2 && sum.noted == 2);
+    assert!(rt; sum.found == 1 && sum.forgot == 1 && sum.noted == 2);
 }
 
 #[test]
@@ -233,29 +230,60 @@ fn a_transaction_above_the_limit_is_not_compared(rt: HostRuntime) {
     assert!(rt; sum.found == 1);
 }
 
-/// How often these bytes are contradicted where the first two transactions are noted.
-fn found_behind_two(rt: &impl Abort, alloc: Global, bytes: &[u8]) -> usize {
+/// How often these bytes are contradicted where the first two transactions are noted, and others
+/// came up to here.
+fn found_behind_two(rt: &impl Abort, alloc: Global, reached: u64, bytes: &[u8]) -> usize {
     let mut past = Past::new(alloc, 100);
     assert!(rt; past.hear(commit_of(100, 10, b"ab")).is_ok());
     assert!(rt; past.hear(commit_of(200, 11, b"c")).is_ok());
     let mut compared = Compared::new(alloc, Version::Two, 1000, 100, past);
+    compared.reach(reached);
     sum_of(rt, &mut compared, bytes).found
 }
 
-// What was noted before a start may have lost its end.
+// What was noted before a start may have lost its end, where commits came above it. The second
+// transaction ends at 208.
 #[test]
-fn the_first_commit_of_a_life_shows_whether_any_may_be_missing(rt: HostRuntime) {
+fn the_first_commit_shows_whether_any_may_be_missing(rt: HostRuntime) {
     let mut above = Wire::new(rt.alloc());
     above.pair(&rt, 400, 13, b"e");
     above.done(&rt);
     above.pair(&rt, 300, 12, b"d");
-    assert!(rt; found_behind_two(&rt, rt.alloc(), &above.bytes) == 0);
+    assert!(rt; found_behind_two(&rt, rt.alloc(), 209, &above.bytes) == 0);
+    assert!(rt; found_behind_two(&rt, rt.alloc(), 208, &above.bytes) == 1);
     let mut below = Wire::new(rt.alloc());
     below.pair(&rt, 200, 11, b"c");
     below.pair(&rt, 400, 13, b"e");
     below.done(&rt);
     below.pair(&rt, 300, 12, b"d");
-    assert!(rt; found_behind_two(&rt, rt.alloc(), &below.bytes) == 1);
+    assert!(rt; found_behind_two(&rt, rt.alloc(), 209, &below.bytes) == 1);
+}
+
+// The one that ends at 408 came before, and isn't noted.
+#[test]
+fn each_session_may_start_above_what_is_noted(rt: HostRuntime) {
+    let mut wire = Wire::new(rt.alloc());
+    for lsns in [&[300][..], &[500], &[300, 400, 500]] {
+        for lsn in lsns {
+            wire.pair(&rt, *lsn, 12, b"d");
+        }
+        wire.done(&rt);
+    }
+    assert!(rt; found_behind_two(&rt, rt.alloc(), 408, &wire.bytes) == 0);
+    assert!(rt; found_behind_two(&rt, rt.alloc(), 308, &wire.bytes) == 1);
+}
+
+// What comes behind a commit of which nothing is known comes behind it in order.
+#[test]
+fn one_that_is_left_out_behind_an_unknown_one_is_found(rt: HostRuntime) {
+    let mut past = Past::new(rt.alloc(), 1);
+    assert!(&rt; past.hear(commit_of(100, 10, b"ab")).is_ok());
+    assert!(&rt; past.hear(commit_of(200, 11, b"c")).is_ok());
+    past.begin_session();
+    assert!(&rt; past.hear(commit_of(100, 10, b"ab")) == Ok(Answer::Unknown));
+    let end = Lsn(208);
+    let left_out = Trouble::Contradicted(Contradiction::LeftOut { end });
+    assert!(&rt; past.hear(commit_of(300, 12, b"d")) == Err(left_out));
 }
 
 #[test]
@@ -270,7 +298,7 @@ fn a_session_that_cannot_be_read_is_lost_once_and_forgotten(rt: HostRuntime) {
     wire.commit(&rt, 100);
     let mut compared = fresh(rt.alloc(), 100);
     let sum = sum_of(&rt, &mut compared, &wire.bytes);
-    assert!(rt; sum.found == 1 && sum.forgot == 1);
+    assert!(rt; sum.found == 1 && sum.forgot == 0);
     assert!(rt;
         matches!(sum.last, Some(Finding::Lost { at: found, why: Lost::Undecoded(_) })
         if found == at as u64)

@@ -1,11 +1,15 @@
-use Rattle.std.proofs.Common.{take}
-use Rattle.pgpast.proofs.Keeping.{moved}
+use Rattle.std.proofs.Common.{sym}
+use Rattle.pgpast.specs.Handing.{reached_of}
 use Rattle.pgpast.proofs.comparing.ComparingRead.read.Goals as goal
 
-pub returns-in_default-2-clause-handed : goal.returns-in_default-2-clause-handed
-returns-in_default-2-clause-handed g c v limit max past first given k =
-    let new = c.ready.new.self in
-    rw (c.hand_on.ensures.compared.0, c.hand_on.ensures.compared.1, c.hand_on.ensures.compared.2)
-    (moved g.F.NotesFile.holds g.L.RepeatListener.hears g.L.RepeatListener.loses v limit max past first c.args.self.now.stops given
-    new.compared (new.notes, new.listener) (take c.hand_on.result c.hand_on.new.buf) _ _ _ _ c.hand_on.ensures.ahead
-    c.hand_on.ensures.behind (c.ready.ensures.handed v limit max past first given k))
+pub returns-clause-handed : goal.returns-clause-handed
+returns-clause-handed g c v limit max past first given asked k =
+    rw (c.read_on.ensures.asked, sym c.ask.ensures.stops)
+    (c.read_on.ensures.handed v limit max past (reached_of c.ask.new.self.reached) first given
+    (c.ask.ensures.handed v limit max past first given asked k))
+
+pub returns-clause-failed : goal.returns-clause-failed
+returns-clause-failed g c v limit max past first given asked k =
+    rw (c.read_on.ensures.asked, sym c.ask.ensures.stops)
+    (c.read_on.ensures.failed v limit max past (reached_of c.ask.new.self.reached) first given
+    (c.ask.ensures.handed v limit max past first given asked k))
