@@ -25,7 +25,7 @@ use Rattle.pgcompared.specs.Sessions.{at_start, hear, in_block_of}
 
 -- ---- one more
 
-messages_push : (s mid new : Session) (ms : List Message) (es : List Ended) (m : Message) (e : Option Ended)
+pub messages_push : (s mid new : Session) (ms : List Message) (es : List Ended) (m : Message) (e : Option Ended)
     → HearsMessages s ms mid es → IsMessageFor (in_block_of mid) m → hear mid m ≡ Ok (new, e)
     → HearsMessages s (ms ++ m ∷ []) new (es ++ listed_end e)
 messages_push s mid new [] es m e h for heard =
@@ -42,7 +42,7 @@ messages_push s mid new (x ∷ xs) es m e (next, first, later, is, now, rest, al
   ap (λ (xs : List Ended). xs ++ listed_end e) all ∙ append_assoc (listed_end first) later (listed_end e),
 )
 
-each_push : (n mid new : Noting) (es : List Ended) (told : List Told) (at : ℕ) (e : Ended) (t : Told) → HearsEach n es mid told
+pub each_push : (n mid new : Noting) (es : List Ended) (told : List Told) (at : ℕ) (e : Ended) (t : Told) → HearsEach n es mid told
     → HearsEnded mid at e new t → HearsEach n (es ++ e ∷ []) new (told ++ t ∷ [])
 each_push n mid new [] told at e t h heard =
     (at, new, t, [], subst (λ (x : Noting). HearsEnded x at e new t) h.0 heard, (refl, refl), ap (λ (xs : List Told). xs ++ t ∷ []) h.1)
@@ -56,7 +56,7 @@ each_push n mid new (x ∷ xs) told at e t (place, next, first, later, now, rest
   ap (λ (xs : List Told). xs ++ t ∷ []) all,
 )
 
-each_same : (n mid new : Noting) (es : List Ended) (told : List Told) → HearsEach n es mid told → new ≡ mid → HearsEach n es new told
+pub each_same : (n mid new : Noting) (es : List Ended) (told : List Told) → HearsEach n es mid told → new ≡ mid → HearsEach n es new told
 each_same n mid new es told h same = subst (λ (x : Noting). HearsEach n es x told) (sym same) h
 
 -- a transaction commits, or none
@@ -142,7 +142,8 @@ by_lost v limit x xs before h true well rest heard still = absurd (true≢false 
 
 -- ---- all frames
 
-version_is : (v : Version) (limit max : ℕ) (past : Past) (reached : ℕ) (steps : List Step) (h : Hearing) → Leads v limit max past reached steps h
+pub version_is : (v : Version) (limit max : ℕ) (past : Past) (reached : ℕ) (steps : List Step) (h : Hearing)
+    → Leads v limit max past reached steps h
     → (h.version ≡ v) × (h.limit ≡ limit)
 version_is v limit max past reached [] h first = (ap (λ (x : Hearing). x.version) first, ap (λ (x : Hearing). x.limit) first)
 version_is v limit max past reached (x ∷ xs) h (before, leads, allowed, takes) =
@@ -157,7 +158,8 @@ step v limit wire.CopyDone told xs before h next is rest takes still =
 step v limit (wire.CopyData bytes) told xs before h next is rest takes still =
     by_lost v limit (record { frame = wire.CopyData bytes; told = told }) xs before h before.lost refl rest takes.0 still
 
-all_steps : (v : Version) (limit max : ℕ) (past : Past) (reached : ℕ) (steps : List Step) (h : Hearing) → Leads v limit max past reached steps h
+all_steps : (v : Version) (limit max : ℕ) (past : Past) (reached : ℕ) (steps : List Step) (h : Hearing)
+    → Leads v limit max past reached steps h
     → h.lost ≡ false → IsSessionHeard v limit steps h
 all_steps v limit max past reached [] h first still = at_first v limit [] h tt (ap (λ (x : Hearing). x.session) first)
 all_steps v limit max past reached (x ∷ xs) h (before, leads, allowed, takes) still =

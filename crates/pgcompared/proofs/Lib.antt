@@ -5,4 +5,5 @@ pub mod Points
 pub mod Courses
 pub mod Spellings
 pub mod HeardSessions
+pub mod Lives
 mod WorkedRows

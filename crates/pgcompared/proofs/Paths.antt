@@ -406,5 +406,6 @@ module _ (v : Version) (limit max : ℕ) (past : Past) (reached : ℕ) (all : Li
         subst (λ (xs : List ℕ). IsCompared v limit max past reached (all ++ xs) new (told ++ spoken now)) (sym is)
         (heard_whole h came now count takes new new_is)
     path_whole piece is new now (inr (new_is, now_is)) =
-        subst (λ (t : Told). IsCompared v limit max past reached (all ++ take (length payload + 5) piece) new (told ++ spoken t)) (sym now_is)
+        subst (λ (t : Told). IsCompared v limit max past reached (all ++ take (length payload + 5) piece) new (told ++ spoken t))
+        (sym now_is)
         (path_lose (take (length payload + 5) piece) c.deframer wire_fault.Memory new i.max_is (λ other. absurd (other refl)) whole new_is)

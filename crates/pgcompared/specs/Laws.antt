@@ -92,8 +92,9 @@ HearsLife history came n (s ∷ later) new =
 abbrev pub FindsNothing : {history : List Commit} → Session history → Type 0
 FindsNothing s = AllByRecursion FoundNothing s.told
 
--- No alarm is false in a whole life: let commits have come up to here, of which this is noted, be it
--- all or not. Then none that comes is contradicted, and what is noted then is of the history, too.
+-- No alarm is false in a whole life: let commits have come up to here, of which this is noted, be
+-- it all or not. Then none that comes is contradicted, and what is noted then is of the history,
+-- too.
 abbrev pub LivesAreNotContradicted : Type 0
 LivesAreNotContradicted =
     (history : List Commit) (past : Past) (at came : ℕ) (sessions : List (Session history)) (new : Noting) → IsHistory 0 history

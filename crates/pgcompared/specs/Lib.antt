@@ -6,3 +6,4 @@ pub mod Live
 pub mod Commits
 pub mod Laws
 pub mod HeardSessions
+pub mod Lives

@@ -4,6 +4,7 @@
 ghost use Rattle.pgcompared.specs.HeardSessions.{SessionsAreHeard};
 ghost use Rattle.pgcompared.specs.Laws.{EndedAreCommits, LivesAreNotContradicted};
 ghost use Rattle.pgcompared.specs.Laws.{SessionsAreNotContradicted};
+ghost use Rattle.pgcompared.specs.Lives.{FramesAreNotContradicted, LivesAreHeard};
 
 /// The frames of a session that isn't lost are heard message by message, and the transactions that
 /// commit are told of.
@@ -27,4 +28,16 @@ pub fn sessions_are_not_contradicted()
 /// whatever is lost of what was noted up to where it was at first.
 pub fn lives_are_not_contradicted()
     ensures { LivesAreNotContradicted }
+{}
+
+/// All frames of a life are heard, where no session is lost: message by message, and the
+/// transactions that commit are told of, and nothing else.
+pub fn lives_are_heard()
+    ensures { LivesAreHeard }
+{}
+
+/// So nothing is found of frames that carry sessions of one history, be what was noted before all
+/// that came of it or not.
+pub fn frames_are_not_contradicted()
+    ensures { FramesAreNotContradicted }
 {}

@@ -32,6 +32,8 @@ mod stream;
 pub use compared::Compared;
 pub use finding::{Finding, Lost};
 pub use front::{HEADER_LEN, front_payload};
-pub use laws::{ended_are_commits, lives_are_not_contradicted};
-pub use laws::{sessions_are_heard, sessions_are_not_contradicted};
+pub use laws::{
+    ended_are_commits, frames_are_not_contradicted, lives_are_heard, lives_are_not_contradicted,
+    sessions_are_heard, sessions_are_not_contradicted,
+};
 pub use noting::Told;

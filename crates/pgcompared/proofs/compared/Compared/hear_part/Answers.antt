@@ -7,7 +7,8 @@ use Rattle.pgcompared.proofs.compared.Compared.hear_part.Goals as goal
 pub returns-in-Err-clause-compared : goal.returns-in-Err-clause-compared
 returns-in-Err-clause-compared c v limit max past reached all before i =
     let piece = c.args.piece.now in
-    subst (λ (t : Told). IsCompared v limit max past reached (all ++ take (length piece) piece) c.stop_hearing-in-Err.new.self (before ++ spoken t))
+    subst (λ (t : Told). IsCompared v limit max past reached (all ++ take (length piece) piece) c.stop_hearing-in-Err.new.self
+    (before ++ spoken t))
     (sym c.stop_hearing-in-Err.ensures.told)
     (path_err v limit max past reached all c.args.self.now before i piece (length piece) c.feed.new.self c.in-Err.fault
     c.stop_hearing-in-Err.new.self refl c.in-Err.ensures.fed c.requires.whole c.stop_hearing-in-Err.ensures.new)
