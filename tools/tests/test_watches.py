@@ -165,8 +165,9 @@ class Repeats(unittest.TestCase):
         """By the model, which isn't where that is from."""
         live = repeat_bugs.Program().live
         self.assertEqual(
-            [set_back.difference(it, live) for it in set_back.STREAMS[::3]], [None] * 27
+            [set_back.difference(it, live) for it in set_back.STREAMS[::3]], [None] * 43
         )
+        self.assertEqual([set_back.alarm(it, live) for it in set_back.WELL], [None] * 5)
 
     def test_there_are_ten_streams_for_each_kind(self) -> None:
         counts = Counter(it.told for it in set_back.STREAMS)

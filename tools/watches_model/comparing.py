@@ -35,26 +35,29 @@ class Transaction:
 
 class Compared:
     """Compares commits of one life of the program. `note` is told of each that is noted, or None
-    where all is forgotten."""
+    where all is forgotten. `position`: that of the store, up to which commits came."""
 
     def __init__(
         self,
         noted: Sequence[Commit] = (),
         note: Callable[[Commit | None], None] = lambda _: None,
+        position: int = 0,
         held: int = HELD,
         limit: int = NOTED,
     ) -> None:
-        self.limit, self.held, self.note = limit, held, note
+        self.limit, self.held, self.note, self.position = limit, held, note, position
+        # up to here commits came that may not be noted
+        self.reached = position
         self.past = Past(limit)
         for it in sorted(noted):
             self.past.hear(it)
         self.loaded, self.equal = len(noted), 0
-        # whether no commit has come yet
-        self.is_new = True
         self.begin_session()
 
     def begin_session(self) -> None:
         self.past.begin_session()
+        # whether no commit that came is missing above those that are noted
+        self.is_whole = self.reached <= self.past.newest
         self.open: dict[int, Transaction] = {}
         self.pair, self.begun = Transaction(), (0, 0)
         # the transaction that a block is of, 0 outside blocks
@@ -95,6 +98,8 @@ class Compared:
         return None
 
     def change(self, letter: bytes, body: bytes) -> None:
+        if letter == b"T" and not number(body, 4 if self.block else 0, 4):
+            return  # of no table
         made = self.open[self.block] if self.block else self.pair
         subxid = number(body, 0, 4) if self.block else 0
         held = len(self.pair.changes) + sum(len(it.changes) for it in self.open.values())
@@ -113,11 +118,13 @@ class Compared:
     def commit(self, made: Transaction, end: int, lsn: int, xid: int, time: int) -> str | None:
         self.pair = Transaction()
         commit = Commit(end, lsn, xid, time, digest_of([it for _, it in made.changes]))
-        if made.is_large or (self.is_new and self.past.newest < end):
+        self.position = max(self.position, end)
+        if made.is_large or (not self.is_whole and self.past.newest < end):
             # (others may have come since that aren't noted, as some that a crash has lost)
             self.past.forget()
             self.note(None)
-        self.is_new = False
+        self.is_whole = True
+        self.reached = max(self.reached, end) if made.is_large else self.reached
         return None if made.is_large else self.hear(commit)
 
     def hear(self, commit: Commit) -> str | None:

@@ -81,6 +81,7 @@ class Past:
             told = f"the commit that ends at {lsn_text(commit.end)}"
             raise Contradicted(f"{told} wasn't between those that came before")
         self.unknown += 1
+        self.last = commit.end
         return UNKNOWN
 
     def again(self, noted: Commit, before: int, commit: Commit) -> str:

@@ -5,6 +5,7 @@ from __future__ import annotations
 
 from collections.abc import Iterator, Sequence
 from copy import deepcopy
+from itertools import chain
 
 from . import repeating, set_back
 from .comparing import Compared, Transaction, number
@@ -39,7 +40,7 @@ class Program:
         def note(commit: Commit | None) -> None:
             noted.append(commit) if commit else noted.clear()
 
-        compared = self.compared(noted, note)
+        compared = self.compared(noted, note, self.position)
         status, lines = 0, [compared.said()]
         for frame in frames:
             before = [*noted]
@@ -73,10 +74,62 @@ class ForgetsAtReconnection(Compared):
 class ForgetsAtStart(Compared):
     """what came in a life before is forgotten"""
 
+    has_heard = False
+
     def commit(self, made: Transaction, end: int, lsn: int, xid: int, time: int) -> str | None:
-        if self.is_new:
+        if not self.has_heard:
             self.past.forget()
+        self.has_heard = True
         return super().commit(made, end, lsn, xid, time)
+
+
+class ForgetsWhatIsWhole(Compared):
+    """the first new commit of a life forgets those before, also where all of these are noted"""
+
+    has_heard = False
+
+    def commit(self, made: Transaction, end: int, lsn: int, xid: int, time: int) -> str | None:
+        self.is_whole, self.has_heard = self.has_heard, True
+        return super().commit(made, end, lsn, xid, time)
+
+
+class ForgetsAtEachSession(Compared):
+    """a session's first new commit forgets those before, also where all of these are noted"""
+
+    def begin_session(self) -> None:
+        super().begin_session()
+        self.is_whole = False
+
+
+class JudgesTheFirstSession(Compared):
+    """commits that aren't noted are missing in a life's first session alone"""
+
+    has_begun = False
+
+    def begin_session(self) -> None:
+        super().begin_session()
+        self.is_whole, self.has_begun = self.is_whole or self.has_begun, True
+
+
+class ForgetsTheOrder(Compared):
+    """what comes behind a commit of which nothing is known comes first"""
+
+    def hear(self, commit: Commit) -> str | None:
+        unknown = self.past.unknown
+        told = super().hear(commit)
+        if self.past.unknown > unknown:
+            self.past.last = None
+        return told
+
+
+class CountsEmptyTruncates(Compared):
+    """a Truncate of no table is a change"""
+
+    def change(self, letter: bytes, body: bytes) -> None:
+        at = 4 if self.block else 0
+        if letter == b"T" and not number(body, at, 4):
+            body = body[:at] + b"\0\0\0\1" + body[at + 4 :]
+        super().change(letter, body)
 
 
 class ComparesLsnsAlone(Compared):
@@ -133,7 +186,7 @@ class TrustsItsEnd(Compared):
     """a file that has lost its end is taken for all that came"""
 
     def commit(self, made: Transaction, end: int, lsn: int, xid: int, time: int) -> str | None:
-        self.is_new = False
+        self.is_whole = True
         return super().commit(made, end, lsn, xid, time)
 
 
@@ -210,6 +263,11 @@ COMPARED = (
     TakesBelowForEqual,
     ForgetsAtReconnection,
     ForgetsAtStart,
+    ForgetsWhatIsWhole,
+    ForgetsAtEachSession,
+    JudgesTheFirstSession,
+    ForgetsTheOrder,
+    CountsEmptyTruncates,
     ComparesLsnsAlone,
     CountsChangesAlone,
     KeepsRolledBack,
@@ -227,12 +285,13 @@ BUGS = (*map(Program, COMPARED), StopsBehind(), ForgetsWhereItStops())
 
 
 def found_by(program: Program, made: Sequence[repeating.Repeated]) -> str:
-    """What finds a bug first: a history, or else a stream written by hand."""
+    """What finds a bug first: a history, or else lives or a stream written by hand."""
     for number, it in enumerate(made):
         if repeating.difference(it, program.live):
             return f"history {number}"
+    lives = (it.shows for it in set_back.WELL if set_back.alarm(it, program.live))
     streams = (it.shows for it in set_back.STREAMS if set_back.difference(it, program.live))
-    return next(streams, "")
+    return next(chain(lives, streams), "")
 
 
 def findings(seed: str, count: int) -> Iterator[tuple[str, bool]]:

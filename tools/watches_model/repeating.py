@@ -56,9 +56,10 @@ class Repeated:
 
 @dataclass
 class Model:
-    """What is to be told. `noted`: what the file holds."""
+    """What is to be told. `noted`: what the file holds. `position`: that of the store."""
 
     noted: list[Commit] = field(default_factory=list)
+    position: int = 0
 
     def note(self, commit: Commit | None) -> None:
         if commit is None:
@@ -74,12 +75,13 @@ class Model:
         return lines
 
     def told(self, life: Sequence[Session]) -> list[str]:
-        compared = Compared(self.noted, self.note)
+        compared = Compared(self.noted, self.note, self.position)
         lines = [compared.said()]
         for at, session in enumerate(life):
             if at:
                 compared.begin_session()
             lines += (told for it in session if (told := taken(compared, it)))
+        self.position = compared.position
         return [f"pgsub: repeats: {it}" for it in (*lines, compared.counted())]
 
 

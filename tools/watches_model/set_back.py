@@ -1,5 +1,6 @@
 """Servers that were set back, written by hand: by a commit, by a hundred, and by one whose end is
-the same; each is told at the commit that shows it, and `stop` takes nothing of that."""
+the same; each is told at the commit that shows it, and `stop` takes nothing of that. And lives of
+one history of which nothing may be told, whatever a crash has lost of what was noted."""
 
 from collections.abc import Callable, Iterator, Sequence
 from itertools import chain
@@ -7,7 +8,7 @@ from typing import NamedTuple
 
 from .frames import T, abort, block, delete, insert, keepalive, message, next_block, pair, relation
 from .frames import start, stream_commit, truncate, update
-from .repeating import STOP, TELL, Life, Live, content_of
+from .repeating import LOST, STOP, TELL, Life, Live, content_of
 
 # The status of a program that was to stop.
 STOPPED = 17
@@ -138,13 +139,14 @@ KINDS = (
 
 class SetBack(NamedTuple):
     """Sessions of lives before the server was set back, and of the one after. In the last session
-    of that the frame with this number shows it."""
+    of that the frame with this number shows it, when the store is at `end`."""
 
     shows: str
     told: str
     before: list[list[Frames]]
     last: list[Frames]
     bad: int
+    end: int = HISTORY[-1].end
 
 
 Write = Callable[[Made], Frames]
@@ -184,9 +186,75 @@ def set_back(kind: Kind) -> Iterator[SetBack]:
     yield stream("streamed before", [[streamed]], [], shown(kind, 3))
     yield stream("streamed then", [[whole], [repeats]], [], shown(kind, 3, Made.streamed))
     yield stream("beside other messages", [[whole]], [], shown(kind, 20, Made.bare))
+    if not kind.is_above():
+        yield from set_back_behind(kind)
+
+
+# What comes behind the history, until the server is set back behind its end.
+NEWER = [made(it) for it in range(COMMITS, COMMITS + 3)]
+
+
+def set_back_behind(kind: Kind) -> Iterator[SetBack]:
+    """Streams of a kind in which it was set back behind where a life began that had new commits."""
+    whole, newer = frames_of(HISTORY, Made.whole), frames_of(NEWER, Made.whole)
+    lives: dict[str, tuple[list[list[Frames]], list[Frames]]] = {
+        "while a life follows": ([[whole]], [newer]),
+        "while a life follows what came in two": ([[whole], [newer[: len(newer) // 3]]], [newer]),
+        "while no life follows": ([[whole], [newer]], []),
+        "while no life follows, before one without commits": ([[whole], [newer], [[]]], []),
+    }
+    for shows, (before, earlier) in lives.items():
+        for count in (0, 3):
+            frames, bad = shown(kind, count)
+            told = f"{kind.shows}, {shows}, behind {count}"
+            yield SetBack(told, kind.told, before, [*earlier, frames], bad, NEWER[-1].end)
 
 
 STREAMS = tuple(it for kind in KINDS for it in set_back(kind))
+
+
+class Well(NamedTuple):
+    """Lives of one history, of which nothing is told. `words`: how each life is."""
+
+    shows: str
+    lives: list[list[Frames]]
+    words: list[str]
+
+
+def sent(*numbers: int) -> Frames:
+    return frames_of([HISTORY[it] for it in numbers], Made.whole)
+
+
+# a commit in the place of the second one that changes nothing
+NOTHING = made(1, changes=[truncate()]).whole()
+LOSES = [TELL, LOST, TELL, TELL, TELL]
+WELL = (
+    Well(
+        "sessions start in what a crash has lost",
+        [[sent(0)], [sent(0, 1, 2, 3)], [sent(2), sent(4), sent(0, 1, 2, 3, 4)]],
+        LOSES[:3],
+    ),
+    Well(
+        "lives start in what a crash has lost",
+        [[sent(0)], [sent(0, 1, 2, 3)], [sent(2)], [sent(4)], [sent(0, 1, 2, 3, 4)]],
+        LOSES,
+    ),
+    Well(
+        "a session starts where a crash has left something",
+        [[sent(0)], [sent(1, 2)], [sent(1), sent(3), sent(1, 2, 3)]],
+        LOSES[:3],
+    ),
+    Well(
+        "a crash has lost all",
+        [[], [sent(0, 1, 2)], [sent(1), sent(3), sent(0, 1, 2, 3)]],
+        LOSES[:3],
+    ),
+    Well(
+        "what changes nothing is left out",
+        [[sent(0) + NOTHING + sent(2), sent(0, 2)], [sent(0) + NOTHING], [sent(0, 2, 3)]],
+        [TELL, TELL, TELL],
+    ),
+)
 
 
 def position(store: str) -> str:
@@ -197,6 +265,14 @@ def position(store: str) -> str:
 def contradictions(life: Life) -> list[str]:
     """The lines of a life but for those that count commits, at its beginning and at its end."""
     return life.lines[1:-1]
+
+
+def alarm(well: Well, live: Live) -> str | None:
+    """What is told of lives of one history."""
+    for number, life in enumerate(live([*map(content_of, well.lives)], 2, well.words), 1):
+        if life.status or contradictions(life):
+            return f"life {number}: status {life.status}, {life.lines}"
+    return None
 
 
 def difference(stream: SetBack, live: Live) -> str | None:
@@ -218,7 +294,7 @@ def difference(stream: SetBack, live: Live) -> str | None:
     if contradictions(life) != told or position(life.store) != text(AFTER.end):
         return f"tell: {life.lines}, {position(life.store)}"
     stopped, again = last(whole, STOP, TELL)
-    if (stopped.status, position(stopped.store)) != (STOPPED, END):
+    if (stopped.status, position(stopped.store)) != (STOPPED, text(stream.end)):
         return f"stop: status {stopped.status}, {position(stopped.store)}"
     if contradictions(stopped) != told or contradictions(again) != told:
         return f"stop: {stopped.lines}, and then {again.lines}"
