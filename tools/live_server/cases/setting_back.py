@@ -100,15 +100,16 @@ def strict_end(place: Place) -> None:
 
 
 def while_followed(place: Place) -> None:
-    """A follower that goes on meanwhile finds it, too, where the server has kept a commit that came
-    since it was started: what came before is forgotten with the first one that is new."""
+    """A follower that goes on meanwhile finds it, too, also where the server has lost all that came
+    since it was started: what was noted before is compared still."""
     server = place.own_server()
     place.stock()
     place.follow("--create")
+    # (the filter that makes the copy notes no commits, as it isn't watched)
+    place.change()
+    place.follow()
     proxy = place.proxy()
     child = place.start(dsn=place.dsn(proxy.folder))
-    place.catch_up(child)
-    place.change()
     place.catch_up(child)
     server.stop()
     older = place.copy_of(server)
