@@ -187,15 +187,15 @@ class Fake:
             self.status()
 
 
-def noted_of(words: list[str]) -> NotedCommits | None:
-    """What is to note commits."""
+def noted_of(words: list[str], position: int) -> NotedCommits | None:
+    """What is to note commits, beside a store at this position."""
     if "--repeats" not in words:
         return None
     from importlib import import_module
 
     path = words[words.index("--repeats") + 1]
     sys.path.append(os.path.dirname(os.path.abspath(__file__)).removesuffix("/__pycache__"))
-    found: NotedCommits = import_module("noted_commits").NotedCommits(path)
+    found: NotedCommits = import_module("noted_commits").NotedCommits(path, position)
     return found
 
 
@@ -224,7 +224,7 @@ def main(words: list[str]) -> int:
         if not fake.open_feed(folder, (named[0], named[1], named[2])):
             print("pgsub: feed 1 NotAFeed", file=sys.stderr, flush=True)
             return 3
-    noted = noted_of(words)
+    noted = noted_of(words, fake.confirmed)
     if says[:1] == ["slow"]:
         time.sleep(float(says[1]))
     if says[:1] == ["bytes"]:

@@ -15,9 +15,9 @@ HERE = os.path.dirname(os.path.abspath(__file__))
 
 
 class NotedCommits:
-    """It."""
+    """It. `position`: that of the store."""
 
-    def __init__(self, path: str) -> None:
+    def __init__(self, path: str, position: int) -> None:
         sys.path.append(os.path.join(HERE, "..", "..", "tools"))
         from watches_model.comparing import Compared
         from watches_model.past import Commit
@@ -29,7 +29,7 @@ class NotedCommits:
                     end, lsn, xid, time, changes, crc = json.loads(line)
                     noted.append(Commit(end, lsn, xid, time, (changes, crc)))
         open(path, "a", encoding="ascii").close()
-        self.compared = Compared(noted, self.note)
+        self.compared = Compared(noted, self.note, position)
         self.say(self.compared.said())
 
     def say(self, text: str) -> None:

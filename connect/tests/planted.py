@@ -225,13 +225,6 @@ BUGS = (
         ("test_broken_rules",),
     ),
     Bug(
-        "what a crash has lost of the noted commits is missed when it comes again",
-        "pgsub_connect/follow/comparing.py",
-        "if since and self.is_noted(since):",
-        "if since:",
-        ("test_repeats",),
-    ),
-    Bug(
         "a server whose log ended before the store is well once it has grown",
         "pgsub_connect/follow/fitness.py",
         '        self.watch.note("history", position, text)\n        raise Unfit(\n            f"{text}. Copy anew (`',

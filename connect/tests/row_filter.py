@@ -377,8 +377,8 @@ def pieces(limit: int) -> Iterator[tuple[bytes, bytes]]:
             yield head[:1], payload
 
 
-def noted_of(words: list[str]) -> NotedCommits | None:
-    """What is to note commits."""
+def noted_of(words: list[str], position: int) -> NotedCommits | None:
+    """What is to note commits, beside a store at this position."""
     if "--repeats" not in words:
         return None
     from importlib import import_module
@@ -386,7 +386,7 @@ def noted_of(words: list[str]) -> NotedCommits | None:
     path = words[words.index("--repeats") + 1]
     sys.path.append(os.path.dirname(os.path.abspath(__file__)).removesuffix("/__pycache__"))
     try:
-        found: NotedCommits = import_module("noted_commits").NotedCommits(path)
+        found: NotedCommits = import_module("noted_commits").NotedCommits(path, position)
         return found
     except (OSError, ValueError) as error:
         raise Fault(3, f"pgsub: repeats: can't use {path}: {error}") from None
@@ -487,7 +487,8 @@ def main(words: list[str]) -> int:
             limit = value("--max-frame", 1 << 24)
             if "--load" in words:
                 load(store, limit)
-            follow(store, value("--max-buffered", 1 << 26), limit, noted_of(words))
+            noted = noted_of(words, store.position)
+            follow(store, value("--max-buffered", 1 << 26), limit, noted)
     except Fault as fault:
         print(fault, file=sys.stderr, flush=True)
         return fault.status

@@ -214,20 +214,33 @@ class Compared(Repeats):
         self.assertEqual(self.counted()[-1:], [str(FIRST + 1)])
 
     def test_what_a_crash_has_lost(self) -> None:
-        """The store has commits that aren't noted: none of them comes again, as one that wasn't
-        there before."""
+        """The store has commits that aren't noted: none of them comes again as one that wasn't there
+        before, and all are compared from then on."""
         path = Path(self.store + ".repeats")
         for content in (path.read_bytes(), b""):
             self.change()
             self.goes_on_to_the_end()
             path.write_bytes(content)
-            end = self.world.end
             for _ in range(2):
                 self.goes_on_to_the_end()
-                self.assertEqual((self.server.started[-1][0], self.repeats()), (end, []))
-            self.assertEqual(
-                (read_known(self.store + ".connector").repeats, self.noted()), (end, 2)
-            )
+                self.assertEqual((self.server.started[-1][0], self.repeats()), (1, []))
+                self.assertEqual(self.noted(), len(self.world.commits))
+        self.check_set_back(2, 0, "xid")
+
+    def test_a_session_that_starts_in_what_a_crash_has_lost(self) -> None:
+        """Those before its first commit come again, and aren't missed there."""
+        path = Path(self.store + ".repeats")
+        content = path.read_bytes()
+        self.change()
+        between = self.world.commits[FIRST][0]
+        self.goes_on_to_the_end()
+        path.write_bytes(content)
+        for since in (between, 1):
+            checkpoint = Checkpoint(self.store)
+            checkpoint.write(True, repeats=since)
+            os.close(checkpoint.file)
+            self.goes_on_to_the_end()
+            self.assertEqual((self.server.started[-1][0], self.repeats()), (since, []))
 
     def test_other_publications(self) -> None:
         """What is noted isn't theirs."""

@@ -3,8 +3,9 @@ compared with those that it sent before.
 
 A server that was set back, as by a backup that was put back, may have other commits below the
 store's position. It sends them where it is asked from where its slot is. So a session asks from
-there, as long as all that came was passed on as it came, and was noted. Else it asks from where the
-store is, once the filter has stored all that was passed on: nothing of these commits comes again.
+there, as long as all that came was passed on as it came. Else it asks from where the store is, once
+the filter has stored all that was passed on: nothing of these commits comes again. What a crash or a
+full disk has lost of what was noted, the filter tells by its store's position.
 """
 
 from ..store.repeats_file import RepeatsFile
@@ -23,15 +24,10 @@ class Comparing:
         file = self.filter.compares_by()
         if file:
             since = file.since() if is_whole else 0
-            if since and self.is_noted(since):
+            if since:
                 return min(since, self.filter.confirmed())
             self.begin_anew(file, is_whole)
         return self.filter.confirmed()
-
-    def is_noted(self, since: int) -> bool:
-        """Whether all is noted that the store has from an LSN on. What a crash or a full disk has
-        lost of that would come again as what wasn't there before."""
-        return max(since, self.filter.said.noted) >= self.life.began_at
 
     def begin_anew(self, file: RepeatsFile, is_whole: bool) -> None:
         """What is noted by now isn't compared with what comes: that is above all of it."""

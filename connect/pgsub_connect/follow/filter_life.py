@@ -46,8 +46,6 @@ class FilterLife:
         self.kills = Kills()
         # whether a filter has begun here; one that runs before that has loaded the first rows
         self.has_begun = False
-        # the position of the store when the one that runs began
-        self.began_at = 0
 
     def start(self) -> None:
         if not self.filter.is_running():
@@ -58,7 +56,7 @@ class FilterLife:
 
     def begin(self, position: int) -> None:
         """A filter has opened its store, which is at this position."""
-        self.has_begun, self.began_at = True, position
+        self.has_begun = True
         if self.filter.trusts:
             log.info("the store is as the filter before left it, so its rows weren't read")
         self.confirming.begin_store(position)
