@@ -16,7 +16,7 @@ from .formats.bulk import Bulk, Command
 from .formats.lines import ByName, Lines
 from .interruption import Check
 from .known_tables import known_beside
-from .options import Parser, add_fields, add_version, lsn, option, plain_name
+from .options import Parser, add_fields, add_version, file, flag, lsn, option, plain_name
 from .pipe.pipes import Pipes
 from .pipe.serving import serve
 from .program import Worker, guarded, stop_by_signals
@@ -64,66 +64,53 @@ the way only for now
 class Options:
     """The words of the command line."""
 
-    feed: str = option("--feed FOLDER", "the feed", required=True)
+    feed: str = option("the feed", required=True, value="FOLDER")
     begin: int | None = option(
-        "--from LSN",
         "commits after this one, which must be the end of one (default: all, behind the rows from before the first)",
         type=lsn,
+        word="--from",
     )
     end: int | None = option(
-        "--to LSN", "end before the first commit that ends above this LSN", type=lsn
+        "end before the first commit that ends above this LSN", type=lsn, word="--to"
     )
-    follow: bool = option("--follow", "go on with the commits that come", False)
+    follow: bool = flag("go on with the commits that come")
     format: str = option(
-        "--format", "default: objects", "objects", choices=["lines", "objects", "debezium", "bulk"]
+        "default: objects", "objects", choices=["lines", "objects", "debezium", "bulk"]
     )
-    debezium: Sequence[str] = option(
-        "--debezium NAME=VALUE", f"with --format debezium: {DEBEZIUM}", ()
+    debezium: Sequence[str] = option(f"with --format debezium: {DEBEZIUM}", (), value="NAME=VALUE")
+    schemas: bool = flag(f"with --format debezium: {SCHEMAS}")
+    keys: bool = flag(
+        "with --format debezium: before each value its key and a tab; tombstones, too"
     )
-    schemas: bool = option("--schemas", f"with --format debezium: {SCHEMAS}", False)
-    keys: bool = option(
-        "--keys",
-        "with --format debezium: before each value its key and a tab; tombstones, too",
-        False,
-    )
-    base: str | None = option(
-        "--base FILE",
-        "begin with the rows of this export, made with --text (default: with those beside the feed)",
+    base: str | None = file(
+        "begin with the rows of this export, made with --text (default: with those beside the feed)"
     )
     on_truncate: str = option(
-        "--on-truncate COMMAND",
         "with --format bulk: run this for each TRUNCATE, with the table, the LSN and the index behind it, to delete all its documents",
         "",
+        value="COMMAND",
     )
     truncated: int | None = option(
-        "--truncated LSN",
         "with --format bulk: all documents were deleted of the tables that the commit which ends there truncates",
         type=lsn,
     )
-    store: str = option(
-        "--store FILE",
+    store: str = file(
         "with --format bulk or debezium: the store of the feed, whose follower knows primary keys that no message tells (default: the one beside the feed)",
         "",
     )
     table: Sequence[str] = option(
-        "--table",
         "changes of this table, may be repeated (default: of all): t, or s.t of another schema than public; quoted as in SQL or not",
         (),
     )
-    pipe: bool = option(
-        "--pipe",
-        "give commits to a reader elsewhere, which writes its LSN to standard input, and again what it has",
-        False,
+    pipe: bool = flag(
+        "give commits to a reader elsewhere, which writes its LSN to standard input, and again what it has"
     )
     reader: str | None = option(
-        "--reader NAME",
         "with --pipe: keep that LSN as FOLDER/readers/NAME, so that the feed keeps what it lacks",
         type=plain_name,
     )
     undo: Sequence[int] | None = option(
-        "--undo FROM TO",
-        "print the SQL that takes the commits after FROM, up to TO, back",
-        type=lsn,
+        "print the SQL that takes the commits after FROM, up to TO, back", type=lsn, value="FROM TO"
     )
 
 

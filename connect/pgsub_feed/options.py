@@ -1,10 +1,11 @@
 """Options of a command line, each declared where its value is, as a field of a dataclass; what
 reads their words, and the form of the help.
 
-    begin: int | None = option("--from LSN", "commits after this one", type=lsn)
-    follow: bool = option("--follow", "go on with the commits that come", False)
+    begin: int | None = option("commits after this one", type=lsn, word="--from")
+    follow: bool = flag("go on with the commits that come")
 
-A word with no value beside it is a flag; one without dashes is known by its place.
+An option is called as its field is, unless `word` says another name; one without dashes is known by
+its place. `value` is how the help calls the value.
 """
 
 import argparse
@@ -27,23 +28,27 @@ KEY = "option"
 
 @dataclasses.dataclass(frozen=True)
 class Declared:
-    """How the option of a field is written, what it is for, and what argparse is told besides."""
+    """What the option of a field is for, how it and its value are called, "" where as is usual,
+    and what argparse is told besides."""
 
-    words: str
     about: str
+    value: str
+    word: str
     more: dict[str, Any]
 
     def add(self, add: Callable[..., object], name: str, default: Any) -> None:
         """Adds it to a parser, or a group of one, for the field with this name."""
-        word, *values = self.words.split()
         told: dict[str, Any] = {"help": self.about, **self.more}
-        if values:
-            told.setdefault("metavar", values[0] if len(values) == 1 else tuple(values))
-            if len(values) > 1:
-                told.setdefault("nargs", len(values))
+        word, values = self.word or f"--{name.replace('_', '-')}", self.value.split()
         if not word.startswith("-"):
             add(name, metavar=word, **told)
             return
+        if "type" in told and "choices" not in told:
+            values = values or [VALUES.get(told["type"], "N")]
+        if values:
+            told.setdefault("metavar", values[0] if len(values) == 1 else tuple(values))
+        if len(values) > 1:
+            told.setdefault("nargs", len(values))
         if default is False:
             told.setdefault("action", "store_true")
         elif default == ():
@@ -52,14 +57,24 @@ class Declared:
         add(word, dest=name, **{"default": default, **told})
 
 
-def option(words: str, about: str, default: Any = None, /, **more: Any) -> Any:
+def option(about: str, default: Any = None, /, value: str = "", word: str = "", **more: Any) -> Any:
     """A field with an option. `more` is for argparse; one with () may be repeated."""
-    return dataclasses.field(default=default, metadata={KEY: Declared(words, about, more)})
+    return dataclasses.field(default=default, metadata={KEY: Declared(about, value, word, more)})
 
 
-def repeated(words: str, about: str, default: str, **more: Any) -> Any:
+def flag(about: str) -> Any:
+    """One without a value."""
+    return option(about, False)
+
+
+def file(about: str, default: str | None = None, /, **more: Any) -> Any:
+    """One that names a file."""
+    return option(about, default, value="FILE", **more)
+
+
+def repeated(about: str, default: str) -> Any:
     """One that may be given again and again, by default as is said."""
-    return option(words, f"{about}, may be repeated (default: {default})", (), **more)
+    return option(f"{about}, may be repeated (default: {default})", ())
 
 
 def add_fields(
@@ -123,6 +138,8 @@ def plain_name(text: str) -> str:
     return text
 
 
+# How what these read is called in a help; a number is N.
+VALUES: dict[object, str] = {lsn: "LSN", duration: "TIME", size: "SIZE", plain_name: "NAME"}
 # The options that come first, in this order.
 COMMON = (
     *("--store", "--dsn", "--create", "--table", "--all-tables", "--tables", "--feed", "--into"),

@@ -47,10 +47,7 @@ class Options(StoreOptions):
 
     store: str = store_option("the store; its follower adds them, or does so at its next start")
     table: Sequence[str] = option(
-        "--table",
-        "a published table, may be repeated; what the copy has of it is replaced",
-        (),
-        required=True,
+        "a published table, may be repeated; what the copy has of it is replaced", (), required=True
     )
 
 

@@ -8,7 +8,7 @@ import sys
 
 from pgsub_feed.interruption import Check
 from pgsub_feed.log import escaped
-from pgsub_feed.options import add_fields, option
+from pgsub_feed.options import add_fields, flag
 
 from ..preconditions.judged import results
 from ..preconditions.server import ERROR, Purpose
@@ -37,7 +37,7 @@ class Options(StoreOptions, CopyOptions):
         False,
     )
     pgsub: str = program_option()
-    json: bool = option("--json", "print a JSON array", False)
+    json: bool = flag("print a JSON array")
 
     def purpose(self) -> Purpose:
         has_store, copies = bool(self.store and is_whole(self.store)), not self.no_copy

@@ -18,7 +18,7 @@ from pgsub_feed.errors import Passing, Unfit, told_of
 from pgsub_feed.files import OF_FILE, meant, own_files, remove
 from pgsub_feed.interruption import Check, never
 from pgsub_feed.json_texts import Unreadable, object_of, whole_of
-from pgsub_feed.options import option
+from pgsub_feed.options import flag
 from pgsub_feed.tables.schema import read_position
 from pgsub_feed.tables.sqlite_files import is_tables
 from pgsub_feed.texts import literal
@@ -55,10 +55,8 @@ class Options(StoreOptions):
     """Whose slot, publications and files go."""
 
     store: str = store_option("the store whose slot, publications and files go")
-    all: bool = option("--all", "the feed and the tables that follow it go, too", False)
-    yes: bool = option(
-        "--yes", "don't ask; what somebody else may have made or may use stays", False
-    )
+    all: bool = flag("the feed and the tables that follow it go, too")
+    yes: bool = flag("don't ask; what somebody else may have made or may use stays")
 
 
 def read_remembered(path: str) -> dict[str, Any]:

@@ -4,7 +4,7 @@ import dataclasses
 from collections.abc import Sequence
 
 from pgsub_feed.interruption import Check
-from pgsub_feed.options import option, repeated
+from pgsub_feed.options import flag, repeated
 from pgsub_feed.program import collected_rarely
 from pgsub_feed.tables.values import ALL_TEXT
 
@@ -22,10 +22,10 @@ ENDS = COPIED.replace(
 class Options(StoreCopyOptions):
     """What is exported."""
 
-    text: bool = option("--text", "each value as TEXT, as the server prints it", False)
+    text: bool = flag("each value as TEXT, as the server prints it")
     numeric: str = numeric_option()
-    table: Sequence[str] = repeated("--table", "export this table", "all")
-    indexes: bool = option("--indexes", f"with {INDEXES}", False)
+    table: Sequence[str] = repeated("export this table", "all")
+    indexes: bool = flag(f"with {INDEXES}")
 
 
 def settled(options: Options) -> Options:

@@ -12,7 +12,7 @@ from collections.abc import Iterable, Iterator
 from pgsub_feed.errors import Stopped, Unfit
 from pgsub_feed.files import meant, remove_files
 from pgsub_feed.interruption import Check, is_ended
-from pgsub_feed.options import add_fields, option
+from pgsub_feed.options import add_fields, file, option
 from pgsub_feed.program import stop_by_signals
 
 from ..copy.copier import Copier, CopySettings
@@ -71,13 +71,13 @@ class Options(
     """What is followed, into which store, and for how long."""
 
     store: str = ""
-    record: str | None = option("--record FILE", "add the sessions to this recording, a .pgx file")
+    record: str | None = file("add the sessions to this recording, a .pgx file")
     bytes: int = longest()
     check_every: int = option(
-        "--check-every N",
         "read and check all rows of the store at each N-th start; the others trust what the one before left (default: 30)",
         30,
         type=within(1, 1 << 31),
+        value="N",
     )
 
     def follow_settings(self) -> FollowSettings:

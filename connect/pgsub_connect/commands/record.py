@@ -4,7 +4,7 @@ import argparse
 import dataclasses
 
 from pgsub_feed.interruption import Check
-from pgsub_feed.options import add_fields, lsn, option
+from pgsub_feed.options import add_fields, file, flag, lsn, option
 from pgsub_feed.program import stop_by_signals
 
 from ..copy.slots import create_slot, maker_of
@@ -24,41 +24,31 @@ ENDS = words.ENDS
 class Options(ServerOptions, PublishingOptions):
     """What is recorded, and where it begins and ends."""
 
-    record: str = option(
-        "--record FILE",
-        "the recording to write, a .pgx file of one session, which isn't confirmed",
-        "",
+    record: str = file(
+        "the recording to write, a .pgx file of one session, which isn't confirmed", ""
     )
-    append: bool = option("--append", "add to the recording, after a line `--`", False)
-    overwrite: bool = option(
-        "--overwrite",
-        "write or add to it whatever it was before (default: a recording, or empty)",
-        False,
+    append: bool = flag("add to the recording, after a line `--`")
+    overwrite: bool = flag(
+        "write or add to it whatever it was before (default: a recording, or empty)"
     )
     bytes: int = longest()
-    start: int = option("--start LSN", "where to start (default: where the slot is)", 0, type=lsn)
+    start: int = option("where to start (default: where the slot is)", 0, type=lsn)
     until: int | str | None = option(
-        "--until LSN|now",
         "stop once all that was committed up to this LSN, or up to now, is recorded",
         type=lsn_or_now,
+        value="LSN|now",
     )
-    seconds: float | None = option("--seconds N", "stop after N seconds", type=any_seconds)
-    transactions: int | None = option(
-        "--transactions N", "stop after N commits", type=within(0, 1 << 62)
-    )
+    seconds: float | None = option("stop after N seconds", type=any_seconds)
+    transactions: int | None = option("stop after N commits", type=within(0, 1 << 62))
     confirm: int = option(
-        "--confirm LSN",
         "confirm what was recorded up to this LSN, so that the server may forget it (default: nothing)",
         0,
         type=lsn,
     )
-    streaming: bool = option(
-        "--streaming", "stream large transactions while they run (--proto 2)", False
-    )
-    binary: bool = option("--binary", "ask for values in binary format", False)
-    messages: bool = option("--messages", "ask for the messages of pg_logical_emit_message", False)
+    streaming: bool = flag("stream large transactions while they run (--proto 2)")
+    binary: bool = flag("ask for values in binary format")
+    messages: bool = flag("ask for the messages of pg_logical_emit_message")
     create: str | None = option(
-        "--create",
         "make them; a temporary slot goes at the end",
         nargs="?",
         const="permanent",

@@ -20,7 +20,7 @@ from typing import NamedTuple
 from pgsub_feed import log
 from pgsub_feed.errors import FileError
 from pgsub_feed.interruption import Check
-from pgsub_feed.options import option
+from pgsub_feed.options import flag
 from pgsub_feed.texts import counted
 
 from ..drift.doubts import resolved
@@ -50,7 +50,7 @@ class Options(StoreOptions):
     """Which store is compared, and whether it is mended without asking."""
 
     store: str = store_option("the store that is compared with what is published")
-    yes: bool = option("--yes", "mend it without asking", False)
+    yes: bool = flag("mend it without asking")
 
 
 class Told(NamedTuple):

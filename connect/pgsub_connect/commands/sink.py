@@ -12,7 +12,7 @@ from pgsub_feed.debezium.settings import DEBEZIUM, SCHEMAS
 from pgsub_feed.errors import NoFeed, Passing, UsageError
 from pgsub_feed.interruption import Check
 from pgsub_feed.known_tables import KnownTables, known_beside
-from pgsub_feed.options import add_fields, lsn, option
+from pgsub_feed.options import add_fields, file, flag, lsn, option
 from pgsub_feed.ownership import readable_by, readable_text
 from pgsub_feed.reader.folder import segments
 from pgsub_feed.sinks import (
@@ -88,40 +88,34 @@ class Options(FollowingOptions):
     """Which feed is followed, into which engine, and up to where."""
 
     url: str = option(
-        "URL",
         f"where to write: {FORMS} (default: {ENVIRONMENT} of the environment)",
         "",
         nargs="?",
         type=connecting.url,
         default="",
+        word="URL",
     )
-    url_file: str | None = option(
-        "--url-file FILE", "a file whose first line is the URL, for one with a password"
-    )
+    url_file: str | None = file("a file whose first line is the URL, for one with a password")
     form: str | None = option(
-        "--as",
         "what Redis gets (default: hashes, which leave out tables without a key)",
         choices=("hashes", "streams"),
+        word="--as",
     )
     stream: str | None = option(
-        "--stream NAME",
         "the stream of JetStream, made where it isn't there (default: pgsub)",
         type=stream_name,
+        value="NAME",
     )
     replicas: int | None = option(
-        "--replicas N",
         "how many servers of NATS have the stream, where it isn't there (default: 1)",
         type=within(1, 5),
     )
-    kafka_config: str | None = option(
-        "--kafka-config FILE",
-        "properties of librdkafka for Kafka, a line NAME=VALUE each: TLS, logins",
+    kafka_config: str | None = file(
+        "properties of librdkafka for Kafka, a line NAME=VALUE each: TLS, logins"
     )
-    debezium: Sequence[str] = option("--debezium NAME=VALUE", f"for Kafka: {DEBEZIUM}", ())
-    schemas: bool = option("--schemas", f"for Kafka: {SCHEMAS}", False)
-    until: int | None = option(
-        "--until LSN", "end before the first commit above this LSN", type=lsn
-    )
+    debezium: Sequence[str] = option(f"for Kafka: {DEBEZIUM}", (), value="NAME=VALUE")
+    schemas: bool = flag(f"for Kafka: {SCHEMAS}")
+    until: int | None = option("end before the first commit above this LSN", type=lsn)
 
 
 def add_options(parser: argparse.ArgumentParser) -> None:

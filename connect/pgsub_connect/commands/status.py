@@ -18,7 +18,7 @@ from typing import Any
 from pgsub_feed import json_texts, log
 from pgsub_feed.errors import Stopped, UsageError
 from pgsub_feed.interruption import Check
-from pgsub_feed.options import BYTES, SECONDS, add_fields, duration, option
+from pgsub_feed.options import BYTES, SECONDS, add_fields, duration, flag, option
 
 from ..status.files import STATUS
 from ..status.health import ENDED, KINDS, Fault, Limit, cures_of, faults, line_of, screen_of
@@ -64,18 +64,15 @@ class Options:
 
     store: str = ""
     status_file: str = ""
-    watch: bool = option("--watch", "go on with it on the screen, until q or Ctrl-C", False)
+    watch: bool = flag("go on with it on the screen, until q or Ctrl-C")
     max_lag: Sequence[Limit] = option(
-        "--max-lag LAG",
         "the most that the copy may be behind: a time (60s, 5min, 1h) or a size (10MB, 1GB), may be repeated (default: any)",
         (),
         type=lag_limit,
+        value="LAG",
     )
     max_age: float = option(
-        "--max-age TIME",
-        "the most that the last sign of life may be old (default: 30s)",
-        30.0,
-        type=duration,
+        "the most that the last sign of life may be old (default: 30s)", 30.0, type=duration
     )
 
 

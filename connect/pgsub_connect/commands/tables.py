@@ -9,7 +9,7 @@ from pgsub_feed import log
 from pgsub_feed.errors import UsageError
 from pgsub_feed.interruption import Check
 from pgsub_feed.known_tables import known_beside
-from pgsub_feed.options import add_fields, lsn, option
+from pgsub_feed.options import add_fields, file, flag, lsn, option
 from pgsub_feed.program import collected_rarely
 from pgsub_feed.tables.first_rows import check_file
 from pgsub_feed.tables.following import Wanted, keep
@@ -43,20 +43,16 @@ LEFT = 1
 class Options(FollowingOptions):
     """Which feed is followed, into which file, and up to where."""
 
-    into: str = option("--into FILE", "the file with the tables", "", required=True)
-    init: str | None = option(
-        "--init FILE",
-        "run this SQL once a table was made or altered, for indexes and views: CREATE INDEX IF NOT EXISTS ..",
+    into: str = file("the file with the tables", "", required=True)
+    init: str | None = file(
+        "run this SQL once a table was made or altered, for indexes and views: CREATE INDEX IF NOT EXISTS .."
     )
-    digests: bool = option(
-        "--digests",
-        "keep a digest of each table, for `verify`; a file that has them keeps them",
-        False,
+    digests: bool = flag(
+        "keep a digest of each table, for `verify`; a file that has them keeps them"
     )
     numeric: str = numeric_option()
-    indexes: bool = option("--indexes", f"with {INDEXES}; it needs the store of the feed", False)
+    indexes: bool = flag(f"with {INDEXES}; it needs the store of the feed")
     at: int | None = option(
-        "--at LSN",
         "the tables as of this LSN: end before the first commit above it, or go back to there",
         type=lsn,
     )

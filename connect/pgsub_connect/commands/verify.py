@@ -9,7 +9,7 @@ from collections.abc import Sequence
 from pgsub_feed import log
 from pgsub_feed.errors import FileError, Passing, Stopped, Unfit
 from pgsub_feed.interruption import Check
-from pgsub_feed.options import option, repeated
+from pgsub_feed.options import file, flag, option, repeated
 from pgsub_feed.tables.values import Malformed
 
 from ..errors import Unrepaired
@@ -35,31 +35,24 @@ class Options(StoreOptions):
         "the store, which has to be followed meanwhile; with --tables whose publications are meant (default: that of the feed STORE.feed)",
         False,
     )
-    tables: str = option(
-        "--tables FILE", "compare these tables that follow a feed, and hold nothing meanwhile", ""
-    )
-    other: str = option(
-        "--with FILE", "compare --tables with those of this file, and not with the server", ""
+    tables: str = file("compare these tables that follow a feed, and hold nothing meanwhile", "")
+    other: str = file(
+        "compare --tables with those of this file, and not with the server", "", word="--with"
     )
     feed: str = option(
-        "--feed FOLDER", "the feed of --tables (default: the one that the file follows)", ""
+        "the feed of --tables (default: the one that the file follows)", "", value="FOLDER"
     )
-    digests: bool = option(
-        "--digests",
-        "compare the digests that --tables keep, and read rows only where they differ",
-        False,
+    digests: bool = flag(
+        "compare the digests that --tables keep, and read rows only where they differ"
     )
-    table: Sequence[str] = repeated("--table", "compare this table", "all that are published")
-    repair: bool = option(
-        "--repair",
-        "have the follower mend the rows that differ, or copy a table anew of which many do",
-        False,
+    table: Sequence[str] = repeated("compare this table", "all that are published")
+    repair: bool = flag(
+        "have the follower mend the rows that differ, or copy a table anew of which many do"
     )
     show: int = option(
-        "--show N", "print at most N keys that differ (default: 20)", 20, type=within(0, 1 << 20)
+        "print at most N keys that differ (default: 20)", 20, type=within(0, 1 << 20)
     )
     hold: float = option(
-        "--hold N",
         "wait for at most N seconds until the server has made a slot, and hold the stream to a store meanwhile (default: 10)",
         10.0,
         type=within_seconds(600.0),

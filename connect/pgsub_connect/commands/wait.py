@@ -14,7 +14,7 @@ import time
 from pgsub_feed import options
 from pgsub_feed.errors import FileError, Passing, Stopped
 from pgsub_feed.interruption import Check
-from pgsub_feed.options import duration, option
+from pgsub_feed.options import duration, file, option
 from pgsub_feed.reader.folder import read_confirmed
 from pgsub_feed.reader.segments import Reader
 from pgsub_feed.tables.schema import read_position
@@ -45,14 +45,11 @@ SLEEP, STARTING = 0.1, 3.0
 class Options:
     """What is waited for, in which file, and for how long."""
 
-    lsn: int = option("LSN", "what is waited for", 0, type=options.lsn)
-    tables: str = option("--tables FILE", "the file with the tables", "", required=True)
-    feed: str | None = option("--feed FOLDER", "the feed (default: the one that the file follows)")
+    lsn: int = option("what is waited for", 0, type=options.lsn, word="LSN")
+    tables: str = file("the file with the tables", "", required=True)
+    feed: str | None = option("the feed (default: the one that the file follows)", value="FOLDER")
     within: float = option(
-        "--within TIME",
-        "give up after this time, as 30s or 5min (default: 60s)",
-        60.0,
-        type=duration,
+        "give up after this time, as 30s or 5min (default: 60s)", 60.0, type=duration
     )
 
 

@@ -8,7 +8,7 @@ from collections.abc import Sequence
 from typing import TypeVar
 
 from pgsub_feed.errors import Unfit, UsageError
-from pgsub_feed.options import duration, option, size
+from pgsub_feed.options import duration, file, flag, option, size
 from pgsub_feed.sinks.connecting import FORMS, url
 from pgsub_feed.tables.schema import read_numeric
 from pgsub_feed.tables.values import BOTH
@@ -30,68 +30,56 @@ NEEDS = {
 }
 
 
-OLDER = "remove segments that are older, as 7d, and that all readers have read (default: as soon as all readers have, where there are any)"
-
-
 @dataclasses.dataclass(frozen=True)
 class FeedOptions:
     """The folder of the feed, when segments of it begin and go, and the file of tables."""
 
     feed: str = option(
-        "--feed FOLDER",
         "keep a feed of all commits in this folder, as lines of JSON with each row before and after (default: the one that the store has had)",
         "",
+        value="FOLDER",
     )
-    without_feed: bool = option(
-        "--without-feed", "leave the feed that the store has had; it ends for good", False
-    )
+    without_feed: bool = flag("leave the feed that the store has had; it ends for good")
     feed_segment_bytes: int = option(
-        "--feed-segment-bytes BYTES",
         "begin another segment before one gets larger (default: 67108864)",
         0,
         type=within(1 << 12, 1 << 40),
+        value="BYTES",
     )
     feed_segment_seconds: int = option(
-        "--feed-segment-seconds N",
-        "begin another segment after N seconds (default: never)",
-        0,
-        type=within(1, 1 << 31),
+        "begin another segment after N seconds (default: never)", 0, type=within(1, 1 << 31)
     )
     feed_max_bytes: int = option(
-        "--feed-max-bytes SIZE",
         "remove the oldest segments of a feed that gets larger, as 10GB, whoever hasn't read them",
         0,
         type=size,
     )
-    feed_max_age: float | None = option("--feed-max-age TIME", OLDER, type=duration)
+    feed_max_age: float | None = option(
+        "remove segments that are older, as 7d, and that all readers have read (default: as soon as all readers have, where there are any)",
+        type=duration,
+    )
     feed_base: str = option(
-        "--feed-base WHETHER",
         "keep the rows of the initial copy as files of the feed, too, yes or no (default: yes where --feed is named)",
         "",
         choices=["yes", "no"],
+        value="WHETHER",
     )
-    tables: str = option(
-        "--tables FILE",
+    tables: str = file(
         "keep ordinary tables in this file of SQLite, by `pgsub-connect tables` beside the follower (default: those that the store has had); the feed is STORE.feed by default",
         "",
     )
-    without_tables: bool = option(
-        "--without-tables", "leave the tables that the store has had: they follow no more", False
+    without_tables: bool = flag("leave the tables that the store has had: they follow no more")
+    init: str | None = file(
+        "with --tables: run this SQL once a table was made or altered, for indexes and views"
     )
-    init: str | None = option(
-        "--init FILE",
-        "with --tables: run this SQL once a table was made or altered, for indexes and views",
-    )
-    digests: bool = option(
-        "--digests", "with --tables: keep a digest of each table, for `verify`", False
-    )
+    digests: bool = flag("with --tables: keep a digest of each table, for `verify`")
     numeric: str = numeric_option("")
-    indexes: bool = option("--indexes", f"with --tables: {INDEXES}", False)
+    indexes: bool = flag(f"with --tables: {INDEXES}")
     sink: Sequence[str] = option(
-        "--sink URL",
         f"write the rows to Redis, NATS or Kafka, by `pgsub-connect sink` beside the follower, may be repeated: {FORMS}; the feed is STORE.feed by default",
         (),
         type=url,
+        value="URL",
     )
 
     def feed_settings(self, store: str, mode: int) -> FeedSettings:

@@ -8,7 +8,7 @@ from collections.abc import Collection, Iterable, Sequence
 from typing import Any
 
 from pgsub_feed.interruption import Check
-from pgsub_feed.options import option, plain_name, repeated
+from pgsub_feed.options import flag, option, plain_name, repeated
 from pgsub_feed.reader.polling import Parent
 from pgsub_feed.reader.reading import Reading
 from pgsub_feed.tables.values import AS_REAL, AS_TEXT, BOTH
@@ -24,13 +24,13 @@ INDEXES = "the server's indexes of btree over plain columns, none of them unique
 class FollowingOptions:
     """Which feed is followed, with which rows it begins, and of which tables."""
 
-    feed: str = option("--feed FOLDER", "the feed", "", required=True)
+    feed: str = option("the feed", "", required=True, value="FOLDER")
     base: str | None = None
     store: str = ""
-    table: Sequence[str] = repeated("--table", "keep this table", "all")
+    table: Sequence[str] = repeated("keep this table", "all")
     reader: str | None = None
     once: bool = False
-    while_input: bool = option("--while-input", "end once standard input ends, too", False)
+    while_input: bool = flag("end once standard input ends, too")
     mode: int = mode_option("mode of a file that is made")
 
     def parent(self, check: Check) -> Parent | None:
@@ -72,7 +72,6 @@ def add_following(parser: argparse.ArgumentParser, base: str, disk: str, done: s
 
 def numeric_option(default: str = BOTH) -> Any:
     return option(
-        "--numeric",
         "numerics as REAL, those of more than 15 digits with their text in NAME_text (both, the default), as TEXT, or as REAL alone, which can't be verified (real)",
         default,
         choices=(BOTH, AS_TEXT, AS_REAL),

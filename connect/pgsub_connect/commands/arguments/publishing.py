@@ -4,7 +4,7 @@ import argparse
 import dataclasses
 from collections.abc import Sequence
 
-from pgsub_feed.options import add_fields, option, repeated
+from pgsub_feed.options import add_fields, flag, option, repeated
 
 from ...server.publication_setup import Wanted
 from .words import check_needs, within
@@ -15,23 +15,14 @@ class PublishingOptions:
     """What is published where nothing is yet."""
 
     create: str | None = None
-    table: Sequence[str] = repeated(
-        "--table", "with --create: a table to publish", "those that are there"
-    )
-    all_tables: bool = option(
-        "--all-tables", "with --create: publish all tables, also those that are made later", False
-    )
+    table: Sequence[str] = repeated("with --create: a table to publish", "those that are there")
+    all_tables: bool = flag("with --create: publish all tables, also those that are made later")
     keyless: str = option(
-        "--keyless",
         "what becomes of tables without a usable replica identity (default: refuse; inserts: only their Inserts are published, by a publication NAME_inserts)",
         "refuse",
         choices=("refuse", "leave-out", "inserts"),
     )
-    failover: bool = option(
-        "--failover",
-        "with --create: a slot that is synchronized to standbys (PostgreSQL 17)",
-        False,
-    )
+    failover: bool = flag("with --create: a slot that is synchronized to standbys (PostgreSQL 17)")
 
     def wanted(self, publications: Sequence[str]) -> Wanted:
         tables = list(self.table)
@@ -42,11 +33,9 @@ class PublishingOptions:
 class CopyOptions(PublishingOptions):
     """How the first rows are copied."""
 
-    no_copy: bool = option(
-        "--no-copy", "begin a new store where the slot is, without the rows from before", False
-    )
+    no_copy: bool = flag("begin a new store where the slot is, without the rows from before")
     jobs: int = option(
-        "--jobs N", "read N tables at a time, of large ones one (default: 2)", 2, type=within(1, 64)
+        "read N tables at a time, of large ones one (default: 2)", 2, type=within(1, 64)
     )
 
 

@@ -6,7 +6,7 @@ from typing import TypeVar
 
 from pgsub_feed import log
 from pgsub_feed.errors import Unfit
-from pgsub_feed.options import option, repeated
+from pgsub_feed.options import file, option, repeated
 from pgsub_feed.ownership import readable_by, readable_text
 
 from ...drift.remembered import Remembered
@@ -24,29 +24,25 @@ from .words import check_texts, each, mode_option, seconds, use_mode
 class ServerOptions:
     """Where the server is, and what of it is followed."""
 
-    dsn: str = option("--dsn", "connection string or URI of libpq (default: its environment)", "")
-    dsn_file: str | None = option(
-        "--dsn-file FILE",
-        "a file whose first line is the connection string, for one with a password",
+    dsn: str = option("connection string or URI of libpq (default: its environment)", "")
+    dsn_file: str | None = file(
+        "a file whose first line is the connection string, for one with a password"
     )
     slot: str = option(
-        "--slot",
         "replication slot (default: the one that the store follows, else pgsub)",
         "pgsub",
         default="",
     )
     publication: Sequence[str] = repeated(
-        "--publication", "publication", "those that the store has followed, else pgsub"
+        "publication", "those that the store has followed, else pgsub"
     )
     proto: int = option(
-        "--proto",
         "protocol version (default: 2, and 1 where the server has no other)",
         2,
         type=int,
         choices=(1, 2),
     )
     heartbeat: float = option(
-        "--heartbeat N",
         "seconds between statuses (default: 10, and at most a third of wal_sender_timeout)",
         10.0,
         type=seconds,
@@ -130,7 +126,7 @@ class StoreOptions(ServerOptions):
 
     store: str = ""
     accept: Sequence[str] = option(
-        "--accept", "connect without TLS although it was in use before", (), choices=(PLAINTEXT,)
+        "connect without TLS although it was in use before", (), choices=(PLAINTEXT,)
     )
 
 

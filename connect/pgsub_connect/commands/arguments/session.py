@@ -9,7 +9,7 @@ import sys
 from collections.abc import Sequence
 from typing import Any, TypeVar
 
-from pgsub_feed.options import add_fields, lsn, option, size
+from pgsub_feed.options import add_fields, file, flag, lsn, option, size
 
 from ...record.recording import LONGEST
 from ...store.checkpoint import KINDS
@@ -33,7 +33,7 @@ def program() -> str:
 
 def program_option() -> Any:
     text = "the program `pgsub` (default: the one installed beside this one)"
-    return option("--pgsub PROGRAM", text, "")
+    return option(text, "", value="PROGRAM")
 
 
 @dataclasses.dataclass(frozen=True)
@@ -42,21 +42,21 @@ class SizeOptions:
 
     pgsub: str = program_option()
     max_buffered: int = option(
-        "--max-buffered BYTES",
         "the most that may be buffered of open transactions (default: half of the memory, at most 1 GiB)",
         0,
         type=within(1, (1 << 63) - 1),
+        value="BYTES",
     )
     max_frame: int = option(
-        "--max-frame BYTES",
         f"the longest message that is accepted (default: what may be buffered, at most {LONGEST_FRAME})",
         0,
         type=within(1 << 10, LONGEST_FRAME),
+        value="BYTES",
     )
     cache: int | None = option(
-        "--cache PAGES",
         "pages of the store's file that stay in memory (default: 20000, which cost 20 MB; see `pgsub follow --help`)",
         type=within(100, MOST_PAGES),
+        value="PAGES",
     )
 
     def limits(self) -> BufferLimits:
@@ -85,36 +85,28 @@ class SessionOptions:
     """Where it ends, and what is watched, taken as it is, or passed over."""
 
     until: int | str | None = option(
-        "--until LSN|now",
         "stop once all that was committed up to this LSN, or up to now, is stored, and in tables and sinks beside it",
         type=lsn_or_now,
+        value="LSN|now",
     )
     silence: float = option(
-        "--silence N",
-        "give a server up that says nothing for N seconds (default: 60)",
-        60.0,
-        type=seconds,
+        "give a server up that says nothing for N seconds (default: 60)", 60.0, type=seconds
     )
-    strict: bool = option(
-        "--strict",
-        "end with status 5 where something was found that may have made the copy wrong",
-        False,
+    strict: bool = flag(
+        "end with status 5 where something was found that may have made the copy wrong"
     )
     watch: str = option(
-        "--watch",
         "watch whether the server keeps the rules of the proof, and whether commits that it sends again are the same; the rules alone, which takes less of the processor; or nothing (default: all)",
         ALL,
         choices=(ALL, RULES, NO),
     )
     accept: Sequence[str] = option(
-        "--accept KIND",
         f"take what was found of this kind as it is, may be repeated: {', '.join(ACCEPTED)}; the last, which isn't in all: go on without TLS",
         (),
         choices=ACCEPTED,
+        value="KIND",
     )
-    skip: int = option(
-        "--skip LSN", "pass over the changes of the commit with this final LSN", 0, type=lsn
-    )
+    skip: int = option("pass over the changes of the commit with this final LSN", 0, type=lsn)
 
 
 def add_session(group: argparse._ArgumentGroup) -> None:
@@ -137,16 +129,12 @@ class AlterOptions:
     """What is done about them, and of how many bytes a table may be for that."""
 
     on_alter: str = option(
-        "--on-alter",
         "copy a table anew whose rows an ALTER has changed, but for a synchronous follower, or tell it alone (default: refresh)",
         REFRESH,
         choices=(REFRESH, TELL),
     )
     on_alter_max_bytes: int = option(
-        "--on-alter-max-bytes SIZE",
-        "tell it alone of a table whose files are larger (default: 100MB)",
-        MOST,
-        type=size,
+        "tell it alone of a table whose files are larger (default: 100MB)", MOST, type=size
     )
 
     def renewed(self) -> int | None:
@@ -158,28 +146,22 @@ class AlterOptions:
 class WatchOptions:
     """The files, and how often the snapshot is replaced, in seconds; 0 for when it is asked for."""
 
-    status_file: str | None = option(
-        "--status-file FILE", "replace this file each second by a JSON object that says how it goes"
+    status_file: str | None = file(
+        "replace this file each second by a JSON object that says how it goes"
     )
-    metrics_file: str | None = option(
-        "--metrics-file FILE",
-        "replace this file each second by the same as Prometheus' text format",
+    metrics_file: str | None = file(
+        "replace this file each second by the same as Prometheus' text format"
     )
-    snapshot: str | None = option(
-        "--snapshot FILE",
-        "copy the store to this file for readers, which can't open the store itself: at SIGUSR1, and as --snapshot-every says",
+    snapshot: str | None = file(
+        "copy the store to this file for readers, which can't open the store itself: at SIGUSR1, and as --snapshot-every says"
     )
     snapshot_every: float = option(
-        "--snapshot-every N",
-        "replace the snapshot each N seconds (default: at SIGUSR1 alone)",
-        0.0,
-        type=any_seconds,
+        "replace the snapshot each N seconds (default: at SIGUSR1 alone)", 0.0, type=any_seconds
     )
 
 
 def longest() -> Any:
     return option(
-        "--bytes N",
         f"stop before the recording is longer than N bytes (default: {LONGEST}, which is pgsub's limit)",
         LONGEST,
         type=within(1, 1 << 62),

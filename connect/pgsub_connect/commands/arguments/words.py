@@ -7,7 +7,7 @@ from collections.abc import Callable, Iterable
 from typing import Any, TypeVar
 
 from pgsub_feed.errors import UsageError
-from pgsub_feed.options import lsn, option
+from pgsub_feed.options import file, lsn, option
 from pgsub_feed.texts import is_utf_8
 
 from ...store.placing import check_apart
@@ -92,11 +92,11 @@ def check_files(
 
 
 def store_option(about: str, is_required: bool = True) -> Any:
-    return option("--store FILE", about, "", required=is_required)
+    return file(about, "", required=is_required)
 
 
 def mode_option(about: str) -> Any:
-    return option("--mode OCTAL", f"{about} (default: 600)", 0o600, type=mode_of)
+    return option(f"{about} (default: 600)", 0o600, value="OCTAL", type=mode_of)
 
 
 def use_mode(mode: int) -> None:
@@ -111,9 +111,7 @@ class StoreCopyOptions:
     store: str = store_option(
         "the store, which may be in use: then its follower is asked for a copy"
     )
-    into: str = option(
-        "--into FILE", "the file to write; one of an earlier run is replaced", "", required=True
-    )
+    into: str = file("the file to write; one of an earlier run is replaced", "", required=True)
     mode: int = mode_option("its mode")
 
 
