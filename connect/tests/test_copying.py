@@ -32,7 +32,7 @@ from pgsub_connect.copy.tables import altered_tables
 from pgsub_connect.copy.tries import CHANGED, Tries
 from pgsub_connect.drift.remembered import Remembered
 from pgsub_connect.errors import ServerError
-from pgsub_connect.server import publication_setup, waits as waits_module
+from pgsub_connect.server import publication_setup, session, waits as waits_module
 from pgsub_connect.server.catalog import Catalog, Partition, Table
 from pgsub_connect.server.publication_setup import Wanted
 from pgsub_connect.server.session import Subscription
@@ -169,7 +169,7 @@ class Copying(Quiet):
         server.answer("pg_drop_replication_slot", self.slot_dropped)
         server.lines = [b"1\t5\n", b"2\t\\N\n"]
         self.tables = [STOCK]
-        for module in (copy_slot, slots, publication_setup, waits_module, table_reader):
+        for module in (copy_slot, slots, publication_setup, waits_module, session):
             self.patch(module, "Connection", server.connect)
         self.patch(table_reader, "LOOK", 0.001)
         self.patch(tables_module, "published_tables", lambda *_: list(self.tables))

@@ -14,6 +14,7 @@ from unittest import mock
 from pgsub_connect.commands import drop
 from pgsub_connect.commands.drop import Dropper, ask_terminal, files_of
 from pgsub_connect.errors import ServerError
+from pgsub_connect.server import session
 from pgsub_connect.store.checkpoint import Checkpoint
 from pgsub_feed.errors import FileError, Passing, Unfit
 from pgsub_feed.tables.first_rows import prepare
@@ -52,7 +53,7 @@ class Dropping(Quiet):
                 [oid] for name, oid in self.publications.items() if command.endswith(f"'{name}'")
             ],
         )
-        patch = mock.patch.object(drop, "Connection", server.connect)
+        patch = mock.patch.object(session, "Connection", server.connect)
         patch.start()
         self.addCleanup(patch.stop)
         self.asked: list[str] = []

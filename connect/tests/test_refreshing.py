@@ -21,6 +21,7 @@ from pgsub_connect.drift.remembered import Remembered
 from pgsub_connect.errors import ServerError
 from pgsub_connect.follow.request_socket import RequestSocket
 from pgsub_connect.follow.snapshots import Snapshots
+from pgsub_connect.server import session
 from pgsub_connect.server.catalog import Catalog, Part, Partition
 from pgsub_connect.store import at_rest, socket_file
 from pgsub_feed.errors import FileError, Passing, Stopped, Unfit
@@ -134,8 +135,7 @@ class Case(Quiet):
         self.server = FakeServer()
         self.now = a_catalog(ONE, TWO, THREE)
         for where, what, by in (
-            (add, "Connection", self.server.connect),
-            (refresh_module, "Connection", self.server.connect),
+            (session, "Connection", self.server.connect),
             (add, "WAIT", 0.005),
             (refresh_module, "read_catalog", lambda *_: self.now),
             (at_rest, "LOOK", 0.005),

@@ -196,8 +196,8 @@ class Looks(Case):
         clock = mock.patch("time.monotonic", return_value=time.monotonic())
         clock.start()
         self.addCleanup(clock.stop)
-        with mock.patch("pgsub_connect.follow.drift_watch.Connection") as connection, mock.patch(
-            "pgsub_connect.follow.drift_watch.settle"
+        with mock.patch("pgsub_connect.server.session.Connection") as connection, mock.patch(
+            "pgsub_connect.server.session.settle"
         ):
             with mock.patch(
                 "pgsub_connect.follow.drift_watch.read_catalog",
@@ -213,9 +213,9 @@ class Looks(Case):
         with mock.patch("pgsub_connect.follow.drift_watch.AT_LEAST", 5.0), mock.patch(
             "time.monotonic"
         ) as clock, mock.patch(
-            "pgsub_connect.follow.drift_watch.Connection"
+            "pgsub_connect.server.session.Connection"
         ) as connection, mock.patch(
-            "pgsub_connect.follow.drift_watch.settle"
+            "pgsub_connect.server.session.settle"
         ), mock.patch(
             "pgsub_connect.follow.drift_watch.read_catalog", return_value=a_catalog(T, U, lsn=200)
         ), logged() as said:
@@ -230,7 +230,7 @@ class Looks(Case):
     def test_that_fail_are_tried_again(self) -> None:
         watch = self.watch()
         with mock.patch(
-            "pgsub_connect.follow.drift_watch.Connection", side_effect=ServerError("gone")
+            "pgsub_connect.server.session.Connection", side_effect=ServerError("gone")
         ) as connection, logged() as said:
             self.assertTrue(watch.tend(True, never, 100))
             self.assertTrue(watch.tend(True, never, 100))
@@ -245,8 +245,8 @@ class Looks(Case):
             ([now], 0),
         ]
         for outcomes, lines in cases:
-            with mock.patch("pgsub_connect.follow.drift_watch.Connection"), mock.patch(
-                "pgsub_connect.follow.drift_watch.settle"
+            with mock.patch("pgsub_connect.server.session.Connection"), mock.patch(
+                "pgsub_connect.server.session.settle"
             ), mock.patch(
                 "pgsub_connect.follow.drift_watch.read_catalog", side_effect=outcomes
             ), logged() as said:

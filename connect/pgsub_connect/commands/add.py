@@ -22,10 +22,9 @@ from pgsub_feed.texts import counted
 from ..copy.source import chosen
 from ..drift.remembered import Remembered
 from ..errors import ServerError
-from ..server.connection import Connection
 from ..server.publication_setup import names_of
 from ..server.publications import published_tables
-from ..server.session import settle
+from ..server.session import Subscription
 from ..store.at_rest import check_there, follower_of, is_followed
 from ..store.checkpoint import locked, read_known
 from .arguments.server import StoreOptions, settled_store
@@ -58,9 +57,7 @@ def settled(options: Options) -> Options:
 def run(options: Options, check: Check) -> int:
     check_there(options.store)
     slot = read_known(options.store + ".connector").slot or options.slot
-    name = f"{slot} tables"
-    with contextlib.closing(Connection(options.dsn, name=name, check=check)) as connection:
-        settle(connection)
+    with Subscription(options.dsn, slot).connected("tables", check) as connection:
         published = published_tables(connection, options.publication)
     tables = {it.oid: it.text() for it in chosen(published, list(options.table))}
     return add(options.store, options.mode, tables, check)

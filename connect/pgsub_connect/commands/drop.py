@@ -30,7 +30,7 @@ from ..server.connection import Connection
 from ..server.libpq import TICK
 from ..server.publication_content import drop_publication, oid_of, other_slots
 from ..server.publication_setup import inserts_of
-from ..server.session import Server, database_oid, is_same_database, other_slot, settle
+from ..server.session import Server, Subscription, database_oid, is_same_database, other_slot
 from ..status.files import STATUS
 from ..store.checkpoint import locked, read_known
 from ..store.placing import OF_STORE
@@ -128,9 +128,8 @@ class Dropper:
     def run(self) -> None:
         """Slot first, which fills the server's disk; files last, which say what else there is."""
         with locked(self.store + ".connector"):
-            dsn, name = self.options.dsn, f"{self.slot} drop"
-            with contextlib.closing(Connection(dsn, name=name, check=self.check)) as connection:
-                settle(connection)
+            subscription = Subscription(self.options.dsn, self.slot)
+            with subscription.connected("drop", self.check) as connection:
                 self.check_server(connection)
                 done = self.drop_slot(connection)
                 self.drop_publications(connection)

@@ -14,7 +14,6 @@ changed since, and what was found and not accepted. Of the server only the catal
 
 import dataclasses
 import json
-from contextlib import closing
 from typing import NamedTuple
 
 from pgsub_feed import log
@@ -28,9 +27,8 @@ from ..drift.findings import PUBLICATION, VALUES
 from ..drift.remembered import Remembered
 from ..server.catalog import Catalog
 from ..server.catalog_reader import read_catalog
-from ..server.connection import Connection
 from ..server.publication_setup import names_of
-from ..server.session import Subscription, settle
+from ..server.session import Subscription
 from ..store.at_rest import check_there
 from ..store.checkpoint import read_known
 from . import add
@@ -138,7 +136,5 @@ def run(options: Options, check: Check) -> int:
 
 
 def read_now(subscription: Subscription, check: Check, before: Catalog) -> Catalog:
-    name = f"{subscription.slot} tables"
-    with closing(Connection(subscription.dsn, name=name, check=check)) as connection:
-        settle(connection)
+    with subscription.connected("tables", check) as connection:
         return resolved(connection, before, read_catalog(connection, subscription.publications))

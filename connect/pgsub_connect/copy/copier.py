@@ -231,7 +231,7 @@ class Copier(Worker):
         )
         self.maker.make()
         self.subscription.note_publications(self.maker.publications)
-        with contextlib.closing(self.slot.connect_plain()) as plain:
+        with self.subscription.connected("copy", self.slot.check_all) as plain:
             self.copy(plain)
 
     def clear(self) -> None:
@@ -248,7 +248,6 @@ class Copier(Worker):
         what = lock_text("the copy", plain.pid())
         waiting = Waiting(subscription.dsn, subscription.slot, self.slot.check_all, what)
         with plain.checked_by(waiting.check):
-            settle(plain)
             tables = self.tables.published(plain)
             files = stored_in(plain, tables)
             self.progress.copy.note_total(estimated_rows(plain, tables), len(tables))

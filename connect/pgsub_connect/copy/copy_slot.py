@@ -55,11 +55,6 @@ class CopySlot:
         )
         return self.replication
 
-    def connect_plain(self) -> Connection:
-        """Another connection beside these."""
-        name = f"{self.subscription.slot} copy"
-        return Connection(self.subscription.dsn, name=name, check=self.check_all)
-
     def close(self) -> None:
         for connection in self.connections():
             connection.close()
@@ -92,7 +87,8 @@ class CopySlot:
 
     def hold_snapshot(self, snapshot: str) -> str:
         """Has a transaction without locks keep the slot's snapshot, and export it for others."""
-        self.holder = holder = self.connect_plain()
+        name = f"{self.subscription.slot} copy"
+        self.holder = holder = Connection(self.subscription.dsn, name=name, check=self.check_all)
         settle(holder)
         holder.run("BEGIN ISOLATION LEVEL REPEATABLE READ READ ONLY")
         take_snapshot(holder, snapshot)

@@ -16,7 +16,7 @@ from pgsub_feed.texts import counted
 from ..server.catalog import Table
 from ..server.connection import Connection
 from ..server.publications import sizes_of
-from ..server.session import is_lost, settle
+from ..server.session import is_lost
 from ..store.at_rest import hold
 from ..store.file import is_store, opened
 from ..stream.filter_end import FilterEnded
@@ -78,8 +78,7 @@ class Interrupted:
     def without(self, whole: set[int]) -> tuple[list[Table], list[str]]:
         """The published tables but for these, and the names of those that are too large to be added
         by themselves."""
-        with contextlib.closing(self.slot.connect_plain()) as plain:
-            settle(plain)
+        with self.subscription.connected("copy", self.slot.check_all) as plain:
             missing = [it for it in self.tables.published(plain) if it.oid not in whole]
             sizes = sizes_of(plain, missing)
         return missing, [it.text() for it in missing if sizes.get(it.oid, 0) > self.most]

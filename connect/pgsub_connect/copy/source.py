@@ -16,9 +16,8 @@ from pgsub_feed.tables.names import names_of
 from ..drift.remembered import Remembered
 from ..errors import NoSlot, ServerError
 from ..server.catalog import Table
-from ..server.connection import Connection
 from ..server.publications import published_tables
-from ..server.session import Subscription, identify, is_same_database, settle
+from ..server.session import Subscription, identify, is_same_database
 from ..server.waits import Waiting
 from ..store.checkpoint_lines import FOLLOWING, Known
 from .slots import create_temporary
@@ -49,9 +48,10 @@ class Source:
         # what is closed at the end, and the slot's connection, once the snapshot is taken
         self.closing, self.slot = contextlib.ExitStack(), contextlib.ExitStack()
         with undone_by(self.close):
-            self.replication = self.connect(self.slot, replication=True)
+            replication = subscription.connected(purpose, check, replication=True)
+            self.replication = self.slot.enter_context(replication)
             self.check_server(known)
-            self.plain = self.connect(self.closing, replication=False)
+            self.plain = self.closing.enter_context(subscription.connected(purpose, check))
             self.plain.run("SET row_security = off")
             # the OID of the table that alone is looked at, 0 for all
             self.only = 0
@@ -59,17 +59,6 @@ class Source:
             # those that can't be read as the snapshot has them, and why, where the others are read
             self.left: dict[int, str] = {}
             self.encoding = self.plain.text("SELECT pg_catalog.current_setting('server_encoding')")
-
-    def connect(self, closing: contextlib.ExitStack, replication: bool) -> Connection:
-        connection = Connection(
-            self.subscription.dsn,
-            replication=replication,
-            name=f"{self.subscription.slot} {self.purpose}",
-            check=self.check,
-        )
-        closing.callback(connection.close)
-        settle(connection)
-        return connection
 
     def check_server(self, known: Known) -> None:
         """Rejects a server whose changes the store doesn't follow."""

@@ -29,7 +29,7 @@ from ..errors import ServerError
 from ..server.catalog import Table
 from ..server.connection import Connection
 from ..server.publications import are_so_named, stored_in
-from ..server.session import Subscription, settle
+from ..server.session import Subscription
 from .messages import Frame, text_frames
 from .rows_beside import RowsBeside
 
@@ -239,11 +239,8 @@ class Readers:
 
     def work(self) -> None:
         """One connection: one table after the other."""
-        name = f"{self.subscription.slot} copy"
-        with self.items.writer(), contextlib.closing(
-            Connection(self.subscription.dsn, name=name, check=self.items.check)
-        ) as connection:
-            settle(connection)
+        connected = self.subscription.connected("copy", self.items.check)
+        with self.items.writer(), connected as connection:
             connection.run("SET row_security = off")
             while table := self.next_table():
                 self.read(connection, table)

@@ -13,7 +13,7 @@ from ..server.catalog import Catalog, Table
 from ..server.catalog_reader import read_catalog
 from ..server.connection import Connection
 from ..server.publications import are_so_named, published_tables, sizes_of
-from ..server.session import Subscription, settle
+from ..server.session import Subscription
 from .tries import CHANGED
 
 # for how many milliseconds a lock is waited for where names are compared
@@ -124,11 +124,7 @@ def check_names(subscription: Subscription, tables: list[Table], check: Check) -
     The snapshot shows those of its own moment, and rows are read by the names of now. The locks
     keep them from here on.
     """
-    fresh = Connection(subscription.dsn, name=f"{subscription.slot} copy", check=check)
-    try:
-        settle(fresh)
+    with subscription.connected("copy", check) as fresh:
         fresh.run(f"SET lock_timeout = {SHORT}")
         if not are_so_named(fresh, tables):
             raise ServerError(CHANGED)
-    finally:
-        fresh.close()

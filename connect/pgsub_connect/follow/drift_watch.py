@@ -2,7 +2,6 @@
 
 import time
 from collections.abc import Iterable, Sequence
-from contextlib import closing
 
 from pgsub_feed import log
 from pgsub_feed.errors import Passing, Unfit
@@ -14,7 +13,6 @@ from ..errors import ServerError
 from ..server.catalog import Catalog
 from ..server.catalog_reader import read_catalog
 from ..server.connection import QUICK, Connection
-from ..server.session import settle
 from ..store.checkpoint import MISSING
 from ..stream.common import Common
 from ..stream.missed_rows import texts_of
@@ -161,9 +159,7 @@ class Watch:
     def look_again(self, check: Check, position: int) -> bool:
         """Compares on a connection of its own. Returns whether that was possible."""
         try:
-            dsn, name = self.subscription.dsn, f"{self.subscription.slot} tables"
-            with closing(Connection(dsn, name=name, check=check)) as connection:
-                settle(connection)
+            with self.subscription.connected("tables", check) as connection:
                 return self.compare(connection, position)
         except ServerError as error:
             self.tell_hindered(error)

@@ -35,10 +35,8 @@ from pgsub_feed.texts import counted, lsn_text
 
 from ..copy.rows_beside import RowsBeside, Several
 from ..errors import Unread
-from ..server.connection import Connection
-from ..server.session import identify, settle
-from ..store.at_rest import has_log
-from ..store.at_rest import is_whole
+from ..server.session import identify
+from ..store.at_rest import has_log, is_whole
 from ..store.checkpoint_lines import COPIED, FOLLOWING, INTERRUPTED
 from ..store.snapshot import position_in
 from ..stream.common import Common
@@ -248,13 +246,9 @@ class Feeding:
         known, subscription = self.checkpoint.known, self.subscription
         if known.system:
             return known.system, known.database, known.slot
-        slot = subscription.slot
-        with contextlib.closing(
-            Connection(subscription.dsn, replication=True, name=f"{slot} feed", check=check)
-        ) as connection:
-            settle(connection)
+        with subscription.connected("feed", check, replication=True) as connection:
             server = identify(connection)
-        return server.system, server.database, slot
+        return server.system, server.database, subscription.slot
 
     def note_opened(self) -> None:
         """A filter has opened the feed, so what looks after it and follows it may begin."""

@@ -6,8 +6,6 @@ Unfit. A history or a slot that doesn't fit is a finding, too. The position is e
 the store: the end of its last commit.
 """
 
-from contextlib import closing
-
 from pgsub_feed import log
 from pgsub_feed.errors import Unfit
 from pgsub_feed.interruption import Check
@@ -18,7 +16,7 @@ from ..server import transport
 from ..server.connection import Connection
 from ..server.publication_content import has_publication
 from ..server.publication_setup import refusal
-from ..server.session import Server, is_same_database, left_at, settle, slot_position
+from ..server.session import Server, is_same_database, left_at, slot_position
 from ..store.checkpoint import check_gap
 from ..store.checkpoint_lines import FOLLOWING, NEW
 from .drift_watch import Watch
@@ -150,11 +148,8 @@ class Fitting:
     def check_publications(self, check: Check) -> None:
         """Rejects names of none: the server would say so at the first change alone, and from 18 on
         never."""
-        subscription = self.subscription
-        name = f"{subscription.slot} check"
-        with closing(Connection(subscription.dsn, name=name, check=check)) as connection:
-            settle(connection)
-            names = subscription.publications
+        names = self.subscription.publications
+        with self.subscription.connected("check", check) as connection:
             missing = [it for it in names if not has_publication(connection, it)]
         if missing:
             raise refusal(
@@ -183,10 +178,8 @@ class Fitting:
 
     def check_slot(self, position: int, check: Check) -> None:
         """Checks the slot again once it is ours: somebody may have confirmed more meanwhile."""
-        dsn, slot = self.subscription.dsn, self.subscription.slot
-        with closing(Connection(dsn, name=f"{slot} check", check=check)) as connection:
-            settle(connection)
-            slot_at = slot_position(connection, slot)
+        with self.subscription.connected("check", check) as connection:
+            slot_at = slot_position(connection, self.subscription.slot)
         if slot_at is None:
             raise ServerError("another server answered")
         try:

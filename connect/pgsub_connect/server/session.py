@@ -1,11 +1,13 @@
 """What is followed at a server, what is asked of it, and the settings of each session."""
 
+import contextlib
 import dataclasses
 import re
-from collections.abc import Iterable
+from collections.abc import Iterable, Iterator
 
 from pgsub_feed import log
 from pgsub_feed.errors import Unfit
+from pgsub_feed.interruption import Check
 from pgsub_feed.texts import PRINTING, literal, parse_lsn
 
 from ..errors import IN_USE, ServerError, understood
@@ -27,6 +29,17 @@ class Subscription:
     def note_publications(self, names: Iterable[str]) -> None:
         """Notes the publications that were made or found."""
         self.publications = list(names)
+
+    @contextlib.contextmanager
+    def connected(
+        self, purpose: str, check: Check, replication: bool = False
+    ) -> Iterator[Connection]:
+        """Another connection, settled. Its name there says what for."""
+        name = f"{self.slot} {purpose}"
+        connection = Connection(self.dsn, replication=replication, name=name, check=check)
+        with contextlib.closing(connection):
+            settle(connection)
+            yield connection
 
 
 SETTINGS = {
