@@ -14,8 +14,8 @@ from .errors import Damaged, UsageError
 from .interruption import Check, never
 from .pipe.following import SCHEME, Remote
 from .reader import commits
+from .reader.folder import noted_of
 from .reader.polling import Poll
-from .reader.positions import noted_of
 from .reader.reading import Chosen
 from .reader.whole import Whole
 from .relation import Relation

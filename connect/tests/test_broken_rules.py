@@ -23,7 +23,7 @@ from pgsub_connect.status.metrics import metrics_text
 from pgsub_connect.store.checkpoint_lines import read_file
 from pgsub_connect.stream.common import Tolerance
 from pgsub_connect.stream.filter_end import FilterEnded
-from pgsub_connect.stream.filter_said import FilterSaid
+from pgsub_connect.stream.watch_lines import FilterSaid
 from pgsub_connect.stream.messages import flushed
 from pgsub_connect.stream.watch_lines import Told, told_of
 from pgsub_feed.errors import UNFIT, Passing, Unfit
@@ -111,7 +111,7 @@ class Lines(unittest.TestCase):
         """Nobody who reads what a follower says has to know them."""
         none = "pgsub: repeats: 0 equal, 0 unknown, 0 forgotten"
         said = FilterSaid()
-        with mock.patch("pgsub_connect.stream.filter_said.log.info") as info:
+        with mock.patch("pgsub_connect.stream.watch_lines.log.info") as info:
             for line in (*NOTED, none, COUNTED):
                 said.hear(line)
         told = [f"filter: {it}" for it in (NOTED[2], COUNTED)]

@@ -17,7 +17,7 @@ from feed_text import Definition, Writer
 import pgsub_feed
 from pgsub_connect.drift.remembered import Remembered
 from pgsub_connect.follow.feed_keeper import Keeper
-from pgsub_connect.follow.feed_types import TypesBeside, TypesFile
+from pgsub_connect.follow.feed_keeper import TypesBeside, TypesFile
 from pgsub_connect.follow.retention import Limits, remove_feed
 from pgsub_connect.server.catalog import Table
 from pgsub_connect.server.column_types import type_of

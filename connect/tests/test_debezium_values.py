@@ -14,9 +14,9 @@ from connect_schemas import Invalid, check_schema, check_value, checked
 from hypothesis import given, strategies as drawn
 
 from pgsub_feed.debezium.kinds import kind_of, of, read_elements
-from pgsub_feed.debezium.numbers import integer_bytes, unscaled
+from pgsub_feed.debezium.values import integer_bytes, unscaled
 from pgsub_feed.debezium.settings import Settings, read_settings
-from pgsub_feed.debezium.times import date_of, days_of, read_moment, zoned_moment
+from pgsub_feed.debezium.values import date_of, days_of, read_moment, zoned_moment
 from pgsub_feed.tables.floats import printed_float
 
 from .drawn import ANY

@@ -20,7 +20,7 @@ from pgsub_feed.tables import applier as applier_module
 from pgsub_feed.tables import following
 from pgsub_feed.tables.applier import Applier
 from pgsub_feed.tables.table import Kept
-from pgsub_feed.tables.waiting import Joined
+from pgsub_feed.tables.applier import Joined
 
 from .feeds import delete, insert, table, update
 from .test_feed_tables import TablesCase

@@ -9,7 +9,7 @@ from unittest import mock
 from pgsub_connect.follow.retention import Limits, feed_bytes, read_readers, retire
 from pgsub_feed.errors import FileError
 from pgsub_feed.reader.folder import segments
-from pgsub_feed.reader.positions import Noted
+from pgsub_feed.reader.folder import Noted
 
 from .feeds import FeedCase, insert
 

@@ -26,7 +26,7 @@ from pgsub_feed.errors import FILE, UNFIT, USAGE, FileError, Passing, Unfit
 from pgsub_feed.files import copy
 from pgsub_feed.interruption import Check, never
 from pgsub_feed.reader.folder import segments
-from pgsub_feed.reader.positions import Noted
+from pgsub_feed.reader.folder import Noted
 from pgsub_feed.tables import first_rows
 from pgsub_feed.tables.schema import read_position
 

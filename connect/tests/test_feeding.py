@@ -21,7 +21,7 @@ from pgsub_connect.drift.remembered import Remembered
 from pgsub_connect.follow import drift_watch, feed as feed_module, feed_keeper, process_beside
 from pgsub_connect.follow.feed import FeedSettings, Feeding
 from pgsub_connect.follow.feed_keeper import Keeper
-from pgsub_connect.follow.feed_types import TypesFile
+from pgsub_connect.follow.feed_keeper import TypesFile
 from pgsub_connect.follow.follower import Follower
 from pgsub_connect.follow.process_beside import Beside, TablesSettings
 from pgsub_connect.follow.retention import Limits
@@ -37,7 +37,7 @@ from pgsub_feed.errors import FileError, Unfit, UsageError
 from pgsub_feed.files import replace_file
 from pgsub_feed.known_tables import read_keys
 from pgsub_feed.reader.folder import CONFIRMED, read_confirmed, segments
-from pgsub_feed.reader.positions import Noted, make_folder
+from pgsub_feed.reader.folder import Noted, make_folder
 from pgsub_feed.reader.segments import Reader
 
 from .fake_server import Quiet
@@ -48,8 +48,8 @@ from .vectors import begin, commit, insert as inserted, keepalive, relation
 
 # What a child's code has before it begins.
 QUICK = (
-    "from pgsub_feed.reader import polling, positions; "
-    "positions.OFTEN = 0.05; polling.PATIENCE = 0.2; polling.LEAST = polling.MOST = 0.05; "
+    "from pgsub_feed.reader import folder, polling; "
+    "folder.OFTEN = 0.05; polling.PATIENCE = 0.2; polling.LEAST = polling.MOST = 0.05; "
 )
 
 

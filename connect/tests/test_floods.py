@@ -13,7 +13,7 @@ from unittest import mock
 from server_messages import described, row
 
 from pgsub_connect.errors import ServerError, WrongAnswer
-from pgsub_connect.server import libpq as rows_module, notices, wire
+from pgsub_connect.server import libpq, libpq as rows_module, notices
 from pgsub_connect.server.connection import Connection
 from pgsub_feed.errors import Stopped
 
@@ -159,15 +159,15 @@ class Moved(unittest.TestCase):
         """Whatever the length and the place are. What is around them stays."""
         for length in (
             1,
-            wire.PAGE,
-            wire.MOVED - 1,
-            wire.MOVED,
-            3 * wire.MOVED + 4097,
+            libpq.PAGE,
+            libpq.MOVED - 1,
+            libpq.MOVED,
+            3 * libpq.MOVED + 4097,
         ):
-            for before in (0, 5, wire.PAGE):
+            for before in (0, 5, libpq.PAGE):
                 content = os.urandom(length)
                 memory = ctypes.create_string_buffer(b"x" * before + content + b"y" * 5000)
-                self.assertTrue(wire.moved(ctypes.addressof(memory) + before, length) == content)
+                self.assertTrue(libpq.moved(ctypes.addressof(memory) + before, length) == content)
                 self.assertEqual(
                     (memory.raw[:before], memory.raw[before + length :]),
                     (b"x" * before, b"y" * 5000 + b"\0"),

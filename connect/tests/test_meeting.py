@@ -20,7 +20,7 @@ from pgsub_connect.server.catalog import Table
 from pgsub_connect.server.session import Subscription
 from pgsub_connect.store import at_rest
 from pgsub_connect.store.checkpoint_lines import FOLLOWING, Known
-from pgsub_connect.store.snapshot import position_in
+from pgsub_connect.store.file import position_in
 from pgsub_connect.verify import store
 from pgsub_connect.verify.store import Request, meet
 from pgsub_feed.errors import Passing, Stopped, Unfit

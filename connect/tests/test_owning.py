@@ -18,7 +18,7 @@ from pgsub_feed import ownership
 from pgsub_feed.errors import FileError
 from pgsub_feed.files import meant, placed, replace_file
 from pgsub_feed.interruption import never
-from pgsub_feed.reader import positions
+from pgsub_feed.reader import folder as positions
 from pgsub_feed.tables import first_rows
 
 from .asking import snapshots_of

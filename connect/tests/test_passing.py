@@ -13,7 +13,7 @@ from unittest import mock
 from pgsub_connect.drift.remembered import Remembered
 from pgsub_connect.errors import ServerError
 from pgsub_connect.follow.follower import Follower
-from pgsub_connect.record.recording import Aside, Recording
+from pgsub_connect.record import Aside, Recording
 from pgsub_connect.status.progress import Progress
 from pgsub_connect.store.checkpoint import Checkpoint
 from pgsub_connect.stream.filter import Filter

@@ -13,8 +13,8 @@ from unittest import mock
 from psycopg import pq
 
 from pgsub_connect.errors import ServerError, Unconnected
-from pgsub_connect.server import addresses, libpq, login, wire
-from pgsub_connect.server.addresses import addresses_of, connect_limit, hosts_of, parameters
+from pgsub_connect.server import libpq, login
+from pgsub_connect.server.login import addresses_of, connect_limit, hosts_of, parameters
 from pgsub_connect.server.connection import COPY_BOTH, NO_DSN, Connection
 from pgsub_connect.server.libpq import LIBPQ
 from pgsub_feed.errors import Stopped
@@ -63,7 +63,7 @@ class Case(Quiet):
         return server
 
     def connect(self, dsn: str = "", check: object = never, limit: float = 10.0) -> Connection:
-        with mock.patch.object(addresses, "CONNECT_LIMIT", limit):
+        with mock.patch.object(login, "CONNECT_LIMIT", limit):
             connection = Connection(dsn or self.server.dsn(), check=check)  # type: ignore[arg-type]
         self.addCleanup(connection.close)
         return connection
@@ -119,7 +119,7 @@ class Queries(Case):
 class Connects(Case):
     def test_a_server_that_doesnt_answer(self) -> None:
         self.server.lets_in = False
-        with mock.patch.object(addresses, "CONNECT_LIMIT", 2.0), self.assertRaises(Stopped):
+        with mock.patch.object(login, "CONNECT_LIMIT", 2.0), self.assertRaises(Stopped):
             self.connect(check=StopsLater(3))
         with self.assertRaisesRegex(ServerError, "no answer within"):
             login.connect_to(parameters(self.server.dsn()), 0.1, never)
@@ -279,7 +279,7 @@ class Connects(Case):
         ):
             with self.assertRaises(Stopped):
                 addresses_of(settings, StopsLater(3))
-            with mock.patch.object(addresses, "CONNECT_LIMIT", 0.1), self.assertRaisesRegex(
+            with mock.patch.object(login, "CONNECT_LIMIT", 0.1), self.assertRaisesRegex(
                 ServerError, "no answer within"
             ):
                 addresses_of(settings, never)
@@ -355,9 +355,9 @@ class Copies(Case):
             server.to_send = list(sent)
             lots, more, until = list[list[bytes]](), True, time.monotonic() + LATE
             with mock.patch.object(
-                wire,
+                libpq,
                 "GET_COPY_DATA",
-                wire.GET_COPY_DATA if quick else None,
+                libpq.GET_COPY_DATA if quick else None,
             ):
                 connection = self.connect(server.dsn())
                 connection.run("START_REPLICATION", COPY_BOTH, LATE)
@@ -383,9 +383,9 @@ class Copies(Case):
         )
         for quick in (True, False):
             with mock.patch.object(small_server, "COPY_BOTH", body), mock.patch.object(
-                wire,
+                libpq,
                 "GET_COPY_DATA",
-                wire.GET_COPY_DATA if quick else None,
+                libpq.GET_COPY_DATA if quick else None,
             ):
                 connection, found, until = self.connect(), list[bytes](), time.monotonic() + LATE
                 connection.run("START_REPLICATION", COPY_BOTH, LATE)

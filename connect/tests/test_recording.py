@@ -10,8 +10,8 @@ from typing import Any
 from unittest import mock
 
 from pgsub_connect.commands import record
-from pgsub_connect.record.recorder import RecordSettings, Recorder
-from pgsub_connect.record.recording import Recording
+from pgsub_connect.record import RecordSettings, Recorder
+from pgsub_connect.record import Recording
 from pgsub_connect.server import transport
 from pgsub_connect.server.connection import Connection
 from pgsub_connect.server.session import Subscription

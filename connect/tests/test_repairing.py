@@ -21,7 +21,7 @@ from pgsub_connect.follow.drift_watch import Watch
 from pgsub_connect.follow.repair import Repairing, Unusable, messages_in
 from pgsub_connect.follow.snapshots import Snapshots
 from pgsub_connect.server.catalog import Table
-from pgsub_connect.store import snapshot
+from pgsub_connect.store import file as snapshot
 from pgsub_connect.stream.hold import Hold
 from pgsub_connect.stream.memory_limit import BufferLimits
 from pgsub_connect.verify.digests import Plan

@@ -13,7 +13,7 @@ from feed_text import About, Column, Line, Writer
 
 from pgsub_connect.drift.remembered import Remembered
 from pgsub_connect.follow.feed_keeper import Keeper
-from pgsub_connect.follow.feed_types import TypesFile
+from pgsub_connect.follow.feed_keeper import TypesFile
 from pgsub_connect.follow.retention import Limits
 from pgsub_connect.status.progress import Progress
 from pgsub_connect.stream.statuses import Reached

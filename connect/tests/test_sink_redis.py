@@ -31,7 +31,7 @@ from pgsub_feed.interruption import never
 from pgsub_feed.reader.commits import Commit
 from pgsub_feed.reader.following import Following
 from pgsub_feed.reader.polling import Poll
-from pgsub_feed.reader.positions import Noted
+from pgsub_feed.reader.folder import Noted
 from pgsub_feed.sinks.engine import Trail
 from pgsub_feed.sinks.first_rows import Base
 from pgsub_feed.sinks.redis_calls import Connection, Said, packed_command, raised

@@ -9,7 +9,7 @@ from unittest import mock
 
 from pgsub_connect.errors import ServerError, Unconnected
 from pgsub_connect.server import libpq, transport
-from pgsub_connect.server.addresses import parameters
+from pgsub_connect.server.login import parameters
 from pgsub_connect.server.connection import Connection
 from pgsub_connect.server.transport import Protection, Trust
 from pgsub_feed.errors import Unfit

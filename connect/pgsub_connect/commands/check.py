@@ -10,8 +10,7 @@ from pgsub_feed.interruption import Check
 from pgsub_feed.log import escaped
 from pgsub_feed.options import add_fields, flag
 
-from ..preconditions.judged import results
-from ..preconditions.server import ERROR, Purpose
+from ..preconditions import ERROR, Purpose, results
 from ..server.preflight import all_facts
 from ..server.transport import OWN
 from ..store.at_rest import is_whole

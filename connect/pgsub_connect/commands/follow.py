@@ -26,7 +26,7 @@ from ..follow.retention import remove_feed
 from ..follow.server_watch import Asker
 from ..follow.settings import FollowSettings
 from ..follow.snapshots import Snapshots
-from ..record.recording import Aside, Recording
+from ..record import Aside, Recording
 from ..server import transport
 from ..server.preflight import require_published
 from ..status.files import STATUS, ReportSettings, Reporter

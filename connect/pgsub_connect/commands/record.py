@@ -8,8 +8,7 @@ from pgsub_feed.options import add_fields, file, flag, lsn, option
 from pgsub_feed.program import stop_by_signals
 
 from ..copy.slots import create_slot, maker_of
-from ..record.recorder import RecordSettings, Recorder
-from ..record.recording import Recording
+from ..record import RecordSettings, Recorder, Recording
 from .arguments import words
 from .arguments.publishing import PublishingOptions, check_creates, check_publishing
 from .arguments.server import ServerOptions, settled_server

@@ -13,9 +13,8 @@ from pgsub_feed.tables.sqlite_files import failed
 from pgsub_feed.texts import lsn_text
 
 from ..store.at_rest import at_rest
-from ..store.file import check_store, is_store
+from ..store.file import check_store, fold, is_store, position_in
 from ..store.placing import check_into
-from ..store.snapshot import fold, position_in
 from .arguments.words import COPIED, StoreCopyOptions, settled_store_copy
 
 ABOUT = "copy a store into one file"

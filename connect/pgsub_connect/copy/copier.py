@@ -32,7 +32,7 @@ from pgsub_feed.texts import counted, lsn_text
 
 from ..drift.remembered import Remembered
 from ..errors import ServerError
-from ..preconditions.judged import require, require_reading
+from ..preconditions import require, require_reading
 from ..server import transport
 from ..server.connection import Connection
 from ..server.publication_setup import Wanted

@@ -10,7 +10,7 @@ from pgsub_feed.texts import lsn_text
 
 from ..store.at_rest import MOST_PARTS, hold
 from ..store.checkpoint_lines import COPIED, COPYING, SLOT
-from ..store.snapshot import position_in
+from ..store.file import position_in
 
 
 class CopyFiles:

@@ -9,7 +9,7 @@ from pgsub_feed.texts import identifier, literal, parse_lsn
 
 from ..drift.remembered import Remembered
 from ..errors import ServerError, understood
-from ..preconditions.judged import require
+from ..preconditions import require
 from ..server.catalog_reader import read_catalog
 from ..server.connection import QUICK, Connection
 from ..server.publication_content import has_publication

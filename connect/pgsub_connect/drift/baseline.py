@@ -8,8 +8,7 @@ from ..server.catalog import Catalog, Table
 from .differences import differences, gone, shape_differences
 from .findings import NAMES, NOTHING, About, Findings, tables_of
 from .names import Names
-from .pending import Outstanding, Unsaved
-from .remembered_lines import Kept, Sent
+from .remembered_lines import Kept, Outstanding, Sent, Unsaved
 
 FORMAT = 2
 

@@ -28,8 +28,7 @@ from pgsub_feed import log
 from pgsub_feed.errors import Damaged, FileError, Unfit, told_of
 from pgsub_feed.interruption import Check, never, rest
 from pgsub_feed.reader.base import remove_begun
-from pgsub_feed.reader.folder import read_confirmed, segments
-from pgsub_feed.reader.positions import make_folder
+from pgsub_feed.reader.folder import make_folder, read_confirmed, segments
 from pgsub_feed.reader.segments import Reader, read_source
 from pgsub_feed.texts import counted, lsn_text
 
@@ -38,13 +37,12 @@ from ..errors import Unread
 from ..server.session import identify
 from ..store.at_rest import has_log, is_whole
 from ..store.checkpoint_lines import COPIED, FOLLOWING, INTERRUPTED
-from ..store.snapshot import position_in
+from ..store.file import position_in
 from ..stream.common import Common
 from ..stream.filter import Filter
 from ..stream.filter_end import FilterEnded
 from ..stream.statuses import Reached
-from .feed_keeper import Keeper
-from .feed_types import TypesBeside, TypesFile
+from .feed_keeper import Keeper, TypesBeside, TypesFile
 from .first_rows import BaseRows, FirstRows
 from .process_beside import Beside, ProcessBeside, Sink, SinkSettings, TablesSettings
 from .retention import Limits

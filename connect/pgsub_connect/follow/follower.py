@@ -7,7 +7,7 @@ from pgsub_feed.errors import FileError, Passing, Stopped, Unfit
 
 from ..add.adder import Adder
 from ..errors import LOGIN, Renewed, ServerError, Unconnected
-from ..record.recording import Aside
+from ..record import Aside
 from ..server.publications import with_cure
 from ..server.slot import Repeats
 from ..stream.common import Common

@@ -26,7 +26,7 @@ from typing import IO
 
 from pgsub_feed import log
 from pgsub_feed.errors import FileError
-from pgsub_feed.reader.positions import READERS
+from pgsub_feed.reader.folder import READERS
 from pgsub_feed.sinks.connecting import ENVIRONMENT
 from pgsub_feed.sinks.following import WAITS
 from pgsub_feed.tables.set_aside import shown_asides

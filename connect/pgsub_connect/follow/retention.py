@@ -20,8 +20,7 @@ from pgsub_feed.errors import Failure, FileError
 from pgsub_feed.files import NEW, remove
 from pgsub_feed.known_tables import KEYS
 from pgsub_feed.reader.base import base_bytes, base_of_feed, has_base, remove_base, remove_begun
-from pgsub_feed.reader.folder import CONFIRMED, segments
-from pgsub_feed.reader.positions import READERS
+from pgsub_feed.reader.folder import CONFIRMED, READERS, segments
 from pgsub_feed.texts import parse_lsn
 
 

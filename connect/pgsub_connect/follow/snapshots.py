@@ -18,7 +18,7 @@ from pgsub_feed.json_texts import Unreadable, list_of, lsn_of, oid_of
 from pgsub_feed.ownership import real
 from pgsub_feed.texts import lsn_text
 
-from ..store.snapshot import NEW, fold, position_in
+from ..store.file import NEW, fold, position_in
 from ..stream.gate import too_large_to_copy
 from ..stream.hold import LONGEST, Hold
 from .request_socket import Client, RequestSocket

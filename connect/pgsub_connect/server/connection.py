@@ -14,10 +14,9 @@ from pgsub_feed.texts import said_text, shortened
 
 from ..errors import ServerError, Unconnected, WrongAnswer, understood
 from . import login
-from .addresses import DEFAULTS, parameters
-from .libpq import TICK, Rows, is_by_gssapi, ready
+from .libpq import ENDED, TICK, Rows, Slow, is_by_gssapi, ready, wire_of
+from .login import DEFAULTS, parameters
 from .notices import Notices
-from .wire import ENDED, Slow, wire_of
 
 # After how many seconds a command is given up that takes no time at the server.
 QUICK = 60.0

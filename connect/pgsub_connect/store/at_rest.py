@@ -20,7 +20,7 @@ from pgsub_feed.tables.sqlite_files import failed
 
 from .checkpoint import has_name, read_known
 from .checkpoint_lines import COPYING, SLOT
-from .snapshot import NEW, fold, position_in
+from .file import NEW, fold, position_in
 from .socket_file import SUFFIX, Asking
 
 # Where SQLite, and so the program, locks a file: the bytes of its readers.

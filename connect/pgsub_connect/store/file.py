@@ -1,4 +1,5 @@
-"""What a store's file holds, as docs/ARCHITECTURE.md says: position, definitions and rows."""
+"""What a store's file holds, as docs/ARCHITECTURE.md says: position, definitions and rows; and the files
+of a copy of a store, of which one is made."""
 
 import contextlib
 import dataclasses
@@ -13,6 +14,7 @@ from pgsub_feed.tables.sqlite_files import is_export
 from pgsub_feed.tables.values import Malformed, read_columns
 
 from ..drift.remembered import Remembered
+
 
 STORED = {"rel", "held", "pos"}
 
@@ -105,3 +107,30 @@ def check_store(path: str, told: str) -> None:
     if not is_store(path):
         what = "is an export, and no store" if is_export(path) else "isn't a store of pgsub"
         raise FileError(f"{told}: it {what}")
+
+
+# What a file that is being made has behind its name.
+NEW = ".pgsub-new"
+
+
+def fold(path: str) -> None:
+    """Puts a copied log into its file: whoever may read the file can open it then."""
+    with contextlib.closing(sqlite3.connect(path, isolation_level=None)) as store:
+        store.execute("PRAGMA synchronous = FULL")
+        store.execute("PRAGMA journal_mode = DELETE")
+    file = os.open(path, os.O_RDONLY)
+    try:
+        os.fsync(file)
+    finally:
+        os.close(file)
+
+
+def position_in(path: str) -> int | None:
+    """The position of a store in one file; None where it has none."""
+    name = f"file:{urllib.parse.quote(os.fsencode(path))}?mode=ro&immutable=1"
+    try:
+        with contextlib.closing(sqlite3.connect(name, uri=True)) as store:
+            row = store.execute("SELECT lsn FROM pos").fetchone()
+    except sqlite3.DatabaseError:
+        return None
+    return int.from_bytes(row[0], "big") if row else None

@@ -8,9 +8,9 @@ from pgsub_feed.errors import FileError, UsageError, told_of
 from pgsub_feed.files import OF_FILE, meant
 from pgsub_feed.ownership import real
 
+from .file import NEW
 from .left_file import SUFFIX as LEFT
 from .repeats_file import SUFFIX as REPEATS
-from .snapshot import NEW
 from .socket_file import SUFFIX
 
 # What follows a store's name in those of its files, the checkpoint last, by which a start tells.

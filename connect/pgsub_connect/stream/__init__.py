@@ -1,4 +1,4 @@
-"""The stream: `filter` is the program (`filter_input`, `filter_said`, `filter_end`, `watch_lines`, `room`),
+"""The stream: `filter` is the program (`filter_input`, `filter_end`, `watch_lines`, `room`),
 `messages` its frames, `statuses` what it confirms. Of what passes `stream_log` notes counts and
 tables, `transactions` those under way, `missed_rows` changes without a row; `hold` and `gate` stop
 it, `skip` passes a commit over. `memory_limit` is how much may wait, `awake` how, `common` what all

@@ -18,9 +18,9 @@ from ..store.repeats_file import RepeatsFile
 from .awake import Awake, Numbers, Served
 from .filter_end import ROOMLESS, FilterEnded, Missing
 from .filter_input import PIECE, ROOM, FilterInput
-from .filter_said import FilterSaid
 from .messages import COPY_DONE, HEADERS, STATUS, STATUS_HEAD, flushed, without_received
 from .room import room_text
+from .watch_lines import FilterSaid
 
 # How long an opening store is waited for until it is looked for the end, in seconds.
 LOOK = 0.5

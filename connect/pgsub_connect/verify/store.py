@@ -16,8 +16,8 @@ from pgsub_feed.texts import counted, lsn_text
 from ..copy.source import Source
 from ..drift.remembered import Remembered
 from ..errors import Delayed, Unrepaired
-from ..server.addresses import parameters
 from ..server.catalog import Table
+from ..server.login import parameters
 from ..server.publication_setup import names_of
 from ..server.publications import sizes_of
 from ..server.session import Subscription, waits_for

@@ -11,7 +11,7 @@ from typing import Any, NamedTuple
 
 from ..relation import Column, ColumnType
 from ..tables.values import BOOL, BYTEA, FLOAT4, FLOAT8, INT2, INT4, INT8, NUMERIC
-from . import numbers, times
+from . import values
 from .settings import BINARIES, DECIMALS, INTERVALS, TIMES, Settings
 
 Schema = dict[str, Any]
@@ -41,7 +41,7 @@ class Kind(NamedTuple):
     raises a ValueError, a LookupError or an ArithmeticError where it can't."""
 
     schema: Schema
-    read: numbers.Read
+    read: values.Read
 
 
 def named(kind: str, name: str, **parameters: str) -> Schema:
@@ -68,17 +68,17 @@ def of(schema: Schema, optional: bool, **more: Any) -> Schema:
     return {**kind, "optional": optional, **rest, **more}
 
 
-SMALL, LARGE = Kind({"type": "float"}, numbers.read_float), Kind(
-    {"type": "double"}, numbers.read_float
+SMALL, LARGE = Kind({"type": "float"}, values.read_float), Kind(
+    {"type": "double"}, values.read_float
 )
 TEXT = Kind(STRING, text)
 # Those that are the same whatever the settings and the type modifier are.
 PLAIN: dict[int, Kind] = {
-    BOOL: Kind({"type": "boolean"}, numbers.read_bool),
-    INT2: Kind({"type": "int16"}, numbers.signed(16)),
-    INT4: Kind({"type": "int32"}, numbers.signed(32)),
-    INT8: Kind({"type": "int64"}, numbers.signed(64)),
-    OID: Kind({"type": "int64"}, numbers.whole(0, (1 << 32) - 1)),
+    BOOL: Kind({"type": "boolean"}, values.read_bool),
+    INT2: Kind({"type": "int16"}, values.signed(16)),
+    INT4: Kind({"type": "int32"}, values.signed(32)),
+    INT8: Kind({"type": "int64"}, values.signed(64)),
+    OID: Kind({"type": "int64"}, values.whole(0, (1 << 32) - 1)),
     FLOAT4: SMALL,
     FLOAT8: LARGE,
     JSON: Kind(debezium("string", "data.Json"), text),
@@ -86,8 +86,8 @@ PLAIN: dict[int, Kind] = {
     XML: Kind(debezium("string", "data.Xml"), text),
     UUID: Kind(debezium("string", "data.Uuid"), text),
     TSVECTOR: Kind(debezium("string", "data.Tsvector"), text),
-    TIMESTAMPTZ: Kind(debezium("string", "time.ZonedTimestamp"), times.zoned_moment),
-    TIMETZ: Kind(debezium("string", "time.ZonedTime"), times.zoned_clock),
+    TIMESTAMPTZ: Kind(debezium("string", "time.ZonedTimestamp"), values.zoned_moment),
+    TIMETZ: Kind(debezium("string", "time.ZonedTime"), values.zoned_clock),
     POINT: Kind(
         {
             **debezium("struct", "data.geometry.Point"),
@@ -99,7 +99,7 @@ PLAIN: dict[int, Kind] = {
                 {"type": "int32", "optional": True, "field": "srid"},
             ],
         },
-        numbers.read_point,
+        values.read_point,
     ),
 }
 VARIABLE_SCALE = Kind(
@@ -111,15 +111,15 @@ VARIABLE_SCALE = Kind(
             {"type": "bytes", "optional": False, "field": "value"},
         ],
     },
-    numbers.variable_scale,
+    values.variable_scale,
 )
 BYTES: dict[str, Kind] = {
-    "bytes": Kind({"type": "bytes"}, numbers.bytes_as(numbers.based)),
-    "base64": Kind(STRING, numbers.bytes_as(numbers.based)),
+    "bytes": Kind({"type": "bytes"}, values.bytes_as(values.based)),
+    "base64": Kind(STRING, values.bytes_as(values.based)),
     "base64-url-safe": Kind(
-        STRING, numbers.bytes_as(lambda it: base64.urlsafe_b64encode(it).decode())
+        STRING, values.bytes_as(lambda it: base64.urlsafe_b64encode(it).decode())
     ),
-    "hex": Kind(STRING, numbers.bytes_as(bytes.hex)),
+    "hex": Kind(STRING, values.bytes_as(bytes.hex)),
 }
 
 
@@ -131,39 +131,39 @@ def numeric(modifier: int, settings: Settings) -> Kind:
         return VARIABLE_SCALE
     scale = ((modifier - 4) & 0x7FF ^ 0x400) - 0x400
     precision = {"connect.decimal.precision": str((modifier - 4) >> 16)}
-    return Kind(connect("bytes", "Decimal", scale=str(scale), **precision), numbers.scaled(scale))
+    return Kind(connect("bytes", "Decimal", scale=str(scale), **precision), values.scaled(scale))
 
 
 def money(_: int, settings: Settings) -> Kind:
     mode = settings[DECIMALS]
     if mode == "precise":
-        return Kind(connect("bytes", "Decimal", scale="2"), numbers.of_money(numbers.scaled(2)))
+        return Kind(connect("bytes", "Decimal", scale="2"), values.of_money(values.scaled(2)))
     return (
-        Kind({"type": "double"}, numbers.of_money(numbers.read_float))
+        Kind({"type": "double"}, values.of_money(values.read_float))
         if mode == "double"
         else MONEY_TEXT
     )
 
 
-MONEY_TEXT = Kind(STRING, numbers.plain_money)
+MONEY_TEXT = Kind(STRING, values.plain_money)
 
 
-def in_millis(read: Callable[[str], int]) -> numbers.Read:
+def in_millis(read: Callable[[str], int]) -> values.Read:
     return lambda it: read(it) // 1000
 
 
 def date(_: int, settings: Settings) -> Kind:
     form = connect if settings[TIMES] == "connect" else debezium
-    return Kind(form("int32", "Date" if form is connect else "time.Date"), times.read_days)
+    return Kind(form("int32", "Date" if form is connect else "time.Date"), values.read_days)
 
 
 def time(modifier: int, settings: Settings) -> Kind:
     mode = settings[TIMES]
     if mode == "connect":
-        return Kind(connect("int32", "Time"), in_millis(times.read_clock))
+        return Kind(connect("int32", "Time"), in_millis(values.read_clock))
     if mode == "adaptive" and 0 <= modifier <= 3:
-        return Kind(debezium("int32", "time.Time"), in_millis(times.read_clock))
-    return Kind(debezium("int64", "time.MicroTime"), times.read_clock)
+        return Kind(debezium("int32", "time.Time"), in_millis(values.read_clock))
+    return Kind(debezium("int64", "time.MicroTime"), values.read_clock)
 
 
 def timestamp(modifier: int, settings: Settings) -> Kind:
@@ -171,30 +171,28 @@ def timestamp(modifier: int, settings: Settings) -> Kind:
         return Kind(connect("int64", "Timestamp"), read_millis)
     if 0 <= modifier <= 3:
         return Kind(debezium("int64", "time.Timestamp"), read_millis)
-    return Kind(debezium("int64", "time.MicroTimestamp"), times.read_micros)
+    return Kind(debezium("int64", "time.MicroTimestamp"), values.read_micros)
 
 
 def read_millis(it: str) -> int:
     # (years that microseconds in eight bytes don't reach)
-    return (times.INFINITE[it] if it in times.INFINITE else times.read_moment(it)) // 1000
+    return (values.INFINITE[it] if it in values.INFINITE else values.read_moment(it)) // 1000
 
 
 def interval(_: int, settings: Settings) -> Kind:
     if settings[INTERVALS] == "string":
-        return Kind(debezium("string", "time.Interval"), times.interval_text)
-    return Kind(debezium("int64", "time.MicroDuration"), times.interval_micros)
+        return Kind(debezium("string", "time.Interval"), values.interval_text)
+    return Kind(debezium("int64", "time.MicroDuration"), values.interval_micros)
 
 
 def bits(modifier: int, _: Settings) -> Kind:
     length = modifier if modifier > 0 else None
     schema = debezium("bytes", "data.Bits", length=str(length or NO_LENGTH))
-    return Kind(schema, numbers.bits_of(length))
+    return Kind(schema, values.bits_of(length))
 
 
 def bit(modifier: int, settings: Settings) -> Kind:
-    return (
-        Kind({"type": "boolean"}, numbers.read_bit) if modifier == 1 else bits(modifier, settings)
-    )
+    return Kind({"type": "boolean"}, values.read_bit) if modifier == 1 else bits(modifier, settings)
 
 
 BY_SETTINGS: dict[int, Callable[[int, Settings], Kind]] = {

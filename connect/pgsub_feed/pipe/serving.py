@@ -2,16 +2,15 @@
 
 import contextlib
 
-from ..column_types import FORMAT as TYPES_FORMAT
-from ..column_types import FeedTypes
+from ..column_types import FORMAT as TYPES_FORMAT, FeedTypes
 from ..errors import Damaged, Failure, Stopped, UsageError
 from ..formats.lines import Told
 from ..interruption import Check
 from ..json_texts import compact
 from ..reader.commits import Commit, Head
+from ..reader.folder import noted_of
 from ..reader.lines import DEFINITION, FORMAT, MOST_DEFINITIONS, parsed, read_relation
 from ..reader.polling import Poll
-from ..reader.positions import noted_of
 from ..reader.whole import Whole
 from ..relation import Relation
 from ..texts import lsn_text, parse_lsn

@@ -8,9 +8,8 @@ from ..errors import Damaged, Passing, Stopped
 from ..interruption import Check
 from ..texts import lsn_text
 from .commits import Commit, Head, Part
-from .folder import read_confirmed
+from .folder import Noted, read_confirmed
 from .polling import Parent, Poll
-from .positions import Noted
 from .reading import Reading
 from .segments import Reader
 

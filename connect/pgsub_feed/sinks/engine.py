@@ -23,8 +23,8 @@ from ..interruption import Check
 from ..json_texts import Unreadable
 from ..ownership import give
 from ..reader.commits import Commit, Head
+from ..reader.folder import READERS, make_folder
 from ..reader.following import Keeper
-from ..reader.positions import READERS, make_folder
 from .first_rows import Base
 
 # How many bytes of a commit are made into messages at once. A larger one is read twice.

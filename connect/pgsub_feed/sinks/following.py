@@ -8,10 +8,9 @@ from collections.abc import Callable
 from .. import log
 from ..errors import Passing, Stopped
 from ..interruption import Check, at_most, is_ended, rest
-from ..reader.folder import segments
+from ..reader.folder import Noted, segments
 from ..reader.following import Following
 from ..reader.polling import Parent, Poll
-from ..reader.positions import Noted
 from ..reader.reading import Reading
 from ..reader.segments import Reader
 from ..tables.first_rows import head_of, keeping

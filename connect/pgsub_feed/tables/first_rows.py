@@ -16,9 +16,8 @@ from ..log import Meter
 from ..ownership import real
 from ..reader.base import BaseFiles, base_of_feed
 from ..reader.commits import Head
-from ..reader.folder import read_confirmed, segments
+from ..reader.folder import Noted, read_confirmed, segments
 from ..reader.polling import Poll
-from ..reader.positions import Noted
 from ..reader.reading import Reading
 from ..reader.segments import Reader
 from ..reader.whole import Sections

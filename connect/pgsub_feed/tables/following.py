@@ -11,10 +11,9 @@ from ..interruption import Check
 from ..known_tables import KnownTables
 from ..reader.base import base_of_feed
 from ..reader.commits import Commit
-from ..reader.folder import segments
+from ..reader.folder import Noted, segments
 from ..reader.following import Following, Read
 from ..reader.polling import Parent
-from ..reader.positions import Noted
 from ..reader.reading import Reading
 from ..texts import lsn_text
 from .applier import Applier

@@ -13,8 +13,8 @@ from ..relation import Relation
 from ..texts import identifier
 from .names import folded
 from .set_aside import Unkept
+from .stored_rows import Text, Typed
 from .target import Target, key_index, unlike_reason
-from .typed import Text, Typed
 from .values import BOTH, Unlike, Value
 
 # How many columns the index has by which a row without a key is found.

@@ -11,7 +11,7 @@ from pgsub_feed.ownership import readable_by, readable_text
 
 from ...drift.remembered import Remembered
 from ...server import transport
-from ...server.addresses import parameters
+from ...server.login import parameters
 from ...server.publication_setup import check_lengths, inserts_of
 from ...server.session import Subscription
 from ...store.at_rest import is_whole

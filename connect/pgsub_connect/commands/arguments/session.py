@@ -11,7 +11,7 @@ from typing import Any, TypeVar
 
 from pgsub_feed.options import add_fields, file, flag, lsn, option, size
 
-from ...record.recording import LONGEST
+from ...record import LONGEST
 from ...store.checkpoint import KINDS
 from ...stream.memory_limit import LONGEST_FRAME, MOST_PAGES, BufferLimits, default_buffered
 from .server import PLAINTEXT

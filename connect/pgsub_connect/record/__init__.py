@@ -1,1 +1,0 @@
-"""Recordings of sessions (`.pgx`): `recording` is the file, `recorder` a session that is only recorded."""
