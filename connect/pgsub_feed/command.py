@@ -21,8 +21,8 @@ from .pipe.pipes import Pipes
 from .pipe.serving import serve
 from .program import Worker, guarded, stop_by_signals
 from .reader.commits import Commit
+from .reader.following import Chosen
 from .reader.polling import Poll
-from .reader.reading import Chosen
 from .reader.segments import Reader
 from .reader.whole import Whole
 from .relation import Relation

@@ -15,8 +15,8 @@ from .interruption import Check, never
 from .pipe.following import SCHEME, Remote
 from .reader import commits
 from .reader.folder import noted_of
+from .reader.following import Chosen
 from .reader.polling import Poll
-from .reader.reading import Chosen
 from .reader.whole import Whole
 from .relation import Relation
 from .sinks.first_rows import exported

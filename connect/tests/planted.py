@@ -646,7 +646,7 @@ BUGS = (
     ),
     Bug(
         "null and the empty text are equal",
-        "pgsub_feed/tables/printed.py",
+        "pgsub_feed/tables/digests.py",
         'b"n" if it is None else',
         'b"0:" if it is None else',
         ("test_digests", "test_verifying"),
@@ -1927,7 +1927,7 @@ BUGS = (
     ),
     Bug(
         "a file goes back to the names that were told last, whatever rows followed",
-        "pgsub_feed/tables/rewind.py",
+        "pgsub_feed/tables/following.py",
         "part.relation is not last and not isinstance(part, Missed)",
         "isinstance(part, TableLine)",
         ("test_feed_tables",),

@@ -37,7 +37,7 @@ from pgsub_feed.errors import FileError, Stopped
 from pgsub_feed.interruption import never
 from pgsub_feed.reader.base import BaseFiles, has_base, remove_base
 from pgsub_feed.reader.folder import Noted
-from pgsub_feed.reader.reading import Reading
+from pgsub_feed.reader.following import Reading
 from pgsub_feed.reader.whole import Whole
 from pgsub_feed.sinks.first_rows import base_of
 from pgsub_feed.tables.file import Rows

@@ -14,7 +14,7 @@ from pgsub_connect.follow.first_rows import BaseRows
 from pgsub_connect.server.session import Subscription
 from pgsub_connect.status.progress import Progress
 from pgsub_connect.store import base_files
-from pgsub_connect.store.base_of_store import written
+from pgsub_connect.store.base_files import written_from_store
 from pgsub_connect.store.checkpoint_lines import COPIED, FOLLOWING
 from pgsub_connect.stream.common import Common, Tolerance
 from pgsub_feed.errors import Stopped
@@ -68,7 +68,9 @@ class Written(StoreCase):
     def write(self, check: Check = never) -> int:
         self.it.close()
         source = "7", "shop", "pgsub"
-        return written(base_files.Wanted(self.feed, self.store, 0o640, 1, *source), check)
+        return written_from_store(
+            base_files.Wanted(self.feed, self.store, 0o640, 1, *source), check
+        )
 
     def test_rows(self) -> None:
         """Each as often as it is there, of tables that never had one too."""
@@ -208,7 +210,7 @@ class Beside(BesideCase):
     def test_a_follower_that_is_killed(self) -> None:
         """Then it ends by itself, and leaves nothing."""
         self.it.close()
-        self.rows_beside.module = "base_of_store"
+        self.rows_beside.call = "base_files.run_from_store"
         self.rows_beside.begin(POINT)
         child = self.rows_beside.child
         assert child and child.stdin

@@ -14,7 +14,7 @@ from collections.abc import Callable, Sequence
 from typing import Any, cast
 from unittest import mock
 
-from pgsub_connect.copy import copier as copier_module, copy_slot, files as files_module
+from pgsub_connect.copy import copier as copier_module, copy_slot
 from pgsub_connect.copy import interrupted, slots, table_reader, tables as tables_module
 from pgsub_connect.copy.copier import Copier, CopySettings
 from pgsub_connect.copy.messages import (
@@ -1071,7 +1071,7 @@ class Kept(Copying):
 
     def check_other(self) -> None:
         self.position = POINT + 8
-        self.patch(files_module, "position_in", lambda _: POINT + 8)
+        self.patch(interrupted, "position_in", lambda _: POINT + 8)
         with self.assertRaisesRegex(Unfit, "is at 0/1000030, and no part of the copy"):
             self.copier().run()
         self.assertTrue(os.path.exists(self.store))
@@ -1079,7 +1079,7 @@ class Kept(Copying):
     def test_one_that_is_complete_and_has_lost_its_slot_goes(self) -> None:
         self.cut()
         self.slots = []
-        self.patch(files_module, "position_in", lambda _: POINT)
+        self.patch(interrupted, "position_in", lambda _: POINT)
         self.copier().run()
         self.assertEqual((self.progress.copy.rows, self.checkpoint.known.phase), (4, COPIED))
 

@@ -16,7 +16,7 @@ from pgsub_connect.verify.digests import (
     fields_of,
 )
 from pgsub_feed.relation import Column, Shape
-from pgsub_feed.tables.printed import Field, fields_in, text_of
+from pgsub_feed.tables.digests import Field, fields_in, text_of
 from pgsub_feed.tables.values import Malformed
 
 from .stores import Cell, spelled

@@ -27,7 +27,7 @@ from pgsub_feed.program import Worker, stop_by_signals
 from pgsub_feed.reader import following
 from pgsub_feed.reader.commits import Commit
 from pgsub_feed.reader.polling import Poll
-from pgsub_feed.reader.reading import Reading
+from pgsub_feed.reader.following import Reading
 from pgsub_feed.tables.file import Rows
 from pgsub_feed.tables.first_rows import make
 from pgsub_feed.tables.values import BOTH

@@ -13,7 +13,7 @@ from pgsub_feed.errors import UsageError
 from pgsub_feed.interruption import never
 from pgsub_feed.known_tables import Index, KnownTables
 from pgsub_feed.reader.following import Following
-from pgsub_feed.reader.reading import Reading
+from pgsub_feed.reader.following import Reading
 from pgsub_feed.tables.file import Rows
 from pgsub_feed.tables.following import Tables
 from pgsub_feed.tables.indexes import Indexes

@@ -16,7 +16,7 @@ from pgsub_connect.store.export import ExportSettings, export_store
 from pgsub_feed.interruption import never
 from pgsub_feed.known_tables import Index, KnownTables
 from pgsub_feed.reader.following import Following
-from pgsub_feed.reader.reading import Reading
+from pgsub_feed.reader.following import Reading
 from pgsub_feed.tables.file import Rows
 from pgsub_feed.tables.following import Tables
 

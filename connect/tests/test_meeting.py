@@ -12,7 +12,7 @@ from unittest import mock
 
 from pgsub_connect.copy.source import Source
 from pgsub_connect.copy.tries import CHANGED
-from pgsub_connect.copy.unchanged import ALTERED, LOCKED, MOVED
+from pgsub_connect.copy.source import ALTERED, LOCKED, MOVED
 from pgsub_connect.errors import NoSlot, ServerError
 from pgsub_connect.follow.request_socket import RequestSocket
 from pgsub_connect.follow.snapshots import Snapshots

@@ -24,7 +24,7 @@ from pgsub_connect.verify.repair_rows import Changes, Mender, NoChange, changes_
 from pgsub_connect.verify.sides import Copy, Sides
 from pgsub_feed.interruption import never
 from pgsub_feed.relation import Column, Shape
-from pgsub_feed.tables.printed import text_of
+from pgsub_feed.tables.digests import text_of
 
 from .drawn import ANY
 from .fake_server import connection_to

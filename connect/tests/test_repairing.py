@@ -30,7 +30,7 @@ from pgsub_connect.verify.store import Request
 from pgsub_feed.errors import Passing
 from pgsub_feed.interruption import never
 from pgsub_feed.reader.commits import XID
-from pgsub_feed.tables.printed import text_of
+from pgsub_feed.tables.digests import text_of
 
 from .adding_case import OTHER, THIRD, Case, Run, T
 from .row_filter import Store

@@ -10,7 +10,7 @@ from pgsub_connect.server.session import Subscription
 from pgsub_connect.status.progress import Progress
 from pgsub_connect.store.checkpoint import Checkpoint
 from pgsub_connect.stream.common import Common, Tolerance
-from pgsub_connect.stream.skip import Skipping
+from pgsub_connect.stream.transactions import Skipping
 
 from . import vectors
 from .vectors import (

@@ -15,8 +15,13 @@ from ..server.preflight import all_facts
 from ..server.transport import OWN
 from ..store.at_rest import is_whole
 from ..store.full_check import judge_rows
-from .arguments.publishing import CopyOptions, add_copying, check_publishing
-from .arguments.server import StoreOptions, settled_store
+from .arguments.server import (
+    CopyOptions,
+    StoreOptions,
+    add_copying,
+    check_publishing,
+    settled_store,
+)
 from .arguments.session import program, program_option
 from .arguments.words import each, store_option
 

@@ -44,8 +44,14 @@ from ..stream.filter_end import FilterEnded
 from .arguments import words
 from .arguments.feed import FeedOptions, settled_feed
 from .arguments.following import check_numeric
-from .arguments.publishing import CopyOptions, add_copying, check_creates, check_publishing
-from .arguments.server import ServerOptions, settled_server
+from .arguments.server import (
+    CopyOptions,
+    ServerOptions,
+    add_copying,
+    check_creates,
+    check_publishing,
+    settled_server,
+)
 from .arguments.session import (
     ALL,
     NO,

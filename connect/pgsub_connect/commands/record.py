@@ -10,8 +10,13 @@ from pgsub_feed.program import stop_by_signals
 from ..copy.slots import create_slot, maker_of
 from ..record import RecordSettings, Recorder, Recording
 from .arguments import words
-from .arguments.publishing import PublishingOptions, check_creates, check_publishing
-from .arguments.server import ServerOptions, settled_server
+from .arguments.server import (
+    PublishingOptions,
+    ServerOptions,
+    check_creates,
+    check_publishing,
+    settled_server,
+)
 from .arguments.session import longest
 from .arguments.words import any_seconds, check_files, check_needs, each, lsn_or_now, within
 

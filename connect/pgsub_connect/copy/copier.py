@@ -46,8 +46,7 @@ from ..stream.filter import Filter
 from ..stream.filter_end import FilterEnded
 from ..stream.memory_limit import BufferLimits, limit_text
 from .copy_slot import CopySlot, is_left_open
-from .files import CopyFiles
-from .interrupted import Interrupted
+from .interrupted import CopyFiles, Interrupted
 from .rows_beside import RowsBeside
 from .sender import Sender
 from .slots import drop_slot, maker_of, set_failover

@@ -1,5 +1,5 @@
-"""What an interrupted copy has left: a store at a position that is none of a server's, in which some
-tables are whole. It goes on with these."""
+"""The files of an initial copy, the store's own; and what an interrupted one has left: a store at a
+position that is none of a server's, in which some tables are whole. It goes on with these."""
 
 from __future__ import annotations
 
@@ -9,20 +9,67 @@ import os
 import sqlite3
 
 from pgsub_feed import log
+from pgsub_feed.errors import Unfit, told_of
+from pgsub_feed.files import LOG, meant, sync_folder
 from pgsub_feed.interruption import Check
+from pgsub_feed.ownership import set_mode
 from pgsub_feed.tables.sqlite_files import failed
-from pgsub_feed.texts import counted
+from pgsub_feed.texts import counted, lsn_text
 
 from ..server.catalog import Table
 from ..server.connection import Connection
 from ..server.publications import sizes_of
 from ..server.session import is_lost
-from ..store.at_rest import hold
-from ..store.file import is_store, opened
+from ..store.at_rest import MOST_PARTS, hold
+from ..store.checkpoint_lines import COPIED, COPYING, SLOT
+from ..store.file import is_store, opened, position_in
 from ..stream.filter_end import FilterEnded
-from .files import CopyFiles
 from .sender import Sender
 from .tables import CopiedTables
+
+
+class CopyFiles:
+    """A store's file and its log. Where a link has its name, both are where it leads."""
+
+    def __init__(self, store: str, mode: int) -> None:
+        self.store, self.mode = meant(store), mode
+
+    def take(self, phase: str) -> None:
+        """Checks, before a copy begins or goes on, that nothing of another one is in the way."""
+        log_path = self.store + LOG
+        if os.path.exists(log_path) and phase not in (COPYING, SLOT, COPIED):
+            raise Unfit(f"{log_path} is the log of a store that is gone: remove it to begin anew")
+        if self.is_there():
+            # (the checkpoint of another name of this store doesn't keep its connector away)
+            os.close(hold(self.store))
+
+    def is_there(self) -> bool:
+        return os.path.exists(self.store)
+
+    def check_own(self, position: int, point: int) -> None:
+        """Rejects a file at a position that a copy up to this point doesn't leave."""
+        if MOST_PARTS < position != point:
+            raise Unfit(
+                f"{self.store} is at {lsn_text(position)}, and no part of the copy that was interrupted here: move it away to go on"
+            )
+
+    def clear(self, point: int) -> None:
+        """Removes what an earlier run left, of a copy up to this point, if any."""
+        if self.is_there():
+            self.check_own(position_in(self.store) or 0, point)
+        with told_of(self.store):
+            for path in (self.store, self.store + LOG):
+                with contextlib.suppress(FileNotFoundError):
+                    os.unlink(path)
+
+    def keep(self) -> None:
+        """Gives the files their mode, and has the disk keep their names."""
+        with told_of(self.store):
+            for it in (self.store, self.store + LOG):
+                with contextlib.suppress(FileNotFoundError):
+                    set_mode(it, self.mode)
+            sync_folder(self.store)
+
 
 # After how many rows it is looked whether the end was asked for.
 STEP = 100_000

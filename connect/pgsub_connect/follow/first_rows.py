@@ -30,7 +30,7 @@ from ..store.checkpoint import Checkpoint
 from ..store.copied_rows import DONE, rows_frame
 from .process_beside import START, TablesSettings, environment
 
-CODE = f"{START}from pgsub_connect.store.%s import run; run()"
+CODE = f"{START}from pgsub_connect.store import base_files, copied_rows; %s()"
 # How many bytes may wait for the process, and how many seconds it has at the follower's end.
 ROOM, PATIENCE = 1 << 20, 20.0
 # How often it is looked whether to end, in seconds.
@@ -38,10 +38,10 @@ STEP = 0.1
 
 
 class FromCopy(RowsBeside):
-    """A process, by the module of `store` that it runs. `name`: what it makes."""
+    """A process, by the function of `store` that it calls. `name`: what it makes."""
 
-    def __init__(self, name: str, module: str, checkpoint: int) -> None:
-        self.name, self.module, self.checkpoint = name, module, checkpoint
+    def __init__(self, name: str, call: str, checkpoint: int) -> None:
+        self.name, self.call, self.checkpoint = name, call, checkpoint
         self.child: subprocess.Popen[bytes] | None = None
         self.has_all = False
         self.writing = threading.Lock()
@@ -59,7 +59,7 @@ class FromCopy(RowsBeside):
         try:
             # (a session of its own: an interrupt at the terminal is for the follower)
             self.child = child = subprocess.Popen(
-                [sys.executable, "-c", CODE % self.module, json.dumps(self.wanted(point))],
+                [sys.executable, "-c", CODE % self.call, json.dumps(self.wanted(point))],
                 bufsize=0,
                 stdin=subprocess.PIPE,
                 start_new_session=True,
@@ -121,7 +121,7 @@ class FirstRows(FromCopy):
     """That which makes tables. Where it fails, they are made from the store."""
 
     def __init__(self, settings: TablesSettings, checkpoint: int) -> None:
-        super().__init__(settings.path, "copied_rows", checkpoint)
+        super().__init__(settings.path, "copied_rows.run", checkpoint)
         self.settings = settings
 
     def wanted(self, point: int) -> copied_rows.Wanted:
@@ -155,7 +155,7 @@ class BaseRows(FromCopy):
     """That which makes the first rows of a feed: before the feed begins."""
 
     def __init__(self, feed: str, store: str, mode: int, checkpoint: Checkpoint) -> None:
-        super().__init__(feed, "base_files", checkpoint.file)
+        super().__init__(feed, "base_files.run", checkpoint.file)
         self.store, self.mode, self.known = store, mode, checkpoint
 
     def wanted(self, point: int) -> base_files.Wanted:
@@ -191,6 +191,6 @@ class BaseRows(FromCopy):
 
     def make_from_store(self, check: Check) -> None:
         log.info(f"{self.name}: its first rows are read from {self.store}")
-        self.module = "base_of_store"
+        self.call = "base_files.run_from_store"
         self.begin(self.known.known.position)
         self.wait(check)

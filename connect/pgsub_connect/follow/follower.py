@@ -14,9 +14,9 @@ from ..stream.common import Common
 from ..stream.filter import Filter
 from ..stream.filter_end import FilterEnded
 from ..stream.missed_rows import Misses
-from ..stream.skip import Skipping
 from ..stream.statuses import Confirming
 from ..stream.stream_log import Noting
+from ..stream.transactions import Skipping
 from .drift_watch import Watch
 from .feed import Feeding
 from .filter_life import SLEEP, STEP, FilterLife

@@ -10,7 +10,7 @@ from pgsub_feed.texts import identifier, lsn_text, replication_literal
 from ..server.session import ABORTS_IN_VERSION_1, STREAMS, tell_version_1
 from ..status.progress import Progress
 from ..stream.memory_limit import BufferLimits
-from ..stream.skip import Skipping
+from ..stream.transactions import Skipping
 
 
 @dataclasses.dataclass(frozen=True)

@@ -1,4 +1,4 @@
-"""The files of a store: `file` reads its rows and makes copies one file, `checkpoint` (`checkpoint_lines`) what is known of
-it, `repeats_file` which commits that come again may be compared, `placing` its names. `at_rest`
-gives it to readers, who ask its follower by `socket_file`; `export` is a copy.
-Processes make tables (`copied_rows`) and a feed's first rows (`base_files`, `base_of_store`)."""
+"""The files of a store: `file` reads its rows and makes copies one file, `checkpoint`
+(`checkpoint_lines`) what is known of it, `repeats_file` which commits that come again may be
+compared, `placing` its names. `at_rest` gives it to readers, who ask its follower by `socket_file`;
+`export` is a copy. Processes make tables (`copied_rows`) and a feed's first rows (`base_files`)."""

@@ -1,8 +1,11 @@
 """The first rows of a feed as files beside its segments, as `pgsub_feed.reader.base` reads them, by
 a process that gets the rows of an initial copy while they are read.
 
-Where that ends before all rows came, nothing is left of them; the module `store.base_of_store` makes
-them then.
+Where that ends before all rows came, nothing is left of them. Another process makes them from the
+rows of the store then: where an interrupted copy went on, what was stored before it was interrupted
+comes by no frames. Nobody has the store open meanwhile, since the follower that has started the
+process is its connector. They are as of the store's position, from which the feed goes on. What is
+there of tables that are to be added goes by the TRUNCATE with which their rows come.
 """
 
 from __future__ import annotations
@@ -11,9 +14,10 @@ import contextlib
 import json
 import os
 import shutil
+import sqlite3
 import sys
 import zlib
-from collections.abc import Callable, Iterable, Iterator, Mapping
+from collections.abc import Callable, Collection, Iterable, Iterator, Mapping
 from json.encoder import encode_basestring  # type: ignore[attr-defined]
 from typing import BinaryIO, NamedTuple
 
@@ -22,18 +26,23 @@ from pgsub_feed.errors import FileError
 from pgsub_feed.files import NEW, sync_folder
 from pgsub_feed.interruption import Check
 from pgsub_feed.json_texts import compact
+from pgsub_feed.log import Meter
 from pgsub_feed.ownership import set_mode
 from pgsub_feed.program import check_signals, guarded
 from pgsub_feed.reader.base import FOLDER, FORMAT, file_name, remove_base
 from pgsub_feed.reader.lines import HEAD_SIZE
+from pgsub_feed.reader.polling import Parent
 from pgsub_feed.relation import Relation
 from pgsub_feed.tables.schema import table_line
 from pgsub_feed.tables.values import Malformed
 from pgsub_feed.texts import counted, lsn_text
 
 from ..drift.remembered import Remembered
+from .at_rest import unopened
 from .copied_rows import READ, attempted, rows_of
-from .file import choose
+from .export import Held
+from .file import check_store, choose, opened, read_position, read_relations
+
 
 # How many bytes of rows wait to be written, and how many each file but the last has at least.
 ROOM, LEAST = 1 << 20, 1 << 26
@@ -208,3 +217,45 @@ def run() -> None:
     wanted, check = Wanted(*json.loads(sys.argv[1])), check_signals()
     with open(0, "rb", buffering=READ) as source:
         sys.exit(guarded(lambda: written(wanted, source, check)))
+
+
+# After how many rows it is noted how far it is.
+NOTED = 1000
+
+
+def stored_rows(
+    store: sqlite3.Connection, stored: Collection[int], chosen: Collection[int]
+) -> Iterator[Held]:
+    """The rows of the chosen tables, in the order in which the file has them."""
+    meter = Meter("reading first rows")
+    total = store.execute("SELECT count(*) FROM held").fetchone()[0]
+    rows = store.execute("SELECT oid, body, copies FROM held NOT INDEXED")
+    for done, (oid, body, copies) in enumerate(rows):
+        if done % NOTED == 0:
+            meter.note(done, total)
+        if oid in chosen:
+            yield oid, body, copies
+        elif oid not in stored:
+            raise Malformed
+
+
+def write_stored(wanted: Wanted, check: Check) -> int:
+    """Writes the files; returns how many rows they have."""
+    with unopened(wanted.store, wanted.store + ".base", check) as (path, _):
+        check_store(path, wanted.store)
+        with contextlib.closing(opened(path)) as store:
+            stored, position = read_relations(store), read_position(store)
+            known = choose(stored, Remembered(wanted.store), position)
+            relations = {it.oid: it for it in known}
+            rows = stored_rows(store, stored, relations)
+            return write_base(wanted._replace(point=position), relations, rows, check)
+
+
+def written_from_store(wanted: Wanted, check: Check) -> int:
+    return told(wanted, lambda: write_stored(wanted, check))
+
+
+def run_from_store() -> None:
+    # (it ends with its input, so with the follower)
+    wanted, parent = Wanted(*json.loads(sys.argv[1])), Parent(check_signals())
+    sys.exit(guarded(lambda: written_from_store(wanted, parent.check)))

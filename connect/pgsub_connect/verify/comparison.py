@@ -14,7 +14,7 @@ from collections.abc import Callable, Collection, Iterable, Iterator, Mapping
 from pgsub_feed import log
 from pgsub_feed.errors import Passing
 from pgsub_feed.log import Meter
-from pgsub_feed.tables.printed import Field, FieldTexts, fields_in
+from pgsub_feed.tables.digests import Field, FieldTexts, fields_in
 from pgsub_feed.texts import counted
 
 from ..copy.source import Source

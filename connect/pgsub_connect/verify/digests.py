@@ -13,7 +13,7 @@ from __future__ import annotations
 import array
 from collections.abc import Sequence
 
-from pgsub_feed.tables.printed import (
+from pgsub_feed.tables.digests import (
     CHUNK_WORD,
     FIRST_WORD,
     SECOND_WORD,

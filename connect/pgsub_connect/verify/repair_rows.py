@@ -24,7 +24,7 @@ from collections.abc import Iterator
 
 from pgsub_feed import log
 from pgsub_feed.ownership import give
-from pgsub_feed.tables.printed import fields_in
+from pgsub_feed.tables.digests import fields_in
 from pgsub_feed.texts import counted
 
 from ..copy.messages import delete, insert, relation, update

@@ -14,7 +14,7 @@ from pgsub_feed.errors import Unfit
 from pgsub_feed.interruption import Check
 from pgsub_feed.log import Meter
 from pgsub_feed.relation import Relation
-from pgsub_feed.tables.printed import fields_in, text_of
+from pgsub_feed.tables.digests import fields_in, text_of
 from pgsub_feed.texts import lsn_text
 
 from ..copy.source import Source

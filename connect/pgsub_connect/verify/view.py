@@ -17,10 +17,9 @@ from pgsub_feed.interruption import Check, undone_by
 from pgsub_feed.reader.commits import Head
 from pgsub_feed.reader.trail import Image, Trail
 from pgsub_feed.relation import Relation
-from pgsub_feed.tables.digests import Digest, read_digests
+from pgsub_feed.tables.digests import Digest, FieldTexts, Fields, read_digests, text_of
 from pgsub_feed.tables.first_rows import EARLIER
 from pgsub_feed.tables.names import POSITION, names_of
-from pgsub_feed.tables.printed import Fields, FieldTexts, text_of
 from pgsub_feed.tables.schema import FEED, RELATIONS, read_definition
 from pgsub_feed.tables.set_aside import Aside, read_asides
 from pgsub_feed.tables.sqlite_files import is_earlier, is_tables, opened

@@ -13,7 +13,7 @@ from ..interruption import Check
 from ..log import Meter
 from ..reader.base import BaseFiles, Section, Span
 from ..reader.commits import Cells
-from ..reader.reading import Chosen, Reading
+from ..reader.following import Chosen, Reading
 from ..relation import Relation, Shape
 from ..tables.first_rows import EARLIER, first_rows_of
 from ..tables.names import POSITION, names_of

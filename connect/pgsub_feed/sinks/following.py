@@ -9,9 +9,8 @@ from .. import log
 from ..errors import Passing, Stopped
 from ..interruption import Check, at_most, is_ended, rest
 from ..reader.folder import Noted, segments
-from ..reader.following import Following
+from ..reader.following import Following, Reading
 from ..reader.polling import Parent, Poll
-from ..reader.reading import Reading
 from ..reader.segments import Reader
 from ..tables.first_rows import head_of, keeping
 from ..texts import lsn_text

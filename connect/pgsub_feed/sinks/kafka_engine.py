@@ -24,8 +24,7 @@ from ..interruption import Check
 from ..json_texts import Unreadable, lsn_of, object_of, parsed, whole_of
 from ..known_tables import KnownTables
 from ..reader.commits import Change, Commit, Missed, TableLine
-from ..reader.following import Read
-from ..reader.reading import Chosen
+from ..reader.following import Chosen, Read
 from ..texts import lsn_text, shortened
 from .engine import Alone, Engine, Wanted, read_about, whole
 from .first_rows import Base, numbered

@@ -15,8 +15,7 @@ from .. import log
 from ..errors import Passing, TooLarge, Unfit
 from ..interruption import Check, rest
 from ..reader.commits import Commit, TableLine
-from ..reader.following import Read
-from ..reader.reading import Chosen
+from ..reader.following import Chosen, Read
 from ..texts import lsn_text, shortened
 from .engine import Engine, Trail, Wanted, whole
 from .first_rows import Base, numbered

@@ -17,8 +17,8 @@ from ..ownership import real
 from ..reader.base import BaseFiles, base_of_feed
 from ..reader.commits import Head
 from ..reader.folder import Noted, read_confirmed, segments
+from ..reader.following import Reading
 from ..reader.polling import Poll
-from ..reader.reading import Reading
 from ..reader.segments import Reader
 from ..reader.whole import Sections
 from ..texts import identifier, lsn_text, parse_lsn

@@ -14,8 +14,8 @@ from ..errors import Unfit
 from ..formats.keys import key_of
 from ..interruption import Check
 from ..reader.commits import XID, Cell, Change, Commit, Missed, TableLine
+from ..reader.following import Chosen
 from ..reader.polling import Poll
-from ..reader.reading import Chosen
 from ..reader.segments import Reader
 from ..relation import Column, Relation
 from ..tables.schema import full_name

@@ -9,8 +9,8 @@ from typing import Any
 
 from pgsub_feed.interruption import Check
 from pgsub_feed.options import flag, option, plain_name, repeated
+from pgsub_feed.reader.following import Reading
 from pgsub_feed.reader.polling import Parent
-from pgsub_feed.reader.reading import Reading
 from pgsub_feed.tables.values import AS_REAL, AS_TEXT, BOTH
 
 from ...store.at_rest import is_followed
