@@ -16,7 +16,6 @@ from .server.publication_setup import REFUSED, inserts_of, keyless_text, names_o
 from .server.replica_identity import members
 from .server.transport import CURE
 
-
 OK, WARNING, ERROR = "ok", "warning", "error"
 # what a version of the server has first
 OLDEST, COPIES, STREAMS = 100000, 120000, 140000

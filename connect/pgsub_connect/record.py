@@ -19,7 +19,6 @@ from .server import session
 from .server.connection import COPY_BOTH, Connection
 from .stream.messages import COPY_DONE, header
 
-
 LONGEST = 64 << 20
 # How each recording of this program begins.
 BEGUN = f"# recorded by {log.PROGRAM} at "

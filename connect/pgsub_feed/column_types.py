@@ -24,8 +24,6 @@ and each time from which on it was found so.
 A commit with a definition that isn't there yet is given once the follower has looked.
 """
 
-from __future__ import annotations
-
 import os
 import time
 from typing import Any, NamedTuple

@@ -1,7 +1,5 @@
 """What a program of one's own reads a feed with."""
 
-from __future__ import annotations
-
 import contextlib
 import dataclasses
 import datetime
@@ -67,7 +65,7 @@ def read_here(
     feed: str,
     after: int | None,
     follow: bool,
-    build: Build,
+    build: "Build",
     base: str | os.PathLike[str] | None,
     reader: str | None,
     mode: int,

@@ -1,7 +1,5 @@
 """`pgsub-connect drop`: takes away a follower: its slot, its publications and its files."""
 
-from __future__ import annotations
-
 import contextlib
 import dataclasses
 import os

@@ -1,7 +1,5 @@
 """`pgsub-connect follow`: carries a slot's changes to `pgsub follow`, and its statuses back."""
 
-from __future__ import annotations
-
 import argparse
 import contextlib
 import dataclasses

@@ -17,8 +17,6 @@ large to be added by itself. A table that was altered, truncated or locked besid
 by itself, too, as the module `add.adder` says.
 """
 
-from __future__ import annotations
-
 import contextlib
 import dataclasses
 import time

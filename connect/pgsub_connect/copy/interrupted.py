@@ -1,8 +1,6 @@
 """The files of an initial copy, the store's own; and what an interrupted one has left: a store at a
 position that is none of a server's, in which some tables are whole. It goes on with these."""
 
-from __future__ import annotations
-
 import collections
 import contextlib
 import os

@@ -1,7 +1,5 @@
 """What gets the rows of an initial copy, too, while they are read."""
 
-from __future__ import annotations
-
 from collections.abc import Callable, Sequence
 
 from pgsub_feed.interruption import Check

@@ -33,7 +33,6 @@ from .table_reader import GONE, LOCK_TIMEOUT, lock_tables, take_snapshot
 from .tables import SHORT, check_names
 from .tries import CHANGED
 
-
 MOVED, ALTERED, LOCKED = "truncated or written anew", "altered or dropped", "locked by others"
 
 

@@ -11,8 +11,6 @@ are small, whole, and wait then. Each connection has a thread, which waits once 
 taken.
 """
 
-from __future__ import annotations
-
 import collections
 import contextlib
 import dataclasses

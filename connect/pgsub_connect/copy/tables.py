@@ -1,7 +1,5 @@
 """Which tables a copy reads, and which are added by themselves once all others follow."""
 
-from __future__ import annotations
-
 from pgsub_feed import log
 from pgsub_feed.interruption import Check
 

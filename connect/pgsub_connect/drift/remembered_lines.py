@@ -39,7 +39,6 @@ from ..server.catalog import Catalog
 from .findings import Found
 from .names import NameRow
 
-
 # A Relation message of a change, and the LSN of its commit.
 Noted = tuple[Relation, Lsn]
 

@@ -15,8 +15,6 @@ loop only sets what is confirmed.
 | is followed without its feed, as was said by --without-feed | has a gap: the filter takes it for no feed of that store |
 """
 
-from __future__ import annotations
-
 import contextlib
 import dataclasses
 import os

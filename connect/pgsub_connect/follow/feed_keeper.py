@@ -7,15 +7,13 @@ the types of columns, and from which LSN on. It is replaced as a whole. A line g
 has a commit before the one that follows it.
 """
 
-from __future__ import annotations
-
 import contextlib
 import itertools
 import os
 import threading
 import time
 from collections.abc import Callable
-from typing import TYPE_CHECKING, Any
+from typing import Any
 
 from pgsub_feed import json_texts, log
 from pgsub_feed.column_types import FORMAT, TYPES, entry_of
@@ -29,11 +27,9 @@ from pgsub_feed.texts import counted, lsn_text
 from ..copy.rows_beside import RowsBeside
 from ..drift.remembered import Remembered
 from ..server.catalog import Catalog, Table
+from ..status.progress import Progress
 from ..stream.statuses import Reached
 from .retention import Limits, feed_bytes, read_readers, retire
-
-if TYPE_CHECKING:
-    from ..status.progress import Progress
 
 # A line of a table; `until`: the table wasn't published any more at that LSN.
 Line = dict[str, Any]

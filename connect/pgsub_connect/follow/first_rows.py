@@ -7,8 +7,6 @@ Each has the checkpoint open, as the filter has: the next start of a connector t
 until it has ended.
 """
 
-from __future__ import annotations
-
 import contextlib
 import fcntl
 import json

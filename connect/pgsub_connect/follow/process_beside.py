@@ -9,8 +9,6 @@ that the feed has more: until then it sleeps. One with an LSN asks for a line of
 LSN that it has reached, once that is this one.
 """
 
-from __future__ import annotations
-
 import contextlib
 import dataclasses
 import os

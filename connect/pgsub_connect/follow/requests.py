@@ -1,8 +1,6 @@
 """What others ask of a running follower: copies of its store for readers, tables to be added, rows
 to be repaired, and to be told once the tables of `--tables` have an LSN."""
 
-from __future__ import annotations
-
 import contextlib
 from collections.abc import Callable
 

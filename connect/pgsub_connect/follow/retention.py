@@ -9,8 +9,6 @@ would get larger than it may. The last segment stays, and whatever has the commi
 position or one above it, as opening the feed needs it.
 """
 
-from __future__ import annotations
-
 import contextlib
 import dataclasses
 import os

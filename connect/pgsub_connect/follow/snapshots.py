@@ -1,7 +1,5 @@
 """Copies of the store for readers: a filter that runs has the store itself open alone."""
 
-from __future__ import annotations
-
 import contextlib
 import os
 import sqlite3
@@ -49,7 +47,7 @@ class Snapshots:
         self.client: Client | None = None
         self.wanted: str | None = None
         # what makes one file of what was copied, and why that failed
-        self.finishing: Finishing | None = None
+        self.finishing: "Finishing | None" = None
         self.hold = Hold()
         # takes the tables of a request to add some, and returns why it doesn't
         self.adds: Callable[[dict[str, Any]], str | None] = lambda asked: "no table can be added"
@@ -266,7 +264,7 @@ class Snapshots:
             # (the log is beside the file, whatever links to that)
             copy(real(self.store) + suffix, new + suffix, self.mode, tick)
 
-    def finish(self, finished: Finishing) -> None:
+    def finish(self, finished: "Finishing") -> None:
         """Tells of a copy that is whole, or isn't."""
         self.finishing = None
         path, into = finished.path, finished.into

@@ -96,7 +96,6 @@ ALTERED = (
     " WHERE b.attrelid = c.oid AND b.attnum > 0 AND NOT b.attisdropped)"
 )
 
-
 # Whether changes of a relation `c` are in the log: not of a foreign or unlogged table.
 LOGGED = "c.relpersistence = 'p' AND c.relkind <> 'f'"
 

@@ -15,7 +15,6 @@ from pgsub_feed.texts import LONGEST, said_text
 
 from ..errors import WrongAnswer
 
-
 # PQERRORS_DEFAULT and PQERRORS_VERBOSE.
 DEFAULT, VERBOSE = 1, 2
 

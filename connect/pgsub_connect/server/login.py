@@ -20,7 +20,6 @@ from ..errors import LOGIN, ServerError, Unconnected
 from . import transport
 from .libpq import DEFAULT, VERBOSE, is_by_gssapi, ready, set_verbosity
 
-
 # After how many seconds a host is given up, at most.
 CONNECT_LIMIT = 10.0
 # The first libpq that can be told to connect to a primary, or what writes by default, alone.

@@ -8,8 +8,6 @@ process is its connector. They are as of the store's position, from which the fe
 there of tables that are to be added goes by the TRUNCATE with which their rows come.
 """
 
-from __future__ import annotations
-
 import contextlib
 import json
 import os
@@ -42,7 +40,6 @@ from .at_rest import unopened
 from .copied_rows import READ, attempted, rows_of
 from .export import Held
 from .file import check_store, choose, opened, read_position, read_relations
-
 
 # How many bytes of rows wait to be written, and how many each file but the last has at least.
 ROOM, LEAST = 1 << 20, 1 << 26

@@ -6,8 +6,6 @@ OID of its table and how many columns that has; and a CopyDone at the end. Witho
 left of the file.
 """
 
-from __future__ import annotations
-
 import contextlib
 import json
 import os

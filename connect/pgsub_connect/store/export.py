@@ -8,8 +8,6 @@
 | any other | the rows of one of the publisher's tables |
 """
 
-from __future__ import annotations
-
 import contextlib
 import dataclasses
 import sqlite3

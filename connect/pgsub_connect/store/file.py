@@ -15,7 +15,6 @@ from pgsub_feed.tables.values import Malformed, read_columns
 
 from ..drift.remembered import Remembered
 
-
 STORED = {"rel", "held", "pos"}
 
 

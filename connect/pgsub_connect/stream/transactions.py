@@ -25,7 +25,6 @@ from ..drift.remembered import Remembered
 from .common import Common
 from .messages import BEGIN, CHANGES, COMMIT, OUTSIDE, TRUNCATE, final_lsn, number, xid_of
 
-
 # The letter under which a TRUNCATE is counted for a table: the count of relations, which follows
 # that of the message, is no OID. And the OID under which it is for all tables that aren't known.
 TRUNCATED, UNKNOWN = b"t", bytes(4)

@@ -15,7 +15,6 @@ from ..drift.findings import REPEAT, RULE, UNWATCHED
 from .filter_end import BREACH, Missing, missing_of
 from .filter_input import PIECE
 
-
 # How each of its lines begins.
 WATCH, REPEATS = "pgsub: watch: ", "pgsub: repeats: "
 BROKEN = re.compile(r"(order|rule [2-7]) broken at ([0-9]{1,20}): (.+)")

@@ -8,8 +8,6 @@ whose other fields differ is in the same chunk on both sides. Sums, and not the 
 equal rows are to count twice.
 """
 
-from __future__ import annotations
-
 import array
 from collections.abc import Sequence
 
@@ -97,7 +95,7 @@ class Sums:
     def total(self) -> int:
         return sum(self.rows)
 
-    def differing(self, other: Sums) -> list[int]:
+    def differing(self, other: "Sums") -> list[int]:
         """The chunks that aren't the same."""
         both = (zip(it.rows, it.first, it.second) for it in (self, other))
         return [chunk for chunk, (one, two) in enumerate(zip(*both)) if one != two]

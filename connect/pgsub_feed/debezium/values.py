@@ -13,7 +13,6 @@ from decimal import Decimal, InvalidOperation
 
 from ..tables.values import read_bytea
 
-
 MONEY = re.compile(r"(-?)\$?(\d[\d,]*(?:\.\d+)?)")
 POINT = re.compile(r"\(([^,()]+),([^,()]+)\)")
 Read = Callable[[str], object]

@@ -1,7 +1,5 @@
 """The side of the reader: commits of a feed on another host, also where the way there is cut."""
 
-from __future__ import annotations
-
 import contextlib
 import dataclasses
 import json
@@ -54,7 +52,7 @@ class Address:
     path: str
 
     @staticmethod
-    def of(url: str) -> Address:
+    def of(url: str) -> "Address":
         found = urllib.parse.urlsplit(url)
         host = found.netloc.rpartition("@")[0] + "@" if "@" in found.netloc else ""
         try:

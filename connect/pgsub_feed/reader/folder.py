@@ -11,7 +11,6 @@ from ..files import LOG, replace_file, sync_folder
 from ..ownership import real, set_mode
 from ..texts import lsn_text, parse_lsn
 
-
 NAME = re.compile(r"[0-9A-Fa-f]{16}")
 CONFIRMED = "confirmed"
 # How long a file system may give one time to two changes of a folder, in seconds.

@@ -5,8 +5,6 @@ had it is called `pgsub:old:OID` from then on, since the server doesn't say whet
 or gets another name.
 """
 
-from __future__ import annotations
-
 import dataclasses
 import functools
 import json

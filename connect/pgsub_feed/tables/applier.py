@@ -21,7 +21,6 @@ from .table import Kept
 from .user_sql import has_triggers, has_unique_indexes
 from .values import Value
 
-
 # How many changes of one kind are made at once, and how many rows wait at most.
 MOST, MOST_ROWS = 1000, 20000
 

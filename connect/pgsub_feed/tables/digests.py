@@ -17,8 +17,6 @@ The text of a row has for each field its value after that one's length in bytes 
 for null. So no two rows have one text.
 """
 
-from __future__ import annotations
-
 import hashlib
 import itertools
 import sqlite3
@@ -33,7 +31,6 @@ from .floats import stored_float
 from .reshape import printed
 from .table import Kept, Valued
 from .values import BOOL, BYTEA, FLOAT4, NULL, Value, scale_of
-
 
 # Where the words of a hash are: the chunk's and two that are added up.
 CHUNK_WORD, FIRST_WORD, SECOND_WORD = 4, 0, 1
@@ -147,10 +144,10 @@ class Digest(NamedTuple):
     first: int
     second: int
 
-    def plus(self, other: Digest) -> Digest:
+    def plus(self, other: "Digest") -> "Digest":
         return Digest(self.rows + other.rows, self.first + other.first, self.second + other.second)
 
-    def times(self, sign: int) -> Digest:
+    def times(self, sign: int) -> "Digest":
         return Digest(sign * self.rows, sign * self.first, sign * self.second)
 
 
@@ -216,7 +213,7 @@ class Digests:
         self.fields: dict[int, Fields] = {}
 
     @classmethod
-    def begun(cls, db: sqlite3.Connection, tables: Iterable[Kept]) -> Digests:
+    def begun(cls, db: sqlite3.Connection, tables: Iterable[Kept]) -> "Digests":
         """Has the file keep one of each table from now on."""
         db.execute(SCHEMA)
         db.execute(f"PRAGMA user_version = {FORMAT}")

@@ -1,7 +1,5 @@
 """A file of tables that follows a feed, as the module `schema` describes it."""
 
-from __future__ import annotations
-
 import json
 import sqlite3
 

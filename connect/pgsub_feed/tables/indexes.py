@@ -13,8 +13,6 @@ Those of btree over plain columns are made, in SQLite's own order. A unique one 
 here, since rows may have equal values within a commit.
 """
 
-from __future__ import annotations
-
 import sqlite3
 from collections.abc import Iterable, Sequence
 

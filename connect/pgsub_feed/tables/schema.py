@@ -14,8 +14,6 @@ Where another table got the name of one, the older one's rows are in `pgsub_old 
 back under another name.
 """
 
-from __future__ import annotations
-
 import contextlib
 import json
 import sqlite3
@@ -42,7 +40,6 @@ MORE = (
     f"CREATE TABLE {FEED} (folder TEXT NOT NULL, system TEXT, database TEXT, slot TEXT, chosen TEXT NOT NULL) STRICT",
     f"PRAGMA application_id = {FOLLOWING}",
 )
-
 
 # What is told of a file whose numerics are kept in another way.
 FORMS = "it has numerics by --numeric %s, not %s"

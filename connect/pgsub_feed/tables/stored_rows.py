@@ -27,7 +27,6 @@ from .values import (
     read_int,
 )
 
-
 # A text, or null.
 Text = str | None
 # Reads the texts of a column. A ValueError says that one isn't as most are, or is none.

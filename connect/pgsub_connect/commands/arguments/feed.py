@@ -1,7 +1,5 @@
 """Options on the feed of commits, and on the tables that follow it."""
 
-from __future__ import annotations
-
 import dataclasses
 import os
 from collections.abc import Sequence

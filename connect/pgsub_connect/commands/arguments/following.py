@@ -1,7 +1,5 @@
 """Options on what follows a feed, and the store beside it."""
 
-from __future__ import annotations
-
 import argparse
 import dataclasses
 from collections.abc import Collection, Iterable, Sequence
