@@ -8,7 +8,7 @@ from collections.abc import Callable, Iterator
 
 from .errors import Passing
 from .interruption import Check, never
-from .ownership import real, succeed
+from .ownership import opened, real, succeed
 
 LOG = "-wal"
 # A file, and what SQLite may have beside it, as a journal, which would change another one there.
@@ -69,11 +69,8 @@ def copied(read: int, write: int) -> int:
 
 def sync_folder(path: str) -> None:
     """Makes the name of a file outlast a power cut."""
-    folder = os.open(os.path.dirname(os.path.abspath(path)), os.O_RDONLY)
-    try:
+    with opened(os.path.dirname(os.path.abspath(path))) as folder:
         os.fsync(folder)
-    finally:
-        os.close(folder)
 
 
 def own_files(path: str) -> re.Pattern[str]:
@@ -124,12 +121,9 @@ def placed(into: str, mode: int, check: Check = never) -> Iterator[str]:
         remove_files(new)
         os.close(os.open(new, os.O_WRONLY | os.O_CREAT | os.O_EXCL | os.O_CLOEXEC, 0o600))
         yield new
-        file = os.open(new, os.O_RDONLY | os.O_NOFOLLOW | os.O_CLOEXEC)
-        try:
+        with opened(new, os.O_NOFOLLOW) as file:
             os.fchmod(file, mode)
             os.fsync(file)
-        finally:
-            os.close(file)
         # (the disk may have taken long)
         check()
         for suffix in OF_FILE[1:]:
@@ -149,8 +143,7 @@ def replace_file(path: str, content: bytes, mode: int = 0o600) -> int:
     """Replaces a file durably, for readers as a whole. Returns the number of its inode."""
     new = path + NEW
     try:
-        with contextlib.suppress(FileNotFoundError):
-            os.unlink(new)
+        remove(new)
         number = os.open(new, os.O_WRONLY | os.O_CREAT | os.O_EXCL | os.O_CLOEXEC, mode)
         # (whatever the umask leaves of it)
         os.fchmod(number, mode)
@@ -161,11 +154,7 @@ def replace_file(path: str, content: bytes, mode: int = 0o600) -> int:
             os.fsync(number)
             inode = os.fstat(number).st_ino
         os.replace(new, path)
-        folder = os.open(os.path.dirname(os.path.abspath(path)), os.O_RDONLY | os.O_DIRECTORY)
-        try:
-            os.fsync(folder)
-        finally:
-            os.close(folder)
+        sync_folder(path)
     except OSError as error:
         with contextlib.suppress(OSError):
             os.unlink(new)

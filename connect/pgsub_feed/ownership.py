@@ -8,6 +8,7 @@ open file. A link may lead anywhere: links are resolved here as the kernel does 
 import contextlib
 import os
 import stat
+from collections.abc import Iterator
 
 from .errors import FileError
 
@@ -103,10 +104,17 @@ def readable_text(path: str, readers: str) -> str:
     return f"{path} has a password, and {readers} may read it: chmod 600"
 
 
-def set_mode(path: str, mode: int) -> None:
-    """Gives a file or folder a mode. A link isn't followed."""
-    file = os.open(path, os.O_RDONLY | os.O_NOFOLLOW | os.O_NONBLOCK | os.O_CLOEXEC)
+@contextlib.contextmanager
+def opened(path: str, flags: int = 0, folder: int | None = None) -> Iterator[int]:
+    """Opens a file or folder for reading, or as flags say, and closes it again."""
+    file = os.open(path, os.O_RDONLY | os.O_CLOEXEC | flags, dir_fd=folder)
     try:
-        os.fchmod(file, mode)
+        yield file
     finally:
         os.close(file)
+
+
+def set_mode(path: str, mode: int) -> None:
+    """Gives a file or folder a mode. A link isn't followed."""
+    with opened(path, os.O_NOFOLLOW | os.O_NONBLOCK) as file:
+        os.fchmod(file, mode)

@@ -39,7 +39,7 @@ from ..store.repeats_file import RepeatsFile
 from ..stream.common import Common, Tolerance
 from ..stream.filter import WATCH, Filter
 from ..stream.filter_end import FilterEnded
-from .arguments import words
+from .arguments import session, words
 from .arguments.feed import FeedOptions, settled_feed
 from .arguments.following import check_numeric
 from .arguments.server import (
@@ -50,17 +50,6 @@ from .arguments.server import (
     check_publishing,
     settled_server,
 )
-from .arguments.session import (
-    ALL,
-    NO,
-    AlterOptions,
-    SessionOptions,
-    SizeOptions,
-    WatchOptions,
-    add_session,
-    longest,
-    settled_sizes,
-)
 from .arguments.words import check_files, check_needs, each, within
 from .snapshot import check_copied
 
@@ -70,13 +59,19 @@ ENDS = words.ENDS
 
 @dataclasses.dataclass(frozen=True)
 class Options(
-    ServerOptions, CopyOptions, SizeOptions, SessionOptions, AlterOptions, WatchOptions, FeedOptions
+    ServerOptions,
+    CopyOptions,
+    session.SizeOptions,
+    session.SessionOptions,
+    session.AlterOptions,
+    session.WatchOptions,
+    FeedOptions,
 ):
     """What is followed, into which store, and for how long."""
 
     store: str = ""
     record: str | None = file("add the sessions to this recording, a .pgx file")
-    bytes: int = longest()
+    bytes: int = session.longest()
     check_every: int = option(
         "read and check all rows of the store at each N-th start; the others trust what the one before left (default: 30)",
         30,
@@ -103,11 +98,11 @@ def add_options(parser: argparse.ArgumentParser) -> None:
     group = parser.add_argument_group("the store")
     store = group.add_argument
     store("--store", metavar="FILE", default="", help="keep the copies in this store")
-    add_fields(store, SizeOptions)
-    add_session(group)
-    add_fields(store, AlterOptions)
+    add_fields(store, session.SizeOptions)
+    session.add_session(group)
+    add_fields(store, session.AlterOptions)
     add_copying(parser)
-    add_fields(parser.add_argument_group("watching").add_argument, WatchOptions)
+    add_fields(parser.add_argument_group("watching").add_argument, session.WatchOptions)
     add_fields(parser.add_argument_group("the feed").add_argument, FeedOptions)
     add_fields(
         parser.add_argument_group("recording").add_argument, Options, without=Options.__bases__
@@ -122,7 +117,7 @@ def check_options(parser: argparse.ArgumentParser, options: Options) -> Options:
     if options.tables and options.without_tables:
         parser.error("--tables and --without-tables exclude each other")
     check_numeric(parser, options.numeric, options.digests)
-    if options.strict and options.watch == NO:
+    if options.strict and options.watch == session.NO:
         parser.error("--strict and --watch no exclude each other")
     if not options.store:
         parser.error("--store is needed")
@@ -146,7 +141,7 @@ def settled(options: Options) -> Options:
     feed = os.path.abspath(options.feed) if options.feed else ""
     told = [("--store", options.store), ("--pgsub", options.pgsub), ("--feed", feed)]
     told = [*each("--table", options.table), *told, ("--store", meant(options.store))]
-    return settled_sizes(settled_server(options, options.store, options.keyless, told))
+    return session.settled_sizes(settled_server(options, options.store, options.keyless, told))
 
 
 def run(options: Options, check: Check) -> int:
@@ -291,9 +286,9 @@ def make_filter(options: Options, checkpoint: Checkpoint) -> Filter:
 
 def begin_watching(options: Options, common: Common, child: Filter) -> None:
     """Has the filter watch the server, as far as it is to."""
-    if options.watch != NO:
+    if options.watch != session.NO:
         child.add_words([WATCH, "stop" if common.tolerance.stops else "tell"])
-    if options.watch != ALL:
+    if options.watch != session.ALL:
         # (commits come now that aren't noted)
         return common.checkpoint.forget_repeats()
     subscription = common.subscription

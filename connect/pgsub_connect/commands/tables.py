@@ -18,13 +18,7 @@ from pgsub_feed.tables.sqlite_files import check_sqlite, failed
 from pgsub_feed.texts import lsn_text
 
 from ..server.publication_setup import names_of
-from .arguments.following import (
-    INDEXES,
-    FollowingOptions,
-    add_following,
-    check_numeric,
-    numeric_option,
-)
+from .arguments import following
 from .arguments.words import FED, check_files, check_texts, each, use_mode
 
 ABOUT = """\
@@ -40,7 +34,7 @@ LEFT = 1
 
 
 @dataclasses.dataclass(frozen=True)
-class Options(FollowingOptions):
+class Options(following.FollowingOptions):
     """Which feed is followed, into which file, and up to where."""
 
     into: str = file("the file with the tables", "", required=True)
@@ -50,8 +44,8 @@ class Options(FollowingOptions):
     digests: bool = flag(
         "keep a digest of each table, for `verify`; a file that has them keeps them"
     )
-    numeric: str = numeric_option()
-    indexes: bool = flag(f"with {INDEXES}; it needs the store of the feed")
+    numeric: str = following.numeric_option()
+    indexes: bool = flag(f"with {following.INDEXES}; it needs the store of the feed")
     at: int | None = option(
         "the tables as of this LSN: end before the first commit above it, or go back to there",
         type=lsn,
@@ -70,12 +64,12 @@ class Options(FollowingOptions):
 def add_options(parser: argparse.ArgumentParser) -> None:
     add_fields(parser.add_argument, Options)
     base = "or file of tables, where the file isn't there yet"
-    add_following(parser, base, "the disk", "in the file")
+    following.add_following(parser, base, "the disk", "in the file")
 
 
 def check_options(parser: argparse.ArgumentParser, options: Options) -> Options:
     """The tables as of an LSN end there."""
-    check_numeric(parser, options.numeric, options.digests)
+    following.check_numeric(parser, options.numeric, options.digests)
     return dataclasses.replace(options, once=options.once or options.at is not None)
 
 

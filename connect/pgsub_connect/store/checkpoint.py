@@ -46,7 +46,7 @@ from typing import Any
 
 from pgsub_feed import log
 from pgsub_feed.errors import FileError, Passing, Unfit, told_of
-from pgsub_feed.interruption import Check, never
+from pgsub_feed.interruption import Check, never, undone_by
 from pgsub_feed.json_texts import GREATEST, Unreadable, open_plain
 from pgsub_feed.texts import lsn_text
 
@@ -71,17 +71,13 @@ class Checkpoint:
         # what stands around the two positions in what is known, until something else changes
         self.around: tuple[str, str] | None = None
         self.file = self.opened()
-        try:
-            with told_of(self.path):
-                self.lock(check)
-                line = read_file(self.file, self.path)
-                os.fsync(self.file)
-            self.number, self.known, self.counted = line.number, line.known, line.counted
-            # the place of a line that the disk has; the other one is written
-            self.durable = line.at
-        except BaseException:
-            os.close(self.file)
-            raise
+        with undone_by(lambda: os.close(self.file)), told_of(self.path):
+            self.lock(check)
+            line = read_file(self.file, self.path)
+            os.fsync(self.file)
+        self.number, self.known, self.counted = line.number, line.known, line.counted
+        # the place of a line that the disk has; the other one is written
+        self.durable = line.at
 
     def opened(self) -> int:
         with told_of(self.path):

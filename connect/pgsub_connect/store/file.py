@@ -7,7 +7,7 @@ import os
 import sqlite3
 import urllib.parse
 
-from pgsub_feed import log
+from pgsub_feed import log, ownership
 from pgsub_feed.errors import FileError
 from pgsub_feed.relation import Relation, Shape
 from pgsub_feed.tables.sqlite_files import is_export
@@ -117,11 +117,8 @@ def fold(path: str) -> None:
     with contextlib.closing(sqlite3.connect(path, isolation_level=None)) as store:
         store.execute("PRAGMA synchronous = FULL")
         store.execute("PRAGMA journal_mode = DELETE")
-    file = os.open(path, os.O_RDONLY)
-    try:
+    with ownership.opened(path) as file:
         os.fsync(file)
-    finally:
-        os.close(file)
 
 
 def position_in(path: str) -> int | None:

@@ -34,9 +34,9 @@ from collections.abc import Callable
 from typing import Any
 
 from pgsub_feed.errors import FileError, Passing
-from pgsub_feed.interruption import Check, interruptible
+from pgsub_feed.interruption import Check, interruptible, undone_by
 from pgsub_feed.json_texts import Unreadable, object_of, parsed
-from pgsub_feed.ownership import real
+from pgsub_feed.ownership import opened, real
 
 SUFFIX = ".sock"
 # How many connections may wait to be accepted.
@@ -48,64 +48,46 @@ LONGEST, PIECE = 1 << 20, 1 << 16
 def listening(store: str, mode: int) -> socket.socket:
     """Makes the socket, for those that a file with this mode may be read by."""
     path, made = store + SUFFIX, socket.socket(socket.AF_UNIX, socket.SOCK_STREAM)
-    with contextlib.ExitStack() as failed:
-        failed.callback(made.close)
+    with undone_by(made.close):
         try:
             bind(made, path, mode)
         except OSError as error:
             raise FileError(f"{path}: {error.strerror or error}") from None
-        failed.pop_all()
     return made
 
 
 def bind(made: socket.socket, path: str, mode: int) -> None:
-    folder = os.open(os.path.dirname(os.path.abspath(path)), os.O_PATH | os.O_DIRECTORY)
-    short = f".pgsub-{os.getpid()}{SUFFIX}"
-    try:
+    folder_of, short = os.path.dirname(os.path.abspath(path)), f".pgsub-{os.getpid()}{SUFFIX}"
+    with opened(folder_of, os.O_PATH | os.O_DIRECTORY) as folder:
         with contextlib.suppress(FileNotFoundError):
             os.unlink(short, dir_fd=folder)
         # (its file begins with this mode)
         os.fchmod(made.fileno(), 0o600)
         made.setblocking(False)
         made.bind(f"/proc/self/fd/{folder}/{short}")
-        try:
+        with undone_by(lambda: os.unlink(short, dir_fd=folder)):
             made.listen(BACKLOG)
             set_mode(short, folder, mode)
             os.rename(short, os.path.basename(path), src_dir_fd=folder, dst_dir_fd=folder)
-        except BaseException:
-            os.unlink(short, dir_fd=folder)
-            raise
-    finally:
-        os.close(folder)
 
 
 def set_mode(name: str, folder: int, mode: int) -> None:
     """Lets those connect who may read a file with this mode: a socket has to be writable for it."""
     readers = mode & 0o444
-    file = os.open(name, os.O_PATH | os.O_NOFOLLOW, dir_fd=folder)
-    try:
+    with opened(name, os.O_PATH | os.O_NOFOLLOW, folder) as file:
         os.chmod(f"/proc/self/fd/{file}", 0o600 | readers | readers >> 1)
-    finally:
-        os.close(file)
 
 
 def connected(store: str) -> socket.socket:
     """A connection to a store's follower, which doesn't block. An OSError says why not."""
-    path = store + SUFFIX
-    file = os.open(path, os.O_PATH | os.O_NOFOLLOW)
-    made = socket.socket(socket.AF_UNIX, socket.SOCK_STREAM)
-    try:
+    path, made = store + SUFFIX, socket.socket(socket.AF_UNIX, socket.SOCK_STREAM)
+    with undone_by(made.close), opened(path, os.O_PATH | os.O_NOFOLLOW) as file:
         if not stat.S_ISSOCK(os.fstat(file).st_mode):
             raise FileError(f"{path}: not a socket")
         made.setblocking(False)
         made.connect(f"/proc/self/fd/{file}")
         if (uid := account_of(made)) not in (0, os.geteuid(), os.stat(real(store)).st_uid):
             raise FileError(f"{path}: another account ({uid}) answers there, not the store's")
-    except BaseException:
-        made.close()
-        raise
-    finally:
-        os.close(file)
     return made
 
 

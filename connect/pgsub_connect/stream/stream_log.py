@@ -9,27 +9,8 @@ from pgsub_feed.texts import lsn_text
 
 from ..drift.remembered import Remembered
 from ..status.state import StreamCounters
-from .messages import (
-    ABORT,
-    AT,
-    BEGIN,
-    CHANGES,
-    COMMIT,
-    HEAD,
-    INSIDE,
-    OUTSIDE,
-    RELATION,
-    START,
-    STOP,
-    STREAM_COMMIT,
-    TRUNCATE,
-    commit_time,
-    final_lsn,
-    identity_of,
-    number,
-    relation_of,
-    xid_of,
-)
+from . import messages
+from .messages import AT, BEGIN, CHANGES, COMMIT, HEAD, RELATION, TRUNCATE, number
 from .transactions import TRUNCATED, Described, Streamed, changes_text, count_truncates
 
 
@@ -76,7 +57,7 @@ class RelationLog:
         for oid, (maker, body) in zip(oids, relations.bodies):
             # (it comes once in a session, and after each alteration; in blocks with each of them, where
             # those that read a feed alone need to know)
-            if identity_of(body) in OTHER and (self.remembered.feed or not maker):
+            if messages.identity_of(body) in OTHER and (self.remembered.feed or not maker):
                 self.wants_look = self.has_others = True
             if oid in changed or not self.remembered.is_partition(oid):
                 self.described.setdefault(oid, []).append(body)
@@ -102,7 +83,7 @@ class RelationLog:
             is_same = self.compared.get(oid) == body and self.remembered.has_name(oid)
             if is_same and last >= 0:
                 self.remembered.note_again(oid, lsn)
-            elif (relation := relation_of(body)) is not None:
+            elif (relation := messages.relation_of(body)) is not None:
                 self.compared[oid] = body
                 # (those that read a feed wait for what the catalog says of its types)
                 self.wants_look |= bool(self.remembered.feed) and self.remembered.is_altered(
@@ -156,7 +137,7 @@ class Noting:
         self.current: Streamed | None = None
         self.counts = {}
         self.relations = Described()
-        self.end = OUTSIDE
+        self.end = messages.OUTSIDE
 
     def note_long(self, length: int) -> None:
         """A message of this length is passed on, which is one of the long ones."""
@@ -212,7 +193,7 @@ class Noting:
             self.note_relation(payload)
         elif letter == TRUNCATE:
             self.note_truncate(payload)
-        elif letter in (START, STOP, STREAM_COMMIT, ABORT):
+        elif letter in (messages.START, messages.STOP, messages.STREAM_COMMIT, messages.ABORT):
             self.note_block(letter, payload)
 
     def note_relation(self, payload: bytes) -> None:
@@ -233,18 +214,18 @@ class Noting:
 
     def note_block(self, letter: int, payload: bytes) -> None:
         xid = number(payload[26:30])
-        if letter == START:
+        if letter == messages.START:
             self.xid, self.current = xid, self.open.pop(xid, None) or Streamed()
-            self.relations, self.counts, self.end = self.current.relations, {}, INSIDE
+            self.relations, self.counts, self.end = self.current.relations, {}, messages.INSIDE
             self.began = self.total
-        elif letter == STOP:
+        elif letter == messages.STOP:
             self.changes += sum(self.counts.values())
             if self.current:
                 self.current.add(self.counts, self.total - self.began)
                 if self.current.has_items():
                     self.open[self.xid] = self.current
             self.leave()
-        elif letter == STREAM_COMMIT:
+        elif letter == messages.STREAM_COMMIT:
             it = self.open.pop(xid, None) or Streamed()
             passed = payload[:HEAD], it.counts, it.about, it.size
             self.commit(passed, it.relations, payload[39:47])
@@ -261,7 +242,7 @@ class Noting:
             self.describe(passed, relations)
 
     def describe(self, passed: Passed, relations: Described) -> None:
-        self.relation_log.describe(passed[1], final_lsn(passed[0]), relations)
+        self.relation_log.describe(passed[1], messages.final_lsn(passed[0]), relations)
         self.relations = Described()
 
     def show(self) -> None:
@@ -277,7 +258,7 @@ class Noting:
     def show_waiting(self) -> None:
         """Tells how old the first commit is that was passed on, or is being, unconfirmed."""
         first = self.passed[0][0] if self.passed else self.begun
-        self.progress.lag.note_waiting(commit_time(first) if first else None)
+        self.progress.lag.note_waiting(messages.commit_time(first) if first else None)
 
     def confirm(self, confirmed: int, position: int) -> int:
         """Forgets confirmed commits. Returns the store's position, at least `position`."""
@@ -287,7 +268,7 @@ class Noting:
         while ends and ends[0] <= confirmed:
             position = max(position, ends.popleft())
             last = passed.popleft()
-        self.progress.lag.note_commit(commit_time(last[0]))
+        self.progress.lag.note_commit(messages.commit_time(last[0]))
         self.show_waiting()
         return position
 
@@ -301,19 +282,19 @@ class Noting:
         """What is said of the first commit above a position, which a filter rejected, or ""."""
         for end, (message, counts, about, _) in zip(self.ends, self.passed):
             if end > position:
-                lsn, most = lsn_text(final_lsn(message)), "at most " if about else ""
+                lsn, most = lsn_text(messages.final_lsn(message)), "at most " if about else ""
                 return (
-                    f"rejected: transaction {xid_of(message)}, final LSN {lsn}, {most}{changes_text(counts, self.remembered)}:"
+                    f"rejected: transaction {messages.xid_of(message)}, final LSN {lsn}, {most}{changes_text(counts, self.remembered)}:"
                     f" --skip {lsn} passes over it"
                 )
         return ""
 
     def largest(self) -> tuple[int, int]:
         """The xid of the largest transaction that isn't confirmed, and its bytes so far."""
-        sizes = {xid_of(it[0]): it[3] for it in self.passed}
+        sizes = {messages.xid_of(it[0]): it[3] for it in self.passed}
         sizes |= {xid: it.size for xid, it in self.open.items()}
         if self.current:
             sizes[self.xid] = self.current.size + self.total - self.began
         if self.begun:
-            sizes[xid_of(self.begun)] = self.total - self.began
+            sizes[messages.xid_of(self.begun)] = self.total - self.began
         return max(sizes.items(), key=lambda it: it[1], default=(0, 0))

@@ -8,7 +8,7 @@ import time
 
 from ..errors import FileError, NoFeed
 from ..files import LOG, replace_file, sync_folder
-from ..ownership import real, set_mode
+from ..ownership import opened, real, set_mode
 from ..texts import lsn_text, parse_lsn
 
 NAME = re.compile(r"[0-9A-Fa-f]{16}")
@@ -110,9 +110,5 @@ def noted_of(feed: str, after: int | None, name: str, mode: int) -> Noted:
 
 def sync_log(rows: str) -> None:
     """Has the disk have what is in the log of a file."""
-    with contextlib.suppress(FileNotFoundError):
-        file = os.open(real(rows) + LOG, os.O_RDONLY | os.O_CLOEXEC)
-        try:
-            os.fsync(file)
-        finally:
-            os.close(file)
+    with contextlib.suppress(FileNotFoundError), opened(real(rows) + LOG) as file:
+        os.fsync(file)

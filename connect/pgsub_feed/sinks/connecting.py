@@ -10,7 +10,7 @@ import ssl
 import time
 from typing import Any
 
-from ..interruption import Check, looked_up
+from ..interruption import Check, looked_up, undone_by
 
 # For how long one wait lasts at most, in seconds.
 TICK = 0.1
@@ -26,15 +26,12 @@ def connected(host: str, port: int, seconds: float, check: Check) -> socket.sock
     for family, kind, protocol, _, address in looked_up(host, port, seconds, check):
         made = socket.socket(family, kind, protocol)
         try:
-            made.setblocking(False)
-            connect(made, address, time.monotonic() + seconds, check)
-            return made
+            with undone_by(made.close):
+                made.setblocking(False)
+                connect(made, address, time.monotonic() + seconds, check)
+                return made
         except OSError as failed:
-            made.close()
             error = failed
-        except BaseException:
-            made.close()
-            raise
     raise error
 
 

@@ -21,7 +21,7 @@ from .. import log
 from ..errors import Damaged, Passing, Stopped
 from ..interruption import Check
 from ..json_texts import Unreadable
-from ..ownership import give
+from ..ownership import give, opened
 from ..reader.commits import Commit, Head
 from ..reader.folder import READERS, make_folder
 from ..reader.following import Keeper
@@ -178,9 +178,8 @@ class Alone:
             # (what root makes is for the account whose feed it is)
             about = os.stat(self.feed)
             give(file, about)
-            folder = os.open(self.folder, os.O_RDONLY | os.O_DIRECTORY | os.O_NOFOLLOW)
-            give(folder, about)
-            os.close(folder)
+            with opened(self.folder, os.O_DIRECTORY | os.O_NOFOLLOW) as folder:
+                give(folder, about)
         return file
 
     def lock(self, file: int, place: str, where: str) -> None:

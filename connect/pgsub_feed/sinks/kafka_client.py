@@ -11,7 +11,7 @@ from typing import Any
 
 from .. import log
 from ..errors import EngineError, FileError, Passing, TooLarge, UsageError
-from ..interruption import Check
+from ..interruption import Check, undone_by
 from ..ownership import readable_by, readable_text
 from ..texts import shortened
 from .connecting import TICK
@@ -114,11 +114,8 @@ class Cluster:
         self.most = int(config.get(LARGEST, 1000000))
         self.topics = dict[str, Any]()
         # which cluster it is, by whatever name its brokers were found
-        try:
+        with undone_by(self.close):
             self.id = str(self.listed().cluster_id or servers)
-        except BaseException:
-            self.close()
-            raise
 
     def made(self, kind: Any, config: dict[str, Any]) -> Any:
         try:
