@@ -640,8 +640,8 @@ BUGS = (
     Bug(
         "a copy is taken at the LSN before all is stored",
         "pgsub_connect/stream/statuses.py",
-        "return not self.noting.ends and not self.filter.waiting",
-        "return not self.filter.waiting",
+        "return not self.noting.ends and not self.filter.input.waiting",
+        "return not self.filter.input.waiting",
         ("test_holding",),
     ),
     Bug(

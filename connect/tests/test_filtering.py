@@ -302,7 +302,7 @@ class Misses(Case):
         self.assertTrue(select.select([child.up], [], [], 60.0)[0])
         with mock.patch("select.select", lambda *_: ([child.up], [], [])):
             self.assertEqual(len(child.serve(1.0)[2]), 1)
-        self.assertEqual(child.missing, Missing(2, 0x108, 3))
+        self.assertEqual(child.said.missing, Missing(2, 0x108, 3))
         child.push_payloads(
             [
                 begin(0x110, 7),
@@ -315,7 +315,7 @@ class Misses(Case):
         )
         while child.confirmed() < 0x128:
             self.statuses(child)
-        self.assertEqual(child.missing, Missing(3, 0x108, 3))
+        self.assertEqual(child.said.missing, Missing(3, 0x108, 3))
         child.finish()
         ended = self.end(child)
         self.assertEqual(
@@ -331,11 +331,12 @@ class Misses(Case):
         child.start()
         while not child.said.line:
             child.serve(0.01)
-        self.assertEqual((child.said.line, child.missing), (b"pgsub: rows not fou", Missing()))
+        self.assertEqual((child.said.line, child.said.missing), (b"pgsub: rows not fou", Missing()))
         child.push(b"x\n")
         self.statuses(child)
         self.assertEqual(
-            (child.missing, child.said.line, self.said), (Missing(3, 0x1A2B3C8, 16385), b"more", [])
+            (child.said.missing, child.said.line, self.said),
+            (Missing(3, 0x1A2B3C8, 16385), b"more", []),
         )
         child.push(b"x\n")
         while child.said.line:
@@ -349,9 +350,9 @@ class Misses(Case):
             f" echo '{self.LINE}' >&2; printf '{self.STATUS}'; cat > /dev/null"
         )
         child.start()
-        if not child.missing.total:
+        if not child.said.missing.total:
             self.statuses(child)
-        self.assertEqual((child.missing.total, len(self.said)), (3, 4000))
+        self.assertEqual((child.said.missing.total, len(self.said)), (3, 4000))
 
     def test_each_filter_counts_anew(self) -> None:
         child = self.filter()
@@ -360,9 +361,9 @@ class Misses(Case):
         self.statuses(child)
         child.finish()
         self.end(child)
-        self.assertEqual(child.missing.total, 1)
+        self.assertEqual(child.said.missing.total, 1)
         child.start()
-        self.assertEqual((child.missing, child.confirmed()), (Missing(), 0x108))
+        self.assertEqual((child.said.missing, child.confirmed()), (Missing(), 0x108))
 
     def test_what_it_said_before_it_was_killed(self) -> None:
         """Also a line without its end isn't one."""
@@ -373,7 +374,9 @@ class Misses(Case):
             child = self.shell(f"printf '{self.STATUS}'; read it; printf '{line}' >&2; kill -9 $$")
             child.start()
             child.push(b"x\n")
-            self.assertEqual((self.end(child).status, child.missing, self.said), (-9, missing, []))
+            self.assertEqual(
+                (self.end(child).status, child.said.missing, self.said), (-9, missing, [])
+            )
 
 
 class Given(Case):

@@ -50,7 +50,7 @@ class Holds(unittest.TestCase):
         self.noting.ends = collections.deque([0x108, 0x120])
         self.noting.confirm.side_effect = self.confirm
         self.snapshots.hold, self.snapshots.requests.waiting = Hold(), []
-        self.filter.waiting = 0
+        self.filter.input.waiting = 0
         self.filter.confirmed.return_value = 0x100
         repairing = mock.Mock(snapshots=self.snapshots, hold=self.snapshots.hold)
         self.requests = Asked(mock.Mock(), repairing, upkeep)
@@ -78,9 +78,9 @@ class Holds(unittest.TestCase):
     def test_until_the_filter_has_all(self) -> None:
         """What waits for the pipe may have the end of a commit."""
         self.noting.ends.clear()
-        self.filter.waiting = 1
+        self.filter.input.waiting = 1
         self.assertTrue(self.holds())
-        self.filter.waiting = 0
+        self.filter.input.waiting = 0
         self.assertFalse(self.holds())
         self.assertEqual(self.taken(), [0x100])
 

@@ -23,7 +23,7 @@ import time
 
 from pgsub_feed import log
 from pgsub_feed.errors import FileError, Passing, Unfit
-from pgsub_feed.interruption import rest
+from pgsub_feed.interruption import rest, undone_by
 from pgsub_feed.log import Meter
 from pgsub_feed.program import Worker
 from pgsub_feed.texts import counted, lsn_text
@@ -286,16 +286,13 @@ class Copier(Worker):
         self.sender.begin(self.beside.filter_words())
         self.beside.begin(point)
         readers.begin()
-        try:
+        # (for which the readers may wait)
+        with undone_by(self.beside.abandon):
             while item := self.next_item(readers.items):
                 if isinstance(item, Left):
                     self.tables.leave(item.table.oid, item.why)
                 else:
                     self.send_part(item)
-        except BaseException:
-            # (for which the readers may wait)
-            self.beside.abandon()
-            raise
 
     def next_item(self, items: Items) -> Item | None:
         """What the connections have read next, None after the last."""

@@ -93,7 +93,7 @@ class Standing:
 
     def seconds(self, ends: bool = False) -> float:
         """For how long it has stood still, though something waits for it, or it is to end."""
-        if not self.filter.is_running() or not (ends or self.filter.waiting):
+        if not self.filter.is_running() or not (ends or self.filter.input.waiting):
             self.since = None
             return 0.0
         now = time.monotonic()
@@ -104,7 +104,7 @@ class Standing:
         return now - self.since
 
     def look(self) -> tuple[object, ...]:
-        return self.filter.pid(), self.filter.taken, *activity(self.filter.pid())
+        return self.filter.pid(), self.filter.input.taken, *activity(self.filter.pid())
 
     def lasts(self) -> bool:
         """Whether a filter because of which a session was ended still stands still."""

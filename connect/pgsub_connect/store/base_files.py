@@ -22,7 +22,7 @@ from typing import BinaryIO, NamedTuple
 from pgsub_feed import log
 from pgsub_feed.errors import FileError
 from pgsub_feed.files import NEW, sync_folder
-from pgsub_feed.interruption import Check
+from pgsub_feed.interruption import Check, undone_by
 from pgsub_feed.json_texts import compact
 from pgsub_feed.log import Meter
 from pgsub_feed.ownership import set_mode
@@ -163,15 +163,12 @@ def placed_folder(feed: str, mode: int) -> Iterator[str]:
     new = folder + NEW
     remove_base(feed)
     os.mkdir(new, 0o700)
-    try:
+    with undone_by(lambda: shutil.rmtree(new, ignore_errors=True)):
         set_mode(new, mode | (mode & 0o444) >> 2)
         yield new
         sync_folder(os.path.join(new, file_name(1)))
         os.rename(new, folder)
         sync_folder(folder)
-    except BaseException:
-        shutil.rmtree(new, ignore_errors=True)
-        raise
 
 
 def write_base(

@@ -9,14 +9,14 @@ import subprocess
 from collections.abc import Iterator, Sequence
 
 from pgsub_feed.errors import Passing
-from pgsub_feed.interruption import Check, never
+from pgsub_feed.interruption import Check, never, undone_by
 
 from .. import version
 from ..errors import FilterFault
 from ..store.left_file import LeftFile
 from ..store.repeats_file import RepeatsFile
 from .awake import Awake, Numbers, Served
-from .filter_end import ROOMLESS, FilterEnded, Missing
+from .filter_end import ROOMLESS, FilterEnded
 from .filter_input import PIECE, ROOM, FilterInput
 from .messages import COPY_DONE, HEADERS, STATUS, STATUS_HEAD, flushed, without_received
 from .room import room_text
@@ -62,21 +62,6 @@ class Filter:
     def pid(self) -> int:
         """Its process."""
         return self.child.pid
-
-    @property
-    def waiting(self) -> int:
-        """How many bytes wait for the one that runs."""
-        return self.input.waiting
-
-    @property
-    def taken(self) -> int:
-        """How many bytes it has taken."""
-        return self.input.taken
-
-    @property
-    def missing(self) -> Missing:
-        """What it has said of changes that found no row since it began."""
-        return self.said.missing
 
     def use(self, proto: int) -> None:
         """The next one reads this version of the protocol."""
@@ -157,13 +142,10 @@ class Filter:
         What `check` raises meanwhile ends the filter: one that opens its store has nothing to lose.
         """
         self.launch()
-        try:
+        with undone_by(self.kill):
             while not self.status:
                 check()
                 self.serve(LOOK)
-        except BaseException:
-            self.kill()
-            raise
         return flushed(self.status)
 
     def opening(self) -> tuple[int, int]:

@@ -78,7 +78,7 @@ class Confirming:
     def is_stored(self) -> bool:
         """Whether the store has all commits that were passed on."""
         self.forget_confirmed(self.filter.confirmed())
-        return not self.noting.ends and not self.filter.waiting
+        return not self.noting.ends and not self.filter.input.waiting
 
     def reached(self) -> int:
         """An LSN that no commit or keepalive that was passed on is above."""
@@ -88,10 +88,10 @@ class Confirming:
 
     def note_missing(self, statuses: Sequence[bytes]) -> None:
         """Notes durably what is new of changes that found no row, up to the last status."""
-        if self.misses.is_news(self.filter.missing):
+        if self.misses.is_news(self.filter.said.missing):
             at = self.position
             at = self.noting.stored(flushed(statuses[-1]), at) if statuses else at
-            self.misses.note(self.filter.missing, at)
+            self.misses.note(self.filter.said.missing, at)
 
     def note_statuses(self, statuses: list[bytes]) -> None:
         """Notes the last status."""

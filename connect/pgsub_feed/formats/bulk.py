@@ -15,7 +15,7 @@ from collections.abc import Callable, Iterator
 
 from .. import log
 from ..errors import Passing, Unfit, UsageError
-from ..interruption import Check, never
+from ..interruption import Check, never, undone_by
 from ..known_tables import KnownTables
 from ..reader.commits import Change, Commit
 from ..reader.segments import Reader
@@ -57,13 +57,10 @@ class Command:
             child = subprocess.Popen(words, stdin=subprocess.DEVNULL, stdout=sys.stderr.fileno())
         except OSError as error:
             return f"can't be run, {error.strerror}"
-        try:
+        with undone_by(child.terminate):
             while child.poll() is None:
                 self.check()
                 time.sleep(STEP)
-        except BaseException:
-            child.terminate()
-            raise
         return f"has ended with status {child.returncode}" if child.returncode else ""
 
 

@@ -17,6 +17,7 @@ import os
 from collections.abc import Iterable, Iterator
 
 from ..errors import CHECKSUM, COMMIT_LINE, COUNTS, NOT_A_FEED, ORDER, OTHER_FEED, Damaged, Unfit
+from ..interruption import undone_by
 from ..texts import lsn_text
 from .commits import XID, Closing, Commit, Cursor, Head, Part
 from .folder import Listing, read_confirmed, segments
@@ -45,11 +46,8 @@ class Segment:
     def __init__(self, folder: str, base: int, name: str) -> None:
         self.base, self.path = base, os.path.join(folder, name)
         self.file = os.open(self.path, os.O_RDONLY | os.O_CLOEXEC)
-        try:
+        with undone_by(self.close):
             self.head = self.read_head()
-        except BaseException:
-            self.close()
-            raise
 
     def read_head(self) -> Head:
         line = self.read(0, HEAD_SIZE)

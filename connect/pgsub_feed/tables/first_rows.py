@@ -10,7 +10,7 @@ from collections.abc import Iterable, Iterator
 from .. import log
 from ..errors import FileError, Passing, Unfit
 from ..files import copy, own_name, placed, remove
-from ..interruption import Check
+from ..interruption import Check, undone_by
 from ..known_tables import KnownTables
 from ..log import Meter
 from ..ownership import real
@@ -59,12 +59,8 @@ def keeping(reading: Reading) -> Iterator[None]:
     at = at if reading.until is None else min(at, reading.until)
     was_there = os.path.exists(noted.path)
     noted.note(max((it for it in bases if it <= at), default=bases[0]), is_last=True)
-    try:
+    with undone_by(lambda: was_there or remove(noted.path)):
         yield
-    except BaseException:
-        if not was_there:
-            remove(noted.path)
-        raise
 
 
 def begins_at(reading: Reading) -> int:
