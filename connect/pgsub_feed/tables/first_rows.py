@@ -10,7 +10,7 @@ from collections.abc import Iterable, Iterator
 from .. import log
 from ..errors import FileError, Passing, Unfit
 from ..files import copy, own_name, placed, remove
-from ..interruption import Check, undone_by
+from ..interruption import Check, never, undone_by
 from ..known_tables import KnownTables
 from ..log import Meter
 from ..ownership import real
@@ -59,7 +59,7 @@ def keeping(reading: Reading) -> Iterator[None]:
     at = at if reading.until is None else min(at, reading.until)
     was_there = os.path.exists(noted.path)
     noted.note(max((it for it in bases if it <= at), default=bases[0]), is_last=True)
-    with undone_by(lambda: was_there or remove(noted.path)):
+    with undone_by(never if was_there else lambda: remove(noted.path)):
         yield
 
 
