@@ -212,9 +212,7 @@ class Looks(Case):
         """No message tells that a partition was detached, or a row filter altered."""
         with mock.patch("pgsub_connect.follow.drift_watch.AT_LEAST", 5.0), mock.patch(
             "time.monotonic"
-        ) as clock, mock.patch(
-            "pgsub_connect.server.session.Connection"
-        ) as connection, mock.patch(
+        ) as clock, mock.patch("pgsub_connect.server.session.Connection") as connection, mock.patch(
             "pgsub_connect.server.session.settle"
         ), mock.patch(
             "pgsub_connect.follow.drift_watch.read_catalog", return_value=a_catalog(T, U, lsn=200)
