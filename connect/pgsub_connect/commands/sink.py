@@ -15,18 +15,13 @@ from pgsub_feed.known_tables import KnownTables, known_beside
 from pgsub_feed.options import add_fields, file, flag, lsn, option
 from pgsub_feed.ownership import readable_by, readable_text
 from pgsub_feed.reader.folder import segments
-from pgsub_feed.sinks import (
-    connecting,
-    kafka_engine,
-    nats_engine,
-    redis_calls,
-    redis_hashes,
-    redis_streams,
-)
+from pgsub_feed.sinks import connecting, kafka_engine, nats_engine, redis_calls
 from pgsub_feed.sinks.connecting import ENVIRONMENT, FORMS, scheme
 from pgsub_feed.sinks.engine import Alone, Engine
 from pgsub_feed.sinks.following import keep
 from pgsub_feed.sinks.redis_engine import Redis, Writer
+from pgsub_feed.sinks.redis_hashes import Hashes
+from pgsub_feed.sinks.redis_streams import Streams
 
 from .arguments.following import FollowingOptions, add_following
 from .arguments.words import check_texts, each, use_mode, within
@@ -160,8 +155,8 @@ def engine_of(
         raise UsageError("--stream and --replicas are for NATS")
     calls = redis_calls.connected(options.url, check)
     if options.form == "streams":
-        return Redis(calls, redis_streams.Streams(calls), check, writer)
-    return Redis(calls, redis_hashes.Hashes(calls), check, writer, known)
+        return Redis(calls, Streams(calls), check, writer)
+    return Redis(calls, Hashes(calls), check, writer, known)
 
 
 def with_url(options: Options) -> Options:
