@@ -27,13 +27,7 @@ from pgsub_connect.follow import (
 )
 from pgsub_connect.follow.follower import Follower
 from pgsub_connect.follow.snapshots import Snapshots
-from pgsub_connect.server import (
-    addresses,
-    connection as connection_module,
-    libpq,
-    session,
-    transport,
-)
+from pgsub_connect.server import connection as connection_module, libpq, login, session, transport
 from pgsub_connect.server.session import Server
 from pgsub_connect.server.transport import Protection
 from pgsub_connect.status.progress import Progress
@@ -374,7 +368,7 @@ class Sessions(Case):
 
     def test_a_server_that_hangs_while_a_table_is_added(self) -> None:
         """Nothing of the session is read meanwhile, so it is asked on another connection."""
-        self.patch(addresses, "LEAST_LIMIT", 0.05)
+        self.patch(login, "LEAST_LIMIT", 0.05)
         follower = self.follower(silence=30.0)
         follower.confirming.last_sent, now, self.progress.server.started = (
             time.monotonic(),
@@ -393,7 +387,7 @@ class Sessions(Case):
                 refusal,
             )
             # (who answers has its time on a busy machine)
-            self.patch(addresses, "CONNECT_LIMIT", 0.05 if fails else 60.0)
+            self.patch(login, "CONNECT_LIMIT", 0.05 if fails else 60.0)
             if fails:
                 with self.assertRaisesRegex(
                     ServerError, "the server said nothing for 30 seconds"
@@ -405,7 +399,7 @@ class Sessions(Case):
                 self.assertLess(time.monotonic() - follower.session.schedule.heard, 20.0)
         for started, silent in ((1000, "pg_postmaster_start_time"), (999, "")):
             # (a server that was started since isn't the one that is waited for)
-            self.patch(addresses, "CONNECT_LIMIT", 60.0)
+            self.patch(login, "CONNECT_LIMIT", 60.0)
             self.patch(session, "QUICK", 0.05 if silent else 60.0)
             (
                 self.server.refusal,
