@@ -1459,15 +1459,15 @@ BUGS = (
     Bug(
         "a socket gets the mode of what a link leads to",
         "pgsub_connect/store/socket_file.py",
-        "file = os.open(name, os.O_PATH | os.O_NOFOLLOW, dir_fd=folder)",
-        "file = os.open(name, os.O_PATH, dir_fd=folder)",
+        "opened(name, os.O_PATH | os.O_NOFOLLOW, folder)",
+        "opened(name, os.O_PATH, folder)",
         ("test_owning",),
     ),
     Bug(
         "a program asks a socket that a link leads to",
         "pgsub_connect/store/socket_file.py",
-        "file = os.open(path, os.O_PATH | os.O_NOFOLLOW)",
-        "file = os.open(path, os.O_PATH)",
+        "opened(path, os.O_PATH | os.O_NOFOLLOW)",
+        "opened(path, os.O_PATH)",
         ("test_request_socket",),
     ),
     Bug(
@@ -1858,8 +1858,8 @@ BUGS = (
     Bug(
         "first rows of a copy that was cut are kept",
         "pgsub_connect/store/base_files.py",
-        "        shutil.rmtree(new, ignore_errors=True)\n",
-        "        os.rename(new, folder)\n",
+        "lambda: shutil.rmtree(new, ignore_errors=True)",
+        "lambda: os.rename(new, folder)",
         ("test_base",),
     ),
     Bug(
