@@ -14,9 +14,8 @@ def check_program(program: str) -> None:
     path = os.path.realpath(shutil.which(program) or program)
     other = own.read_build(os.path.dirname(path))
     if other != own.OWN:
-        raise Passing(
-            f"{program} is of {text_of(other)}, and this connector of {text_of(own.OWN)}: install both from one package, and start again"
-        )
+        text = f"{program} is of {text_of(other)}, and this connector of {text_of(own.OWN)}: install both from one package, and start again"
+        raise Passing(text)
 
 
 def text_of(build: dict[str, str]) -> str:

@@ -225,9 +225,8 @@ class Adder:
         try:
             point, snapshot = turn.slot()
             if point <= (reached := max(self.confirming.reached(), self.hold.gate or 0)):
-                raise Passing(
-                    f"its slot is at {lsn_text(point)}, and the stream at {lsn_text(reached)}: is it of a standby behind?"
-                )
+                text = f"its slot is at {lsn_text(point)}, and the stream at {lsn_text(reached)}: is it of a standby behind?"
+                raise Passing(text)
             turn.see(point, snapshot)
         except (ServerError, Passing, Unfit, NoSlot) as error:
             self.stop_holding(error)

@@ -151,9 +151,8 @@ class RowsSender:
         if rows.cost > self.limits.max_buffered:
             raise TooLarge(too_large(rows.table, rows.cost, self.limits.max_buffered))
         if rows.longest > self.limits.max_frame:
-            raise TooLarge(
-                f"{rows.table.text()} has a row of {rows.longest} bytes: give the follower a --max-frame above that"
-            )
+            text = f"{rows.table.text()} has a row of {rows.longest} bytes: give the follower a --max-frame above that"
+            raise TooLarge(text)
         if self.progress.server.is_waited_for and time.monotonic() - began > LONGEST_WAIT:
             raise TooLarge(WAITED)
 

@@ -130,9 +130,8 @@ def wait(store: str, tables: dict[int, str], check: Check) -> int:
                 continue
             del left[oid]
         if left and not is_followed(store):
-            raise Passing(
-                f"{store} isn't followed any more: the next start adds {names_of(list(left.values()))}"
-            )
+            text = f"{store} isn't followed any more: the next start adds {names_of(list(left.values()))}"
+            raise Passing(text)
         check()
         time.sleep(WAIT)
     log.info(f"{counted(len(tables), 'table')}: {'done' if status == DONE else 'not all are done'}")

@@ -146,9 +146,8 @@ class Dropper:
         oid, noted = database_oid(connection), noted_database(self.remembered)
         server = Server(system or "", 0, 0, database or "", False, database_oid=oid)
         if system != known.system or not is_same_database(known.database, noted, server):
-            raise Unfit(
-                f"the store follows the database {known.database} of the server {known.system}, and this is {database} of {system}"
-            )
+            text = f"the store follows the database {known.database} of the server {known.system}, and this is {database} of {system}"
+            raise Unfit(text)
 
     @understood("a slot")
     def drop_slot(self, connection: Connection) -> bool:

@@ -315,16 +315,14 @@ def begin(options: Options, parts: Parts) -> None:
     subscription, tolerance, checkpoint, _, remembered = parts.common
     is_interrupted = checkpoint.known.phase in INTERRUPTED
     if options.no_copy and os.path.exists(options.store):
-        raise Unfit(
-            f"{options.store} lacks rows, since its copy was interrupted: leave --no-copy out to go on with it, or `pgsub-connect drop` it"
-        )
+        text = f"{options.store} lacks rows, since its copy was interrupted: leave --no-copy out to go on with it, or `pgsub-connect drop` it"
+        raise Unfit(text)
     if (options.create or is_interrupted) and not options.no_copy:
         with parts.child.noting_none():
             return parts.copier.run()
     if checkpoint.known.phase == FOLLOWING and not tolerance.accepts("gap"):
-        raise Unfit(
-            f"{options.store} is gone, and the slot {checkpoint.known.slot} went on: remove {checkpoint.path} to begin anew"
-        )
+        text = f"{options.store} is gone, and the slot {checkpoint.known.slot} went on: remove {checkpoint.path} to begin anew"
+        raise Unfit(text)
     if not options.create and not options.no_copy:
         raise no_store(options)
     if options.create:

@@ -168,9 +168,8 @@ def with_url(options: Options) -> Options:
         if readable and "@" in found:
             log.warning(readable_text(options.url_file or "", readable))
         if not scheme(found):
-            raise UsageError(
-                f"{options.url_file}: its first line is no URL as redis://.., nats://.. or kafka://.."
-            )
+            text = f"{options.url_file}: its first line is no URL as redis://.., nats://.. or kafka://.."
+            raise UsageError(text)
     elif not options.url:
         options = dataclasses.replace(options, url=os.environ.get(ENVIRONMENT, ""))
         if not scheme(options.url):

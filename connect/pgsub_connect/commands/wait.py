@@ -105,9 +105,8 @@ def run(options: Options, check: Check) -> int:
     try:
         if not waited(path, options.feed, lsn, until, check):
             at = lsn_text(read_position(path)[0])
-            raise Passing(
-                f"{path} is at {at}, and {lsn_text(lsn)} wasn't reached in {options.within:g} seconds"
-            )
+            text = f"{path} is at {at}, and {lsn_text(lsn)} wasn't reached in {options.within:g} seconds"
+            raise Passing(text)
     except Stopped:
         raise Passing(f"ended before {path} has reached {lsn_text(lsn)}") from None
     except sqlite3.Error as error:
@@ -123,9 +122,8 @@ def check_comes(path: str, feed: str | None, began: float, until: float) -> None
     if feed and (store := store_at(os.path.abspath(feed))):
         checkpoints.append(store + ".connector")
     if not any(may_make(it, at) for it in checkpoints) and now > began + STARTING:
-        raise FileError(
-            f"there is no file {path}, and no follower of a store in its folder makes it: --feed names the feed of one elsewhere"
-        )
+        text = f"there is no file {path}, and no follower of a store in its folder makes it: --feed names the feed of one elsewhere"
+        raise FileError(text)
     if now > until:
         raise Passing(f"{path} isn't there yet: `pgsub-connect status` tells why")
 

@@ -47,9 +47,8 @@ class CopyFiles:
     def check_own(self, position: int, point: int) -> None:
         """Rejects a file at a position that a copy up to this point doesn't leave."""
         if MOST_PARTS < position != point:
-            raise Unfit(
-                f"{self.store} is at {lsn_text(position)}, and no part of the copy that was interrupted here: move it away to go on"
-            )
+            text = f"{self.store} is at {lsn_text(position)}, and no part of the copy that was interrupted here: move it away to go on"
+            raise Unfit(text)
 
     def clear(self, point: int) -> None:
         """Removes what an earlier run left, of a copy up to this point, if any."""

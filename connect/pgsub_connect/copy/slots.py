@@ -110,9 +110,8 @@ def has_slot(connection: Connection, subscription: Subscription, failover: bool)
         return False
     if missing := [it for it in subscription.publications if not has_publication(connection, it)]:
         # (its log is read by the catalog of its time, which hasn't the publication)
-        raise Unfit(
-            f"the slot {subscription.slot} is older than the publication {missing[0]}, which isn't there: drop the slot"
-        )
+        text = f"the slot {subscription.slot} is older than the publication {missing[0]}, which isn't there: drop the slot"
+        raise Unfit(text)
     return True
 
 

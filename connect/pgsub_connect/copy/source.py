@@ -247,9 +247,8 @@ class Source:
                 if leaves:
                     found = ((it.oid, locked(self.plain, it)) for it in self.tables)
                     return self.leave({oid: why for oid, why in found if why}, leaves)
-                raise Passing(
-                    f"published tables are locked by others for {self.patience:.0f} seconds: nothing was compared"
-                )
+                text = f"published tables are locked by others for {self.patience:.0f} seconds: nothing was compared"
+                raise Passing(text)
             self.check()
             time.sleep(LOOK)
 

@@ -222,9 +222,8 @@ class Feeding:
                 " the feed would lose what it has above"
             )
         if told:
-            raise Unfit(
-                f"the store is at {lsn_text(position)}, and {told}. Put the right one back, or say --accept gap, or --without-feed"
-            )
+            text = f"the store is at {lsn_text(position)}, and {told}. Put the right one back, or say --accept gap, or --without-feed"
+            raise Unfit(text)
 
     def words(self, check: Check) -> list[str]:
         """What the filter is told."""

@@ -152,9 +152,8 @@ class Fitting:
         with self.subscription.connected("check", check) as connection:
             missing = [it for it in names if not has_publication(connection, it)]
         if missing:
-            raise refusal(
-                f"there is no publication {', '.join(missing)}: make it with its tables, or name another one by --publication"
-            )
+            text = f"there is no publication {', '.join(missing)}: make it with its tables, or name another one by --publication"
+            raise refusal(text)
 
     def note_server(self, server: Server, confirmed: int, position: int) -> None:
         """Notes durably whose changes the store has, and what its filter confirms."""

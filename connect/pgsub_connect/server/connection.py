@@ -126,16 +126,6 @@ class Connection:
             self.wait(until)
         return self.raw.get_result()
 
-    def last_result(self, until: float = float("inf")) -> pq.abc.PGresult | None:
-        """The last result of the command that runs, or the one with which it begins to copy."""
-        last = None
-        while result := self.next_result(until):
-            self.look(until)
-            last = result
-            if last.status in COPIES:
-                break
-        return last
-
     def execute(
         self, command: str, wanted: tuple[pq.ExecStatus, ...], limit: float = float("inf")
     ) -> Rows:
@@ -240,9 +230,11 @@ class Connection:
                 self.wait()
         if last != ENDED:
             raise ServerError(self.error())
-        result = self.last_result()
-        if result is not None and result.error_message:
-            raise self.error_of(result)
+        last_result = None
+        while result := self.next_result():
+            last_result = result
+        if last_result is not None and last_result.error_message:
+            raise self.error_of(last_result)
         if lines:
             yield lines
 

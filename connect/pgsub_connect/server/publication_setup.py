@@ -243,15 +243,13 @@ class Maker:
             self.publications.insert(self.publications.index(name) + 1, second)
             there |= content_of(connection, second)
         if wanted.all_tables and "all tables" not in there:
-            raise refusal(
-                f"the publication {name} is there, and isn't one for all tables: drop it, or leave --all-tables out"
-            )
+            text = f"the publication {name} is there, and isn't one for all tables: drop it, or leave --all-tables out"
+            raise refusal(text)
         if not wanted.tables:
             return
         if self.is_standby:
-            raise refusal(
-                f"the server is a standby, where --table can't be compared with the publication {name}: leave --table out"
-            )
+            text = f"the server is a standby, where --table can't be compared with the publication {name}: leave --table out"
+            raise refusal(text)
         asked, keyless = self.content_asked(name)
         if wanted.keyless == "leave-out":
             asked = {it for it in asked if it not in keyless}

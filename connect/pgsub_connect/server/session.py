@@ -159,9 +159,8 @@ def slot_position(connection: Connection, slot: str) -> int | None:
     if plugin != "pgoutput" or is_ours != "t":
         raise other_slot(connection, slot)
     if is_two_phase == "t":
-        raise Unfit(
-            f"the slot {slot} is one for two-phase commits, which aren't followed: make it without two_phase"
-        )
+        text = f"the slot {slot} is one for two-phase commits, which aren't followed: make it without two_phase"
+        raise Unfit(text)
     if position is None:
         raise ServerError(f"the slot {slot} is still being made", IN_USE)
     return int(position)

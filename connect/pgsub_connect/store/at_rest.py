@@ -78,9 +78,8 @@ def unopened(store: str, beside: str, check: Check) -> Iterator[tuple[str, bool]
 
 def check_there(store: str) -> None:
     if is_being_copied(store):
-        raise Passing(
-            f"there is no store {store} yet: its first rows are being copied, or their copy was interrupted"
-        )
+        text = f"there is no store {store} yet: its first rows are being copied, or their copy was interrupted"
+        raise Passing(text)
     if not os.path.exists(store):
         raise FileError(f"there is no store {store}")
     if not os.path.isfile(store):
@@ -188,9 +187,8 @@ def is_copied(asking: Asking, into: str) -> bool:
 def check_copied(into: str) -> None:
     """Rejects what isn't the follower's copy, but a link to some other file."""
     if os.path.islink(into):
-        raise FileError(
-            f"{into}: a link in the place of a copy: the store's folder has to be its account's alone"
-        )
+        text = f"{into}: a link in the place of a copy: the store's folder has to be its account's alone"
+        raise FileError(text)
     if not os.path.exists(into):
         raise Passing(f"{into}: the copy isn't there")
 

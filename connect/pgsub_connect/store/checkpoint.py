@@ -141,9 +141,8 @@ class Checkpoint:
         whole, whatever becomes of this."""
         line, at = line_of(self.number + 1, known, counted), 1 - self.durable
         if len(line) >= SIZE:
-            raise FileError(
-                f"{self.path}: {len(line)} bytes are too long for a checkpoint: `--accept` what was found, or copy anew"
-            )
+            text = f"{self.path}: {len(line)} bytes are too long for a checkpoint: `--accept` what was found, or copy anew"
+            raise FileError(text)
         try:
             os.pwrite(self.file, padded(line), at * SIZE)
             if durably:
@@ -291,20 +290,17 @@ def check_gap(known: Known, position: int, slot_at: int) -> None:
     """
     cure = "Copy anew, or take it as it is by --accept gap, and `pgsub-connect verify --repair`"
     if known.phase == NEW and position > 0:
-        raise Unfit(
-            f"nothing is known of where the store at {lsn_text(position)} is from: its checkpoint isn't there. {cure}"
-        )
+        text = f"nothing is known of where the store at {lsn_text(position)} is from: its checkpoint isn't there. {cure}"
+        raise Unfit(text)
     if slot_at <= position:
         return
     gap = f"the store is at {lsn_text(position)} and the slot at {lsn_text(slot_at)}: changes between may be missing"
     if position < known.position:
-        raise Unfit(
-            f"{gap}; the store was at {lsn_text(known.position)} before, so this is an older one. {cure}"
-        )
+        text = f"{gap}; the store was at {lsn_text(known.position)} before, so this is an older one. {cure}"
+        raise Unfit(text)
     if slot_at > known.confirmed:
-        raise Unfit(
-            f"{gap}; up to {lsn_text(known.confirmed)} was confirmed from here, so somebody else moved the slot, or made it anew. {cure}"
-        )
+        text = f"{gap}; up to {lsn_text(known.confirmed)} was confirmed from here, so somebody else moved the slot, or made it anew. {cure}"
+        raise Unfit(text)
 
 
 def read_known(path: str) -> Known:

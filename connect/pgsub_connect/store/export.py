@@ -247,9 +247,8 @@ def export(path: str, new: str, settings: ExportSettings, check: Check) -> tuple
             held = store.execute("SELECT oid, body, copies FROM held NOT INDEXED")
             return made.run(remembered, read_position(store), read_relations(store), held)
     except Malformed:
-        raise FileError(
-            f"{settings.store}: a malformed row or definition: the disk, or another program, has spoiled the file"
-        ) from None
+        text = f"{settings.store}: a malformed row or definition: the disk, or another program, has spoiled the file"
+        raise FileError(text) from None
     except sqlite3.Error as error:
         # (the end may have been asked for)
         check()

@@ -174,9 +174,8 @@ def among(oids: Collection[int]) -> Choose:
 def settled(tables: list[Table], known: Known, partial: Collection[int] = ()) -> list[Table]:
     """Tables none of which is being added: of such a one the copy has no state."""
     if going := [it.text() for it in tables if it.oid in known.adding or it.oid in partial]:
-        raise Passing(
-            f"being added just now, or refused: {names_of(going)}: nothing was compared. Wait for it, or choose others by --table"
-        )
+        text = f"being added just now, or refused: {names_of(going)}: nothing was compared. Wait for it, or choose others by --table"
+        raise Passing(text)
     return tables
 
 

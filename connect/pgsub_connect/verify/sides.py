@@ -68,9 +68,8 @@ class Copy:
         self.base = opened(path)
         self.position = read_position(self.base)
         if self.position > point:
-            raise Unfit(
-                f"the copy is at {lsn_text(self.position)}, and this server's slot at {lsn_text(point)}: is it a standby behind?"
-            )
+            text = f"the copy is at {lsn_text(self.position)}, and this server's slot at {lsn_text(point)}: is it a standby behind?"
+            raise Unfit(text)
         self.relations = read_relations(self.base)
         counts = self.base.execute("SELECT oid, count(*) FROM held GROUP BY oid")
         self.counts: dict[int, int] = dict(counts)

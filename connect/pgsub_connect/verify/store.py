@@ -84,9 +84,8 @@ class Request:
         # (what was passed on is stored in its time)
         answer = self.asking.answer(PATIENCE, lambda: True)
         if answer is None:
-            raise Passing(
-                f"{self.store} isn't followed any more: compare again, to see whether it is repaired"
-            )
+            text = f"{self.store} isn't followed any more: compare again, to see whether it is repaired"
+            raise Passing(text)
         if "repaired" not in answer:
             lasts, delays = answer.get("lasts"), answer.get("delays")
             kind = Unrepaired if lasts else Delayed if delays else Passing

@@ -229,9 +229,8 @@ def compare_with_server(
         wait(comparison.path, trail, point, check)
         view = stack.enter_context(contextlib.closing(View(comparison.path, check)))
         if view.at < trail.last:
-            raise Passing(
-                f"{comparison.path} was taken back to {lsn_text(view.at)} meanwhile: nothing was compared"
-            )
+            text = f"{comparison.path} was taken back to {lsn_text(view.at)} meanwhile: nothing was compared"
+            raise Passing(text)
         view.go_back(trail)
         # (of one that is added since then the feed lacks changes up to here, or truncates it)
         followed(comparison, tables)
@@ -311,9 +310,8 @@ def trail_to(comparison: TablesComparison, view: View, point: int) -> Trail:
     """The way back of the file that is ahead."""
     folder = comparison.feed or view.folder
     if not os.path.isdir(folder):
-        raise Unfit(
-            f"{view.path} is at {lsn_text(view.at)}, and its feed {folder} isn't here to take it back to {lsn_text(point)}: name one by --feed"
-        )
+        text = f"{view.path} is at {lsn_text(view.at)}, and its feed {folder} isn't here to take it back to {lsn_text(point)}: name one by --feed"
+        raise Unfit(text)
     trail = Trail(folder, point)
     if not trail.has(point):
         trail.close()

@@ -47,9 +47,8 @@ class Command:
         table = f"{relation.namespace or 'pg_catalog'}.{relation.name}"
         sys.stdout.buffer.flush()
         if why := self.failure([*self.words, table, commit.text(), index]):
-            raise Passing(
-                f"{commit.text()} truncates {relation.text()}, and {self.words[0]} {why}: go on with --from {lsn_text(commit.prev)}"
-            )
+            text = f"{commit.text()} truncates {relation.text()}, and {self.words[0]} {why}: go on with --from {lsn_text(commit.prev)}"
+            raise Passing(text)
 
     def failure(self, words: list[str]) -> str:
         """Why it failed, "" where it didn't. (What it prints isn't for who reads the lines.)"""
@@ -179,9 +178,8 @@ class Bulk(Objects):
             if cells is not None:
                 row_id = row_text(key, cells)
                 if len(row_id.encode()) > MOST_ID:
-                    raise Unfit(
-                        f"{commit.text()}: {relation.text()} has a key of more than {MOST_ID} bytes, which no document's id has"
-                    )
+                    text = f"{commit.text()}: {relation.text()} has a key of more than {MOST_ID} bytes, which no document's id has"
+                    raise Unfit(text)
                 # (the last line of a document is where its last change is)
                 other = left.pop((index, row_id), None)
                 left[index, row_id] = row

@@ -66,9 +66,8 @@ class Serving:
         for line in self.pipes.lines():
             at = lsn_of(line.strip())
             if not (self.at or 0) <= at <= self.sent:
-                raise UsageError(
-                    f"the reader has {lsn_text(at)}, between {lsn_text(self.at or 0)} and {lsn_text(self.sent)} where it can be"
-                )
+                text = f"the reader has {lsn_text(at)}, between {lsn_text(self.at or 0)} and {lsn_text(self.sent)} where it can be"
+                raise UsageError(text)
             self.at = at
             if self.noted:
                 self.noted.note(at)

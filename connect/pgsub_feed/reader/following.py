@@ -149,9 +149,8 @@ class Following:
         until, at = self.reading.until, self.keeper.at
         if until is None or above or at >= until or self.is_confirmed:
             return
-        raise Passing(
-            f"{self.reading.feed}: the feed has reached {lsn_text(at)}, and {lsn_text(until)} not yet"
-        )
+        text = f"{self.reading.feed}: the feed has reached {lsn_text(at)}, and {lsn_text(until)} not yet"
+        raise Passing(text)
 
     def take(self, commit: Commit) -> None:
         """Takes a commit. Where its lines can't be read nothing is kept of what isn't settled."""

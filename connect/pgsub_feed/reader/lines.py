@@ -192,9 +192,8 @@ def summed(
         crc = zlib.crc32(piece, crc)
         yield piece
     if crc != commit.crc:
-        raise fault(
-            f"the commit that ends at {commit.text()} isn't as it was written: its bytes have the checksum {crc}, and its line says {commit.crc}"
-        )
+        text = f"the commit that ends at {commit.text()} isn't as it was written: its bytes have the checksum {crc}, and its line says {commit.crc}"
+        raise fault(text)
 
 
 def whole_lines(pieces: Iterable[bytes], fault: Callable[[], Damaged]) -> Iterator[list[bytes]]:

@@ -259,9 +259,8 @@ class Reader:
         at = there[0][0] if self.at is None else self.at
         before = [it for it in there if it[0] <= at]
         if not before:
-            raise Unfit(
-                f"{self.folder}: the feed begins at {lsn_text(there[0][0])}, and the commits after {lsn_text(at)} aren't in it"
-            )
+            text = f"{self.folder}: the feed begins at {lsn_text(there[0][0])}, and the commits after {lsn_text(at)} aren't in it"
+            raise Unfit(text)
         self.at = at
         return self.open(*before[-1])
 

@@ -61,9 +61,8 @@ class Trail:
         except Unfit as wrong:
             there = segments(self.folder)
             if there and there[0][0] > self.last:
-                raise Gone(
-                    f"{self.folder}: commits that are needed were removed meanwhile: compare again, or keep them by --feed-max-age"
-                ) from None
+                text = f"{self.folder}: commits that are needed were removed meanwhile: compare again, or keep them by --feed-max-age"
+                raise Gone(text) from None
             raise wrong
 
     def commits(self, until: int) -> Iterator[Commit]:

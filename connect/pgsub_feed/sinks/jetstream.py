@@ -78,9 +78,8 @@ class JetStream:
 
     def parsed(self, message: Message) -> dict[str, Any]:
         if message.status == "503":
-            raise EngineError(
-                f"{self.where}: nothing answers: the server has no JetStream, or the stream not this subject"
-            )
+            text = f"{self.where}: nothing answers: the server has no JetStream, or the stream not this subject"
+            raise EngineError(text)
         return self.wire.parsed(message.data)
 
     def need(self, what: str, body: dict[str, Any], passes: int = 0) -> dict[str, Any] | None:
@@ -101,9 +100,8 @@ class JetStream:
             yield
         except Unreadable as error:
             told = shortened(json.dumps(found))
-            raise EngineError(
-                f"{self.where}: it said what isn't JetStream's ({error}): is it of another version? {told}"
-            ) from None
+            text = f"{self.where}: it said what isn't JetStream's ({error}): is it of another version? {told}"
+            raise EngineError(text) from None
 
     def wrong(self, error: dict[str, Any]) -> Exception:
         code, kind = error.get("code"), error.get("err_code")
@@ -207,9 +205,8 @@ class JetStream:
         is_ours = message.subject == f"{self.inbox}.{first}" and said.get("seq") == first
         if said.get("duplicate") or not is_ours:
             told = shortened(str(said))
-            raise Passing(
-                f"{self.where}: something else publishes to it: it has {told} in place of message {first}"
-            )
+            text = f"{self.where}: something else publishes to it: it has {told} in place of message {first}"
+            raise Passing(text)
 
 
 def bytes_of(value: Any) -> bytes:

@@ -183,9 +183,8 @@ class Cluster:
             if found.partitions and not found.error:
                 return len(found.partitions)
             if is_late:
-                raise EngineError(
-                    f"{self.where}: there is no topic {topic}, and the brokers don't make it: make it"
-                )
+                text = f"{self.where}: there is no topic {topic}, and the brokers don't make it: make it"
+                raise EngineError(text)
             time.sleep(TICK)
 
     def make_compacted(self, topic: str) -> None:
@@ -261,9 +260,8 @@ class Cluster:
                 left, since = now, time.monotonic()
             elif time.monotonic() - since > LONGEST:
                 about = f" ({self.told})" if self.told else ""
-                raise Passing(
-                    f"{self.where}: it doesn't say in {LONGEST:.0f} seconds that it has a message{about}"
-                )
+                text = f"{self.where}: it doesn't say in {LONGEST:.0f} seconds that it has a message{about}"
+                raise Passing(text)
         self.look()
 
     def end_by(self, check: Check) -> None:

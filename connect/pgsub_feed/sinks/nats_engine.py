@@ -60,18 +60,16 @@ class Nats(Engine):
         self.about = wanted.about()
         info = self.stream.begin()
         if f"{self.name}.>" not in info.subjects:
-            raise Unfit(
-                f"{self.stream.where}: it is there, and its subjects aren't {self.name}.>: take another one"
-            )
+            text = f"{self.stream.where}: it is there, and its subjects aren't {self.name}.>: take another one"
+            raise Unfit(text)
         if not self.stream.sequence:
             return False
         last = self.stream.message(seq=self.stream.sequence) if info.messages else None
         read = read_id(last.id) if last else None
         if last is None or read is None:
             found = f", {last.sequence}, isn't of a sink" if last else " is gone"
-            raise Unfit(
-                f"{self.stream.where}: messages are there, and its last one{found}: take another one, or remove it to begin anew"
-            )
+            text = f"{self.stream.where}: messages are there, and its last one{found}: take another one, or remove it to begin anew"
+            raise Unfit(text)
         commit = (
             last if read.n is None else self.stream.message(last_by_subj=f"{self.name}.{COMMIT}")
         )
@@ -92,14 +90,12 @@ class Nats(Engine):
         try:
             at, about, rows = read_last(commit.data if commit else b"")
         except ValueError:
-            raise Unfit(
-                f"{self.stream.where}: the last message of the commit before is gone: remove it to begin anew"
-            ) from None
+            text = f"{self.stream.where}: the last message of the commit before is gone: remove it to begin anew"
+            raise Unfit(text) from None
         if about != self.about:
             told = shortened(str(about))
-            raise Unfit(
-                f"{self.stream.where}: what is kept there is of {told}, and this would be of {self.about}: take another stream"
-            )
+            text = f"{self.stream.where}: what is kept there is of {told}, and this would be of {self.about}: take another stream"
+            raise Unfit(text)
         self.at = self.end = at
         self.trail.note(at, time.monotonic())
         self.part = None if n is None else (lsn, n)

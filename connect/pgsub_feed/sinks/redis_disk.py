@@ -40,9 +40,8 @@ class Disk:
             )
         if names := unsynced(syncs):
             better = " and ".join(f"{it.decode()} {UNSYNCED[it][1]}" for it in names)
-            raise EngineError(
-                f"{self.calls.where}: {told(names)}, so it is never known what its disk has: say {better}, or no --reader"
-            )
+            text = f"{self.calls.where}: {told(names)}, so it is never known what its disk has: say {better}, or no --reader"
+            raise EngineError(text)
 
     def note(self, at: int) -> None:
         self.trail.note(at, time.time())

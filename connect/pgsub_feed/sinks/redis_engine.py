@@ -152,9 +152,8 @@ class Redis(Engine):
             raise Passing(f"{self.calls.where}: {LSN} was removed just now")
         self.check_about(about)
         if tables is None:
-            raise Unfit(
-                f"{self.calls.where}: something else has removed {TABLES}: remove {LSN} and the rows to begin anew"
-            )
+            text = f"{self.calls.where}: something else has removed {TABLES}: remove {LSN} and the rows to begin anew"
+            raise Unfit(text)
         with understood(self.calls.where):
             self.relations.load(tables.decode())
             at = parse_lsn(self.lsn.decode())
@@ -187,9 +186,8 @@ class Redis(Engine):
         if not is_same:
             was = shortened((about or b"nothing").decode(errors="replace"))
             now = json.dumps(self.about)
-            raise Unfit(
-                f"{self.calls.where}: what is kept there is of {was}, and this would be of {now}: take another database"
-            )
+            text = f"{self.calls.where}: what is kept there is of {was}, and this would be of {now}: take another database"
+            raise Unfit(text)
 
     def reach(self, at: int) -> None:
         self.at = self.end = at
@@ -227,23 +225,20 @@ class Redis(Engine):
 
     def check_owner(self, found: bytes | None) -> None:
         if found is None:
-            raise Unfit(
-                f"{self.calls.where}: something else has removed keys of the sink, {SINK} among them"
-            )
+            text = f"{self.calls.where}: something else has removed keys of the sink, {SINK} among them"
+            raise Unfit(text)
         if found != self.writer.text:
             told = shortened(found.decode(errors="replace"))
-            raise Unfit(
-                f"{self.calls.where}: another sink has begun to write there, {told}, so this one ends"
-            )
+            text = f"{self.calls.where}: another sink has begun to write there, {told}, so this one ends"
+            raise Unfit(text)
 
     def check_lsn(self, found: bytes | None, expected: bytes | None) -> None:
         if found != expected:
             told, should = (
                 shortened((it or b"none").decode(errors="replace")) for it in (found, expected)
             )
-            raise Unfit(
-                f"{self.calls.where}: {LSN} is {told} in place of {should}, so something else has written it: this sink ends"
-            )
+            text = f"{self.calls.where}: {LSN} is {told} in place of {should}, so something else has written it: this sink ends"
+            raise Unfit(text)
 
     def check_done(self, done: list[Any], lsn: bytes | None, after: bytes | None) -> None:
         with understood(self.calls.where):
@@ -251,9 +246,8 @@ class Redis(Engine):
         if wrong:
             # (the others had their effect, so nothing may go on from there)
             asked(self.calls, [("DEL", LSN)])
-            raise EngineError(
-                f"{self.calls.where}: keys of the sink were altered by something else, begin anew: {wrong[0]}"
-            )
+            text = f"{self.calls.where}: keys of the sink were altered by something else, begin anew: {wrong[0]}"
+            raise EngineError(text)
         self.check_lsn(lsn, after)
         self.lsn = after
 

@@ -62,9 +62,8 @@ class Streams(Form):
             if "no such key" in str(said):
                 return NONE
             if str(said).startswith("WRONGTYPE"):
-                raise Unfit(
-                    f"{self.calls.where}: the key {stream} is there already, and isn't a stream: take another database"
-                )
+                text = f"{self.calls.where}: the key {stream} is there already, and isn't a stream: take another database"
+                raise Unfit(text)
             raise raised(said, self.calls.where)
         with understood(self.calls.where):
             if not isinstance(said, list):

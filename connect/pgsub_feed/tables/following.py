@@ -65,9 +65,8 @@ def look(reader: Reader, rows: Rows, at: int, check: Check) -> Way:
     """Looks for the way from a file back to an LSN."""
     first = segments(reader.folder)[:1]
     if not first or first[0][0] > at:
-        raise Unfit(
-            f"{reader.folder}: the feed doesn't have the commits after {lsn_text(at)}: begin from an export before it"
-        )
+        text = f"{reader.folder}: the feed doesn't have the commits after {lsn_text(at)}: begin from an export before it"
+        raise Unfit(text)
     way, end = Way(first[0][0], first[0][0] == 0), 0
     for commit in Poll(reader, False, check).commits():
         check()
@@ -130,9 +129,8 @@ def turned(rows: Rows, commit: Commit, parts: list[Part]) -> Iterator[Part]:
 def turned_change(rows: Rows, commit: Commit, it: Change) -> Change | None:
     if it.op == "t":
         if rows.is_chosen(it.relation):
-            raise Lost(
-                f"{commit.text()} truncates {it.relation.text()}, and the feed doesn't have the rows that were in it"
-            )
+            text = f"{commit.text()} truncates {it.relation.text()}, and the feed doesn't have the rows that were in it"
+            raise Lost(text)
         return None
     op = {"c": "d", "d": "c", "u": "u"}[it.op]
     return Change(op, it.relation, it.n, it.after, it.before)
@@ -154,9 +152,8 @@ def check_shape(rows: Rows, relation: Relation) -> None:
         )
         query = f"SELECT EXISTS (SELECT 1 FROM {identifier(kept.name)})"
         if is_lost and rows.db.execute(query).fetchone()[0]:
-            raise Lost(
-                f"{relation.text()}: the column {column.name} was dropped or altered since, and its values are lost"
-            )
+            text = f"{relation.text()}: the column {column.name} was dropped or altered since, and its values are lost"
+            raise Lost(text)
 
 
 def settle(rows: Rows, way: Way) -> None:

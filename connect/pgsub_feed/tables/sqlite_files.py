@@ -65,9 +65,8 @@ def check_sqlite() -> None:
     """Rejects an SQLite that is too old."""
     if sqlite3.sqlite_version_info < OLDEST:
         wanted = ".".join(map(str, OLDEST[:2]))
-        raise FileError(
-            f"SQLite {wanted} or later is needed for STRICT tables, and this is {sqlite3.sqlite_version}"
-        )
+        text = f"SQLite {wanted} or later is needed for STRICT tables, and this is {sqlite3.sqlite_version}"
+        raise FileError(text)
 
 
 def failed(error: sqlite3.Error, told: str) -> FileError | Passing:

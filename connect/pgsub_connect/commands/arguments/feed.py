@@ -100,9 +100,8 @@ def settled_feed(options: Settled, store: str) -> Settled:
     was = "" if leaves else read_known(store + ".connector").tables
     tables, feed = options.tables or was, options.feed
     if was and os.path.lexists(was) and os.path.realpath(was) != os.path.realpath(tables):
-        raise Unfit(
-            f"the tables of {store} are in {was}: leave --tables out. To have them in {tables}, move or remove that file, or say --without-tables once"
-        )
+        text = f"the tables of {store} are in {was}: leave --tables out. To have them in {tables}, move or remove that file, or say --without-tables once"
+        raise Unfit(text)
     is_base_wanted = bool(feed)
     if not feed and not options.without_feed and has_begun(store):
         known = Remembered(store)
