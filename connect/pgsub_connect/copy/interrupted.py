@@ -103,11 +103,8 @@ class Interrupted:
         whole = self.whole()
         missing, large = self.without(whole)
         if not whole or large:
-            log.info(
-                f"{large[0]} is too large to be added by itself: the copy begins anew"
-                if large
-                else "the copy begins anew"
-            )
+            text = "the copy begins anew"
+            log.info(f"{large[0]} is too large to be added by itself: {text}" if large else text)
             return None
         log.info(
             f"an interrupted copy goes on: {counted(len(whole), 'table')} stored, {counted(len(missing), 'table')} to be added one by one"

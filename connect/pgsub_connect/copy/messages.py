@@ -35,22 +35,11 @@ def commit(lsn: int, end: int, clock: int = 0) -> bytes:
 
 def relation(table: Table) -> bytes:
     namespace = "" if table.namespace == "pg_catalog" else table.namespace
-    parts = [
-        b"R",
-        struct.pack(">I", table.oid),
-        namespace.encode(),
-        b"\0",
-        table.name.encode(),
-        b"\0",
-    ]
-    parts += [table.identity.encode(), struct.pack(">H", len(table.columns))]
-    for column in table.columns:
-        parts += [
-            bytes([column.key]),
-            column.name.encode(),
-            b"\0",
-            struct.pack(">Ii", column.type_oid, column.modifier),
-        ]
+    named = f"{namespace}\0{table.name}\0{table.identity}".encode()
+    parts = [struct.pack(">cI", b"R", table.oid), named, struct.pack(">H", len(table.columns))]
+    for it in table.columns:
+        parts += [bytes([it.key]), f"{it.name}\0".encode()]
+        parts.append(struct.pack(">Ii", it.type_oid, it.modifier))
     return b"".join(parts)
 
 

@@ -13,7 +13,7 @@ from typing import Generic, TypeVar
 
 from .. import errors, log
 from ..column_types import KnownTypes
-from ..interruption import Check
+from ..interruption import Check, rest
 from ..reader.base import sections_of
 from ..reader.commits import Closing, Commit, Head, Part
 from ..reader.lines import (
@@ -161,11 +161,10 @@ class Remote(Generic[Read]):
         try:
             head = read_head(line)
         except ValueError as error:
-            told = no_head(line, error)
-            raise errors.Damaged(errors.NOT_A_FEED, self.url, 0, told) from None
+            raise self.damaged(errors.NOT_A_FEED, no_head(line, error)) from None
         if self.head and head.source() != self.head.source():
-            text = f"a feed of {head.text()}, and before of {self.head.text()}"
-            raise errors.Damaged(errors.OTHER_FEED, self.url, 0, text)
+            told = f"a feed of {head.text()}, and before of {self.head.text()}"
+            raise self.damaged(errors.OTHER_FEED, told)
         self.head, self.was_there = head, True
         if self.is_cut:
             log.info(f"{self.url} is there again")
@@ -177,7 +176,7 @@ class Remote(Generic[Read]):
             self.types.take(b"".join(pipes.pieces(natural(read_object(line)["bytes"]))))
         except (KeyError, ValueError) as error:
             told = f"this says nothing of types: {error}: {shown(line)}"
-            raise errors.Damaged(errors.LINE, self.url, 0, told) from None
+            raise self.damaged(errors.LINE, told) from None
 
     def take_definition(self, line: bytes) -> None:
         """Takes what changes that follow name by its offset."""
@@ -185,8 +184,7 @@ class Remote(Generic[Read]):
             at, more = line[len(b'{"at":') :].strip().split(b",", 1)
             self.decoder.tell(int(at), self.decoder.defined(b"{" + more))
         except (KeyError, TypeError, ValueError):
-            told = f"this is no definition: {shown(line)}"
-            raise errors.Damaged(errors.LINE, self.url, 0, told) from None
+            raise self.damaged(errors.LINE, f"this is no definition: {shown(line)}") from None
 
     def commit(self, line: bytes) -> Commit:
         try:
@@ -194,11 +192,10 @@ class Remote(Generic[Read]):
         except ValueError:
             found = Closing(0)
         if isinstance(found, Closing):
-            told = f"this is no line of a commit: {shown(line)}"
-            raise errors.Damaged(errors.COMMIT_LINE, self.url, 0, told)
+            raise self.damaged(errors.COMMIT_LINE, f"this is no line of a commit: {shown(line)}")
         if self.at not in (None, found.prev):
             told = f"a commit from {lsn_text(found.prev)} to {found.text()} where {lsn_text(self.at or 0)} was reached"
-            raise errors.Damaged(errors.ORDER, self.url, 0, told)
+            raise self.damaged(errors.ORDER, told)
         return found
 
     def base(self, line: bytes) -> Commit:
@@ -209,10 +206,10 @@ class Remote(Generic[Read]):
             counts = [natural(found[it]) for it in ("bytes", "rows", "n")]
         except (KeyError, ValueError):
             told = f"this is no line of first rows: {shown(line)}"
-            raise errors.Damaged(errors.COMMIT_LINE, self.url, 0, told) from None
+            raise self.damaged(errors.COMMIT_LINE, told) from None
         if self.at:
             told = f"rows from before where {lsn_text(self.at)} was reached"
-            raise errors.Damaged(errors.ORDER, self.url, 0, told)
+            raise self.damaged(errors.ORDER, told)
         return Commit(ends[1], 0, counts[0], counts[1], ends[0], base=counts[2])
 
     def rows(self, pipes: Pipes, commit: Commit) -> Iterator[Part]:
@@ -222,27 +219,24 @@ class Remote(Generic[Read]):
             yield from parts_of(section, n)
             n += len(section.rows)
         if n != (commit.base or 0) + commit.changes:
-            raise errors.Damaged(
-                errors.COUNTS, self.url, 0, f"{n} rows, where {commit.changes} are told"
-            )
+            raise self.damaged(errors.COUNTS, f"{n} rows, where {commit.changes} are told")
 
     def parts(self, pipes: Pipes, commit: Commit) -> Iterator[Part]:
         decoder, told = self.decoder, "the commit's last line has no end where its bytes end"
         decoder.begin(
-            commit,
-            lambda number, at, what: errors.Damaged(number, self.url, at, what),
-            lambda at: None,
+            commit, lambda number, at, what: self.damaged(number, what, at), lambda at: None
         )
         at = commit.bytes
         # (nothing is made of a commit before all of it was read)
         pieces = summed(
-            commit,
-            pipes.pieces(at),
-            lambda told: errors.Damaged(errors.CHECKSUM, self.url, at, told),
+            commit, pipes.pieces(at), lambda told: self.damaged(errors.CHECKSUM, told, at)
         )
-        for lines in whole_lines(pieces, lambda: errors.Damaged(errors.COUNTS, self.url, at, told)):
+        for lines in whole_lines(pieces, lambda: self.damaged(errors.COUNTS, told, at)):
             yield from decoder.read(lines)
         decoder.finish()
+
+    def damaged(self, number: int, what: str, at: int = 0) -> errors.Damaged:
+        return errors.Damaged(number, self.url, at, what)
 
     def end(self, line: bytes) -> None:
         """Ends as the other side says."""
@@ -275,8 +269,5 @@ class Remote(Generic[Read]):
             raise damaged
 
     def rest(self) -> None:
-        until = time.monotonic() + self.delay
-        self.delay = min(2 * self.delay, LONGEST_DELAY)
-        while (left := until - time.monotonic()) > 0:
-            self.check()
-            time.sleep(min(left, 0.1))
+        delay, self.delay = self.delay, min(2 * self.delay, LONGEST_DELAY)
+        rest(delay, self.check, 0.1)

@@ -103,12 +103,8 @@ def read_head(line: bytes) -> Head:
                 f"this is a feed of format {found['feed']}, which {age} version writes, and this one reads format {FORMAT}: name an empty"
                 " folder by --feed, with --without-feed, and have its readers begin anew, or go on with that version"
             )
-        return Head(
-            parse_lsn(text(found["base"])),
-            text(found["system"]),
-            text(found["database"]),
-            text(found["slot"]),
-        )
+        source = (text(found[it]) for it in ("system", "database", "slot"))
+        return Head(parse_lsn(text(found["base"])), *source)
     except KeyError:
         raise ValueError from None
 
@@ -245,11 +241,8 @@ class Decoder:
 
     def finish(self) -> None:
         if self.n != self.commit.changes:
-            raise self.fault(
-                COUNTS,
-                self.offset,
-                f"the commit has {self.n} changes, and its line says {self.commit.changes}",
-            )
+            told = f"the commit has {self.n} changes, and its line says {self.commit.changes}"
+            raise self.fault(COUNTS, self.offset, told)
         # (amid a commit none goes: a reader elsewhere couldn't find it)
         if len(self.places) >= MOST_DEFINITIONS:
             self.forget()
@@ -299,11 +292,8 @@ class Decoder:
         at = found["at"]
         table = self.places.get(at) or self.read_table(natural(at))
         if table is None:
-            raise self.fault(
-                UNDESCRIBED,
-                self.offset,
-                f"no definition stands at {at}, where the change says so",
-            )
+            why = f"no definition stands at {at}, where the change says so"
+            raise self.fault(UNDESCRIBED, self.offset, why)
         return table
 
     def read_table(self, at: int) -> TableLine | None:
@@ -330,11 +320,8 @@ class Decoder:
         op, n, told = found["op"], self.n, found["n"]
         if told != n or type(told) is not int:
             number(told)
-            raise self.fault(
-                COUNTS,
-                self.offset,
-                f"the change has number {told}, and is number {n} of its commit",
-            )
+            why = f"the change has number {told}, and is number {n} of its commit"
+            raise self.fault(COUNTS, self.offset, why)
         self.n = n + 1
         if op == "x":
             return self.missed(relation, n, found)

@@ -56,12 +56,8 @@ class Segment:
         except ValueError as error:
             raise Damaged(NOT_A_FEED, self.path, 0, no_head(line, error)) from None
         if head.base != self.base:
-            raise Damaged(
-                OTHER_FEED,
-                self.path,
-                0,
-                f"the segment begins at {lsn_text(head.base)}, and has another name",
-            )
+            told = f"the segment begins at {lsn_text(head.base)}, and has another name"
+            raise Damaged(OTHER_FEED, self.path, 0, told)
         return head
 
     def read(self, offset: int, size: int) -> bytes:
@@ -80,18 +76,13 @@ class Segment:
         try:
             return read_commit(line)
         except ValueError:
-            raise Damaged(
-                COMMIT_LINE, self.path, offset, f"this is no line of a commit: {shown(line)}"
-            ) from None
+            told = f"this is no line of a commit: {shown(line)}"
+            raise Damaged(COMMIT_LINE, self.path, offset, told) from None
 
     def check(self, commit: Commit, offset: int) -> list[bytes]:
         """Rejects a commit whose bytes aren't as written. Returns them, unless there are many."""
-        at = offset - COMMIT_SIZE
-        pieces = summed(
-            commit,
-            self.pieces(offset, offset + commit.bytes),
-            lambda told: Damaged(CHECKSUM, self.path, at, told),
-        )
+        at, content = offset - COMMIT_SIZE, self.pieces(offset, offset + commit.bytes)
+        pieces = summed(commit, content, lambda told: Damaged(CHECKSUM, self.path, at, told))
         return [it for it in pieces if commit.bytes <= CHUNK]
 
     def lines(self, pieces: Iterable[bytes], end: int) -> Iterable[list[bytes]]:
@@ -300,14 +291,8 @@ class Reader:
 
     def named(self, base: int) -> str | None:
         """The name of the segment that begins there, None where there is none."""
-        return next(
-            (
-                it
-                for it in (f"{base:016X}", f"{base:016x}")
-                if os.path.exists(os.path.join(self.folder, it))
-            ),
-            None,
-        )
+        names = (f"{base:016X}", f"{base:016x}")
+        return next((it for it in names if os.path.exists(os.path.join(self.folder, it))), None)
 
     def look_after(self, segment: Segment) -> None:
         """Lets go of a segment that was replaced, removed, or cut before where the reader is."""
