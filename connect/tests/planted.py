@@ -360,8 +360,8 @@ BUGS = (
     Bug(
         "what is noted of commits stays where its store goes",
         "pgsub_connect/store/placing.py",
-        "SUFFIX, REPEATS, ",
-        "SUFFIX, ",
+        "    REPEATS,\n",
+        "",
         ("test_repeats",),
     ),
     Bug(

@@ -7,7 +7,7 @@ import shutil
 import signal
 from pathlib import Path
 
-from pgsub_connect.store.left_file import LeftFile, print_of
+from pgsub_connect.stream.left_file import LeftFile, print_of
 from pgsub_connect.stream.filter import LOAD, TRUST, Filter
 from pgsub_connect.stream.filter_end import BREACH, BROKEN, MISSED, REFUSED, FilterEnded
 

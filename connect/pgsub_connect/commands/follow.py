@@ -33,12 +33,12 @@ from ..status.progress import Progress
 from ..store.at_rest import is_whole
 from ..store.checkpoint import Checkpoint
 from ..store.checkpoint_lines import COPYING, FOLLOWING, INTERRUPTED, NEW
-from ..store.left_file import LeftFile
 from ..store.placing import OF_STORE, check_meant
 from ..store.repeats_file import RepeatsFile
 from ..stream.common import Common, Tolerance
 from ..stream.filter import WATCH, Filter
 from ..stream.filter_end import FilterEnded
+from ..stream.left_file import LeftFile
 from .arguments import session, words
 from .arguments.feed import FeedOptions, settled_feed
 from .arguments.following import check_numeric

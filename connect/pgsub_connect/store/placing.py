@@ -9,10 +9,11 @@ from pgsub_feed.files import OF_FILE, meant
 from pgsub_feed.ownership import real
 
 from .file import NEW
-from .left_file import SUFFIX as LEFT
 from .repeats_file import SUFFIX as REPEATS
 from .socket_file import SUFFIX
 
+# The end of the name of the file that says how the filter left its store.
+LEFT = ".left"
 # What follows a store's name in those of its files, the checkpoint last, by which a start tells.
 OF_STORE = (
     NEW,

@@ -13,11 +13,11 @@ from pgsub_feed.interruption import Check, never, undone_by
 
 from .. import version
 from ..errors import FilterFault
-from ..store.left_file import LeftFile
 from ..store.repeats_file import RepeatsFile
 from .awake import Awake, Numbers, Served
 from .filter_end import ROOMLESS, FilterEnded
 from .filter_input import PIECE, ROOM, FilterInput
+from .left_file import LeftFile
 from .messages import COPY_DONE, HEADERS, STATUS, STATUS_HEAD, flushed, without_received
 from .room import room_text
 from .watch_lines import FilterSaid

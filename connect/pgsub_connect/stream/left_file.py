@@ -17,9 +17,9 @@ from pgsub_feed.files import LOG, meant, remove, replace_file, sync_folder
 from pgsub_feed.json_texts import Unreadable, compact, parsed
 from pgsub_feed.json_values import form_of
 
-from ..stream.filter_end import BREACH, FRAME_TOO_LARGE, MISSED, REJECTED, SPOOL_FULL
+from ..store.placing import LEFT
+from .filter_end import BREACH, FRAME_TOO_LARGE, MISSED, REJECTED, SPOOL_FULL
 
-SUFFIX = ".left"
 VERSION = 1
 # With which statuses a filter ends whose store hasn't failed, and which signals are no fault of it.
 SOUND = (0, REJECTED, SPOOL_FULL, FRAME_TOO_LARGE, MISSED, BREACH)
@@ -61,7 +61,7 @@ class LeftFile:
     """It. `every`: at each such start every row is read."""
 
     def __init__(self, store: str, every: int) -> None:
-        self.path, self.store, self.every = os.path.abspath(store + SUFFIX), meant(store), every
+        self.path, self.store, self.every = os.path.abspath(store + LEFT), meant(store), every
         # how the filter left the store that ran last here
         self.left: Left | None = None
         # how many have trusted it in a row, with the one that runs
