@@ -1,6 +1,6 @@
-"""What a server is to be used for, and all its preconditions, by what it says of itself: its version
-and settings, how it is reached, the role, the slot and the publications; and those that end a start
-before anything is made there."""
+"""What a server is to be used for, and all its preconditions, by what it says of itself: its
+version and settings, how it is reached, the role, the slot and the publications; and those that end
+a start before anything is made there."""
 
 import dataclasses
 import functools

@@ -1,5 +1,5 @@
-"""A recording (`.pgx`): the bytes of sessions in hexadecimal, a frame per line; and one session that is
-recorded without a filter."""
+"""A recording (`.pgx`): the bytes of sessions in hexadecimal, a frame per line; and one session
+that is recorded without a filter."""
 
 import dataclasses
 import os

@@ -1,6 +1,6 @@
-"""libpq itself: its calls by ctypes where psycopg makes them so too, waits in ticks, the rows of a query
-as they come, within a limit, so that no server fills the memory, and the many messages of a session
-that is copied from and to, which nothing waits for."""
+"""libpq itself: its calls by ctypes where psycopg makes them so too, waits in ticks, the rows of a
+query as they come, within a limit, so that no server fills the memory, and the many messages of a
+session that is copied from and to, which nothing waits for."""
 
 import contextlib
 import ctypes

@@ -1,5 +1,5 @@
-"""What a store's file holds, as docs/ARCHITECTURE.md says: position, definitions and rows; and the files
-of a copy of a store, of which one is made."""
+"""What a store's file holds, as docs/ARCHITECTURE.md says: position, definitions and rows; and the
+files of a copy of a store, of which one is made."""
 
 import contextlib
 import dataclasses

@@ -1,7 +1,7 @@
-"""What a filter says on its standard error, of the server that it watches among it: which rule of a well-formed one a session
-breaks, and from where on one isn't watched; and of commits that come again: which of them aren't
-those that came before, and from where on they aren't compared. A frame's place is in bytes from the
-first one of the session that the filter was given."""
+"""What a filter says on its standard error. Of the server that it watches: which rule of a
+well-formed one a session breaks, and from where on one isn't watched. Of commits that come again:
+which of them aren't those that came before, and from where on they aren't compared. A frame's place
+is in bytes from the first one of the session that the filter was given."""
 
 import os
 import re

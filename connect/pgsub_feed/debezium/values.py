@@ -1,8 +1,9 @@
-"""Numbers, bits and bytes of the server's texts as Kafka Connect's JSON has them, and dates, times and
-intervals as numbers, and as texts of ISO 8601.
+"""Numbers, bits and bytes of the server's texts as Kafka Connect's JSON has them, and dates, times
+and intervals as numbers, and as texts of ISO 8601.
 
 The server prints them by `datestyle = ISO`, `intervalstyle = postgres` and `timezone = UTC`. Years
-are counted in the proleptic Gregorian calendar, in which the year before 1 is 0, as in ISO 8601."""
+are counted in the proleptic Gregorian calendar, in which the year before 1 is 0, as in ISO 8601.
+"""
 
 import base64
 import math

@@ -1,5 +1,5 @@
-"""What is in a feed's folder: its segments, by their names, up to where it has all commits, and where
-its readers are: `readers/NAME` has a reader's LSN, whose commits aren't needed any more up to there."""
+"""What is in a feed's folder: its segments, by their names, up to where it has all commits, and
+where its readers are: `readers/NAME` has the LSN up to which a reader needs no commit any more."""
 
 import contextlib
 import os

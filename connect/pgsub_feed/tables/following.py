@@ -1,5 +1,5 @@
-"""A file of tables that follows a feed: made, or gone on with; and taken back to an LSN, by the rows that
-its feed has from before each change.
+"""A file of tables that follows a feed: made, or gone on with; and taken back to an LSN, by the
+rows that its feed has from before each change.
 
 What the feed doesn't have can't be had again: rows that a truncation took, and the values of
 columns that were dropped or whose type is another one since.

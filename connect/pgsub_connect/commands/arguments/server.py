@@ -1,5 +1,5 @@
-"""Options on the server, the slot and the store that follows it, and what they leave out; and on the
-publication, the slot and the copy that --create makes."""
+"""Options on the server, the slot and the store that follows it, and what they leave out; and on
+the publication, the slot and the copy that --create makes."""
 
 import argparse
 import dataclasses
