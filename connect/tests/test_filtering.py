@@ -388,7 +388,7 @@ class Given(Case):
             child.push_payloads([piece] * 1000)
             child.serve(0)
         self.assertGreaterEqual(child.input.waiting, ROOM)
-        self.assertEqual(child.room(), ROOM - child.waiting)
+        self.assertEqual(child.room(), ROOM - child.input.waiting)
 
     def test_a_long_message_is_not_copied(self) -> None:
         """What the pipe doesn't take at once waits as it is, and goes once it is written."""
@@ -436,7 +436,7 @@ class Given(Case):
         child.end_session()
         child.end_session()
         until = time.monotonic() + 60
-        while child.waiting and time.monotonic() < until:
+        while child.input.waiting and time.monotonic() < until:
             child.serve(0.1)
         child.finish()
         self.end(child)

@@ -134,8 +134,8 @@ class Order(FollowCase):
         def holds() -> bool:
             # (the second part of a line is said once the first one was read)
             child = follower.life.filter
-            if child.runs and child.said.line and child.missing.total not in heard:
-                heard.add(child.missing.total)
+            if child.runs and child.said.line and child.said.missing.total not in heard:
+                heard.add(child.said.missing.total)
                 Path(self.folder, "goes_on").touch()
             return self.confirmed() >= end
 
@@ -291,7 +291,7 @@ class Calls(FollowCase):
             writes: Sequence[int] = (),
             awake: Awake | None = None,
         ) -> tuple[list[int], list[int], list[bytes]]:
-            waiting.append(follower.life.filter.waiting)
+            waiting.append(follower.life.filter.input.waiting)
             readable, writable, statuses = serve(timeout, reads, writes, awake)
             is_ready.append(
                 not (readable or writable) or any(it in (*readable, *writable) for it in reads)
@@ -588,7 +588,8 @@ class Told(FollowCase):
         self.takes_late(follower)
         self.server.to_send = missing_commit(0x100)
         self.run_until(
-            follower, lambda: follower.noting.commits == 1 and not follower.life.filter.waiting
+            follower,
+            lambda: follower.noting.commits == 1 and not follower.life.filter.input.waiting,
         )
         self.assertEqual((self.counted(), len(self.lines())), (Counted(0, 0x108, 1, 0x108, 1), 1))
         self.assertIn("missing", self.progress.findings.found)
