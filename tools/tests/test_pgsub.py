@@ -25,8 +25,13 @@ mkdir -p out
 chmod +x out/pgsub
 """
 # Its `try` prints the words, then the files that it is given by their names, and ends as the first
-# word after `--` says.
+# word after `--` says. Where it is to keep its program, that is there meanwhile.
 TRY = """#!/bin/sh
+if [ -n "$KEEP" ]; then
+    mkdir "$TMPDIR/made"
+    cp "$KEEP" "$TMPDIR/made/program"
+    sleep 1
+fi
 shift
 while [ "$1" != -- ]; do
     echo "${2%%=*} has $(cat "${2#*=}")"
@@ -40,7 +45,14 @@ echo "races: not looked for" >&2
 echo "run=ended status=3 runners=1 races=unchecked proved=no" >&2
 exit 3
 """
-UNPROVED = "pgsub: this program is not proved: it is compiled with checks, and runs once; that takes three minutes\n"
+# What it has compiled.
+COMPILED = """#!/bin/sh
+echo "${HOME-no home} $(cat here) $(pwd) $@"
+touch made
+exit 5
+"""
+UNPROVED = "pgsub: this program is not proved: it is compiled with checks; that takes three minutes\n"
+KEPT = "pgsub: this program is not proved: it was compiled with checks\n"
 
 
 class Case(unittest.TestCase):
@@ -243,10 +255,41 @@ class Case(unittest.TestCase):
         )
         self.assertEqual((status, err), (3, UNPROVED + "told by the program\n"))
         self.assertEqual(
-            out, "here has a\ngiven/2/there has b\n-- apply here given/2/there nowhere\n"
+            out, "here has a\ngiven/1/there has b\n-- apply here given/1/there nowhere\n"
         )
         self.assertEqual(self.calls.read_text(), f"{self.top}/crates/pgsub\n")
         self.assertFalse(self.program.exists())
+
+    def tries(self, *words: str) -> tuple[int, str, str]:
+        """A try whose program can be kept. The status, what was printed, and the last line told."""
+        compiled = self.top.parent / "compiled"
+        compiled.write_text(COMPILED)
+        compiled.chmod(0o755)
+        status, out, err = self.run_it("--try", *words, KEEP=str(compiled))
+        return status, out, err.splitlines(keepends=True)[0]
+
+    def test_a_second_try(self) -> None:
+        """It compiles nothing: the program runs as before, without an environment, in a folder that
+        goes with what it writes. Other sources are compiled anew."""
+        (self.top / "here").write_text("a")
+        self.assertEqual(self.tries("apply", "here")[::2], (3, UNPROVED))
+        for _ in range(2):
+            status, out, told = self.tries("apply", "here", "x y")
+            self.assertEqual((status, told, self.builds()), (5, KEPT, 1))
+            self.assertRegex(out, r"^no home a /\S+ apply here x y\n$")
+            self.assertFalse(os.path.exists(out.split()[3]))
+        self.assertFalse((self.top / "made").exists())
+        kept = sorted((self.room() / "tried").iterdir())
+        self.assertEqual(len(kept), 1)
+        self.write("second")
+        self.assertEqual(self.tries("apply", "here")[::2], (3, UNPROVED))
+        self.assertEqual((self.builds(), self.tries("apply", "here")[2]), (2, KEPT))
+        self.assertNotEqual(sorted((self.room() / "tried").iterdir()), kept)
+
+    def test_a_fault_keeps_no_program(self) -> None:
+        for count in (1, 2):
+            self.assertEqual(self.tries("fault")[::2], (4, UNPROVED))
+            self.assertEqual((self.builds(), os.listdir(self.room() / "tried")), (count, []))
 
     def test_a_try_that_gives_no_answer(self) -> None:
         status, _, err = self.run_it("--try", "fault")
