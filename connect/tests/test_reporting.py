@@ -2,6 +2,7 @@
 
 from __future__ import annotations
 
+import contextlib
 import json
 import os
 import re
@@ -21,6 +22,7 @@ from pgsub_connect.status.progress import STATES, Progress
 from pgsub_connect.status.state import Counted
 
 from .fake_server import FakeServer, Quiet
+from .small_world import wait_for
 
 
 class Files(Quiet):
@@ -104,6 +106,23 @@ class Files(Quiet):
                 f'pgsub_state{{slot="pgsub",store="{self.path}.db",state="stopped"}} 1\n',
                 file.read(),
             )
+
+    def test_a_new_state_shows_at_once(self) -> None:
+        progress = Progress()
+        store = self.path + ".db"
+        settings = ReportSettings(store=store, status_file=self.path, is_asked_for=False)
+        reporter = Reporter(settings, progress)
+        self.addCleanup(reporter.finish)
+        with mock.patch.object(reporter, "interval", 600.0):
+            reporter.start()
+            for state in ("copying", "following", "stopping"):
+                progress.enter(state)
+                self.assertTrue(wait_for(lambda: self.state() == state))  # noqa: B023
+
+    def state(self) -> str | None:
+        with contextlib.suppress(FileNotFoundError), open(self.path, encoding="utf-8") as file:
+            return str(json.load(file)["state"])
+        return None
 
     def test_a_path_that_is_no_utf_8(self) -> None:
         """Prometheus reads nothing else, and whoever reads the status file sees it replaced each

@@ -123,7 +123,7 @@ def time_text(at: float | None) -> str | None:
     return None if at is None else time.strftime("%Y-%m-%dT%H:%M:%SZ", time.gmtime(at))
 
 
-# How often, in seconds, and how often where nobody has asked for any.
+# How often, in seconds, and how often where nobody has asked for any. (A new state shows at once.)
 INTERVAL, SELDOM = 1.0, 5.0
 # What follows a new file's name until it is whole, and a store's in that of its status file.
 NEW, STATUS = ".pgsub-new", ".status"
@@ -166,7 +166,8 @@ class Reporter(threading.Thread):
         self.progress.note_program(program_version(self.settings.program))
         while not self.ended.is_set():
             self.write()
-            self.ended.wait(self.interval)
+            self.progress.has_entered.wait(self.interval)
+            self.progress.has_entered.clear()
 
     def link(self) -> None:
         """Has the store's own name lead to a status file that has another one."""
@@ -180,6 +181,7 @@ class Reporter(threading.Thread):
     def finish(self) -> None:
         """Ends the thread, and shows what is there at the end."""
         self.ended.set()
+        self.progress.has_entered.set()
         self.join(5)
         self.write()
 

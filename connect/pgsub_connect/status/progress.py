@@ -4,6 +4,7 @@ Whoever sees that something happened tells it to the part that it is about.
 """
 
 import collections
+import threading
 import time
 
 from pgsub_feed.texts import counted, lsn_text
@@ -67,6 +68,8 @@ class Progress:
     def __init__(self, notifier: Notifier | None = None) -> None:
         self.notifier = notifier or Notifier()
         self.state = "starting"
+        # set when the state changes: whoever shows it clears that
+        self.has_entered = threading.Event()
         self.heartbeat = time.time()
         self.last_error: str | None = None
         # how often the filter was lost, and when lately
@@ -95,6 +98,7 @@ class Progress:
 
     def enter(self, state: str) -> None:
         self.state = state
+        self.has_entered.set()
         if state in ENDING:
             self.notifier.stopping(self.line())
 
