@@ -244,6 +244,13 @@ class Dropping(Quiet):
             Unfit, "the store follows the database shop of the server 77, and this is shop of 78"
         )
 
+    def test_a_store_that_isnt_there(self) -> None:
+        """One that was mistyped: no server is asked for the slot that another store follows."""
+        self.store = os.path.join(self.folder, "cpoy.db")
+        for slot in ("", "s1"):
+            self.refused(FileError, "cpoy.db: there is no store, nor anything beside", slot=slot)
+        self.assertEqual(self.server.opened, 0)
+
     def test_a_slot_of_another_plugin(self) -> None:
         self.slots = [["f", "f"]]
         for plugin, database, told in (

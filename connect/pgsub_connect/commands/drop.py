@@ -12,7 +12,7 @@ from collections.abc import Callable, Iterable
 from typing import Any
 
 from pgsub_feed import log
-from pgsub_feed.errors import Passing, Unfit, told_of
+from pgsub_feed.errors import FileError, Passing, Unfit, told_of
 from pgsub_feed.files import OF_FILE, meant, own_files, remove
 from pgsub_feed.interruption import Check, never
 from pgsub_feed.json_texts import Unreadable, object_of, whole_of
@@ -125,6 +125,7 @@ class Dropper:
 
     def run(self) -> None:
         """Slot first, which fills the server's disk; files last, which say what else there is."""
+        self.check_store()
         with locked(self.store + ".connector"):
             subscription = Subscription(self.options.dsn, self.slot)
             with subscription.connected("drop", self.check) as connection:
@@ -133,6 +134,11 @@ class Dropper:
                 self.drop_publications(connection)
             if done:
                 self.drop_files()
+
+    def check_store(self) -> None:
+        """Rejects a name that no store has: its slot would be that of another one."""
+        if not files_of(self.store):
+            raise FileError(f"{self.store}: there is no store, nor anything beside it")
 
     @understood("itself")
     def check_server(self, connection: Connection) -> None:
