@@ -115,15 +115,15 @@ class Probes(unittest.TestCase):
         self.progress.findings.note({"values": "t.x has old values", "history": "y"})
         self.fails(
             "the copy may be wrong: history, values (following, ",
-            "\n  values: t.x has old values: `pgsub-connect add --store /s/copy.db --table T`, or",
-            "\n  history: y: `pgsub-connect verify --repair --store /s/copy.db`, once it was started with --accept history; then start it so again\n",
+            "\n  values: t.x has old values: `pgsub-connect add --store /s/copy.db --dsn .. --table T`, or",
+            "\n  history: y: `pgsub-connect verify --repair --store /s/copy.db --dsn ..`, once it was started with --accept history; then start it so again\n",
         )
 
     def test_one_finding_says_its_kind_once(self) -> None:
         self.progress.findings.note({"publication": "table s.u (7) joined"})
         self.fails(
             "the copy may be wrong: publication (following, ",
-            "\n  table s.u (7) joined: `pgsub-connect refresh --store /s/copy.db`\n",
+            "\n  table s.u (7) joined: `pgsub-connect refresh --store /s/copy.db --dsn ..`\n",
         )
         self.progress.findings.note_adding({"s.u": "waits"})
         self.fails("\n  table s.u (7) joined: its rows are being copied: wait for that\n")
@@ -137,7 +137,7 @@ class Probes(unittest.TestCase):
         self.fails(f"\n  {text}; {text}: its rows are being copied: wait for that\n")
         for more in (other, "and 3 more"):
             self.progress.findings.note({"values": f"{text}; {more}"})
-            self.fails(f"{more}: `pgsub-connect add --store /s/copy.db --table T`, or")
+            self.fails(f"{more}: `pgsub-connect add --store /s/copy.db --dsn .. --table T`, or")
 
     def test_a_follower_that_ended_says_how_it_goes_on(self) -> None:
         again = "`pgsub-connect follow --store /s/copy.db`, with its --dsn, goes on\n"
@@ -152,7 +152,7 @@ class Probes(unittest.TestCase):
         )
         self.fails(
             "set aside in the tables, `pgsub-connect add` them: public.t, s.u",
-            "\n  `pgsub-connect add --store /s/copy.db --table public.t --table s.u`\n",
+            "\n  `pgsub-connect add --store /s/copy.db --dsn .. --table public.t --table s.u`\n",
             "\n  public.t: since 0/500: why\n",
         )
 
@@ -222,7 +222,10 @@ class Probes(unittest.TestCase):
             self.status["wal_status"] = status
             self.assertEqual(self.probe()[0], code)
         self.status["state"] = "failed"
-        self.fails("the slot is lost (failed, ", "\n  `pgsub-connect drop --store /s/copy.db`, and")
+        self.fails(
+            "the slot is lost (failed, ",
+            "\n  `pgsub-connect drop --store /s/copy.db --dsn ..`, and",
+        )
         self.assertNotIn("goes on", self.probe()[1])
 
     def test_a_full_disk(self) -> None:

@@ -28,17 +28,15 @@ LOSSES, STILL = 2, 60.0
 ADDED = "its rows are being copied: wait for that"
 CURES = {
     "names": "`pgsub-connect names --store {store}` tells them apart; then start it with --accept names",
-    "publication": "`pgsub-connect refresh --store {store}`",
-    "values": "`pgsub-connect add --store {store} --table T`, or start it with --accept values",
-    "missing": "`pgsub-connect verify --repair --store {store}`, then start it with --accept missing",
-    "history": "`pgsub-connect verify --repair --store {store}`, once it was started with --accept history; then start it so again",
+    "publication": "`pgsub-connect refresh --store {store} --dsn ..`",
+    "values": "`pgsub-connect add --store {store} --dsn .. --table T`, or start it with --accept values",
+    "missing": "`pgsub-connect verify --repair --store {store} --dsn ..`, then start it with --accept missing",
+    "history": "`pgsub-connect verify --repair --store {store} --dsn ..`, once it was started with --accept history; then start it so again",
 }
 # What doesn't make the copy wrong by itself.
 UNWATCHED = "unwatched"
-UNWATCHED_CURE = "`pgsub-connect verify --store {store}` compares the copy; then start it with --accept unwatched"
-COMPARED = (
-    "`pgsub-connect verify --repair --store {store}`, once it was started with --accept {kind}"
-)
+UNWATCHED_CURE = "`pgsub-connect verify --store {store} --dsn ..` compares the copy; then start it with --accept unwatched"
+COMPARED = "`pgsub-connect verify --repair --store {store} --dsn ..`, once it was started with --accept {kind}"
 
 
 class Fault(NamedTuple):
@@ -91,7 +89,9 @@ def of_lag(status: dict[str, Any], limits: Iterable[Limit]) -> Iterator[Fault]:
 def of_parts(status: dict[str, Any]) -> Iterator[Fault]:
     """Of the slot and of the filter."""
     if status.get("wal_status") == "lost":
-        yield Fault("the slot is lost", f"`pgsub-connect drop {named(status)}`, and copy anew")
+        yield Fault(
+            "the slot is lost", f"`pgsub-connect drop {named(status)} --dsn ..`, and copy anew"
+        )
     if (losses := status.get("filter_losses") or 0) > LOSSES:
         why = status.get("last_error")
         yield Fault(
@@ -136,7 +136,7 @@ def of_tables(status: dict[str, Any]) -> Iterator[Fault]:
         why = "\n".join(f"{it}: {aside[it]}" for it in names)
         yield Fault(
             f"set aside in the tables, `pgsub-connect add` them: {', '.join(names)}",
-            f"`pgsub-connect add {named(status)} {words}`\n{why}",
+            f"`pgsub-connect add {named(status)} --dsn .. {words}`\n{why}",
         )
 
 
