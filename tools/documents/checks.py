@@ -64,6 +64,13 @@ SCHEMES = re.compile(r"^SCHEMES = \{(.*?)^\}", re.M | re.S)
 SCHEME = re.compile(r'"([a-z+]+)"[,)]')
 # what PROOFS says of the definitions behind the statement is said of these clauses
 THEOREM = "pgsub_core::follow.safe"
+# what README says of itself first, and which of its lines on trust say what of which files
+FIRST = ("PostgreSQL", "SQLite", "Redis", "NATS", "verif", "`pgsub-connect`", "`pgsub`")
+TRUST = {
+    "**Proved**": ("`pgsub`", "`copy.db`", "feed"),
+    "**Assumed**": ("the server", "the disk", "the toolchain"),
+    "**Only tested**": ("`pgsub-connect`", "`rows.db`", "sinks"),
+}
 CLAUSES = (
     THEOREM,
     "pgsub_core::follow.followed",
@@ -424,3 +431,18 @@ def check_told(tree: Tree) -> list[str]:
     told = tree.text("docs/FEED.md")
     wrong += [f"docs/FEED.md hasn't {it}://" for it in schemes if f"{it}://" not in told]
     return wrong if commands and schemes else ["there are no commands, or no schemes"]
+
+
+def check_first_screen(tree: Tree) -> list[str]:
+    """README's first paragraph says what it is for and names the programs; below, it says of which
+    files anything is proved or tested, and by which logic."""
+    text = tree.text("README.md")
+    first = text.split("\n\n")[1]
+    wrong = [f"README.md: its first paragraph hasn't {it}" for it in FIRST if it not in first]
+    trust = texts.section_of(text, "Can I trust it?")
+    for begin, words in TRUST.items():
+        line = next((it for it in trust.splitlines() if it.startswith(begin)), "")
+        wrong += [f"README.md: what is {begin} hasn't {it}" for it in words if it not in line]
+    if "type theory" not in trust:
+        wrong.append("README.md doesn't name the logic")
+    return wrong

@@ -176,6 +176,41 @@ class Told(Made):
         self.assertEqual(sorted(set(found)), sorted(expected))
 
 
+class FirstScreen(Made):
+    """What README says of itself first, and of its files."""
+
+    TEXT = """# Name
+
+Copies PostgreSQL tables to SQLite, Redis and NATS, and verifies them.
+By `pgsub-connect`, and `pgsub`, which is proved.
+
+## Can I trust it?
+
+**Proved** of `pgsub`, so of `copy.db` and the feed:
+
+**Assumed**: the server and the disk are right; the toolchain too.
+**Only tested**: `pgsub-connect`, `rows.db` and sinks. It is type theory.
+"""
+
+    def first_wrong(self, old: str, new: str) -> list[str]:
+        self.write("README.md", self.TEXT.replace(old, new))
+        return checks.check_first_screen(checks.Tree(self.top))
+
+    def test_all(self) -> None:
+        self.assertEqual(self.first_wrong("", ""), [])
+
+    def test_what_is_left_out(self) -> None:
+        for old, told in (
+            ("SQLite, ", "its first paragraph hasn't SQLite"),
+            ("By `pgsub-connect`", "its first paragraph hasn't `pgsub-connect`"),
+            ("`copy.db` and ", "what is **Proved** hasn't `copy.db`"),
+            ("`rows.db` and ", "what is **Only tested** hasn't `rows.db`"),
+            ("type theory", "the logic"),
+        ):
+            (found,) = self.first_wrong(old, "")
+            self.assertIn(told, found)
+
+
 # prints that a statement has one module
 STATEMENT = """#!/bin/sh
 echo "low.specs.Texts: 1 definitions, 2 lines"
