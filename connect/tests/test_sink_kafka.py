@@ -248,7 +248,7 @@ class GoesOn(KafkaCase):
                 )
             )
             engine.look()
-            self.assertEqual((engine.safe(), engine.finish(1)), (0x100, True))
+            self.assertEqual((engine.safe(), engine.finish(60)), (0x100, True))
         self.assertEqual(len(self.server.said("pgsub.position")), 4)
 
     def test_a_machine_that_stands_still(self) -> None:
@@ -283,7 +283,8 @@ class GoesOn(KafkaCase):
         engine.about, engine.end = {}, 0x100
         self.server.accepts = 0
         engine.cluster.send("t", None, b"x", partition=0)
-        self.assertFalse(engine.finish(0.001))
+        with mock.patch("pgsub_feed.sinks.kafka_client.LONGEST", 60.0):
+            self.assertFalse(engine.finish(0.001))
 
 
 class Says(KafkaCase):

@@ -12,6 +12,7 @@ import contextlib
 import fcntl
 import functools
 import os
+import re
 import signal
 import socket
 import socketserver
@@ -49,8 +50,14 @@ class Case(unittest.TestCase):
         self.addCleanup(child.kill)
         return child
 
-    def ends(self, child: subprocess.Popen[bytes], is_there: Callable[[], bool]) -> tuple[int, str]:
-        """Asks it to end once it is where it waits. Returns its status and what it has said."""
+    def ends(
+        self,
+        child: subprocess.Popen[bytes],
+        is_there: Callable[[], bool],
+        then: Callable[[], None] = lambda: None,
+    ) -> tuple[int, str]:
+        """Asks it to end once it is where it waits. Returns its status and what it has said.
+        `then`: what is done once it was asked."""
         until = time.monotonic() + PATIENCE
         while not is_there():
             self.assertIsNone(child.poll())
@@ -59,6 +66,7 @@ class Case(unittest.TestCase):
         time.sleep(0.3)
         began = time.monotonic()
         child.send_signal(signal.SIGTERM)
+        then()
         _, said = child.communicate(timeout=2 * HEARD)
         self.assertLess(time.monotonic() - began, HEARD, said)
         return child.returncode, said.decode()
@@ -165,17 +173,19 @@ class Sinks(FeedCase, Case):
         info = b'{"config":{"subjects":["pgsub.>"]},"state":{"messages":0,"last_seq":0}}'
         server = self.hanging(b"INFO {}\r\n", {b"PING": b"PONG\r\n"})
         child = self.sink(f"nats://127.0.0.1:{server.port}")
-        self.wait_for(server, b"STREAM.INFO.pgsub ")
-        inbox = bytes(server.heard).split(b"STREAM.INFO.pgsub ")[1].split()[0]
+        # (all of the line, which may come in parts)
+        asked = self.wait_for(server, rb"STREAM\.INFO\.pgsub (\S+) .*\r\n")
+        inbox = asked[1]
         server.connections[0].sendall(b"MSG %b 1 %d\r\n%b\r\n" % (inbox, len(info), info))
         status, _ = self.ends(child, lambda: b"pgsub.commit" in server.heard)
         self.assertEqual(status, 0)
 
-    def wait_for(self, server: Hanging, text: bytes) -> None:
+    def wait_for(self, server: Hanging, pattern: bytes) -> re.Match[bytes]:
         until = time.monotonic() + PATIENCE
-        while text not in server.heard:
+        while not (found := re.search(pattern, bytes(server.heard))):
             self.assertLess(time.monotonic(), until)
             time.sleep(0.02)
+        return found
 
     def test_nats_that_reads_nothing(self) -> None:
         """What waits fills all buffers."""
@@ -209,12 +219,13 @@ class Sinks(FeedCase, Case):
         )
         self.assertEqual(status, 0)
 
-    def ends_in_exec(self, seconds: float) -> tuple[int, str, FakeRedis]:
-        """A sink that is asked to end while Redis takes so many seconds for a commit: its status,
-        what it has said, and what Redis has."""
+    def ends_in_exec(self, seconds: float | None) -> tuple[int, str, FakeRedis]:
+        """A sink that is asked to end while Redis is at a commit, which takes so many seconds more,
+        or for ever: its status, what it has said, and what Redis has."""
         self.feed.commit(0x100, [insert("1", "a")])
-        server, is_asked = Answering(), threading.Event()
+        server, is_asked, goes_on = Answering(), threading.Event(), threading.Event()
         self.addCleanup(server.close)
+        self.addCleanup(goes_on.set)
         child = self.sink(f"redis://127.0.0.1:{server.port}")
         until = time.monotonic() + PATIENCE
         while server.redis.at() != "0/100":
@@ -223,20 +234,25 @@ class Sinks(FeedCase, Case):
 
         def take_long() -> None:
             is_asked.set()
-            time.sleep(seconds)
+            goes_on.wait()
+
+        def let_go() -> None:
+            if seconds is not None:
+                time.sleep(seconds)
+                goes_on.set()
 
         server.redis.before_exec = take_long
         self.feed.commit(0x200, [insert("2", "b")])
-        return (*self.ends(child, is_asked.is_set), server.redis)
+        return (*self.ends(child, is_asked.is_set, let_go), server.redis)
 
     def test_redis_that_has_a_commit_soon(self) -> None:
-        status, said, redis = self.ends_in_exec(2.0)
+        status, said, redis = self.ends_in_exec(0.5)
         self.assertEqual((status, redis.at()), (0, "0/200"), said)
         self.assertEqual(redis.rows(), stock(("1", "a"), ("2", "b")))
         self.assertIn("all up to 0/200 is written", said)
 
     def test_redis_that_never_has_a_commit(self) -> None:
-        status, said, _ = self.ends_in_exec(10 * HEARD)
+        status, said, _ = self.ends_in_exec(None)
         self.assertEqual(status, 7, said)
         self.assertIn("the engine doesn't answer", said)
 
