@@ -26,7 +26,16 @@ from pgsub_connect.commands import sink as sink_module
 from pgsub_connect.commands.sink import Options
 from pgsub_connect.follow.retention import Limits, retire
 from pgsub_connect.store.export import ExportSettings, export_store
-from pgsub_feed.errors import EngineError, Failure, FileError, Passing, Stopped, Unfit, UsageError
+from pgsub_feed.errors import (
+    Damaged,
+    EngineError,
+    Failure,
+    FileError,
+    Passing,
+    Stopped,
+    Unfit,
+    UsageError,
+)
 from pgsub_feed.interruption import never
 from pgsub_feed.reader.commits import Commit
 from pgsub_feed.reader.following import Following
@@ -185,20 +194,30 @@ class Changes(RedisCase):
         self.take(insert("1", "a"))
         start = self.feed.path.read_bytes()
         self.take(insert("2", "b"), insert("3", "c"))
-        self.feed.path.write_bytes(self.feed.path.read_bytes().replace(b'["3","c"]', b'["3"]    '))
-        count = iter(range(1000))
+        before, end, last = self.feed.path.read_bytes().rpartition(b'{"end":')
+        damaged = (end + last).replace(b'["3","c"]', b'["3"]    ')
+        self.feed.path.write_bytes(before + summed(damaged))
+        bear, borne = Poll.bear, list[int]()
+
+        def replaced(poll: Poll, damaged: Damaged, at: int) -> None:
+            """Once a part of it was taken, and the rest can't be read."""
+            borne.append(at)
+            bear(poll, damaged, at)
+            self.feed.path.write_bytes(start)
+            self.feed.at = self.at = 0x100
+            self.take(insert("4", "d"))
+
+        until = time.monotonic() + 60.0
 
         def check() -> None:
-            number = next(count)
-            if number == 5:
-                self.feed.path.write_bytes(start)
-                self.feed.at = self.at = 0x100
-                self.take(insert("4", "d"))
-            if number > 8:
+            if borne and self.server.at() == "0/200" or time.monotonic() > until:
                 raise Stopped
 
-        with logged():
+        # (a line or so is read at once)
+        chunk = mock.patch("pgsub_feed.reader.segments.CHUNK", 64)
+        with logged(), chunk, mock.patch.object(Poll, "bear", replaced):
             sink_module.run(Options(feed=str(self.path), url="redis://h"), check)
+        self.assertEqual(borne, [0x200])
         self.assertEqual(
             (self.server.rows(), self.server.at()), (stock(("1", "a"), ("4", "d")), "0/200")
         )
