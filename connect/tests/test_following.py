@@ -638,6 +638,25 @@ class Fits(Case):
             self.connect(follower)
         self.assertIn("history", self.checkpoint.read().found)
 
+    def test_a_gap_that_is_accepted_is_found(self) -> None:
+        """Until it is accepted once more: a strict run goes on meanwhile, and so does the next
+        session."""
+        text = "changes before 0/900 that the store lacks may be missing"
+        for kinds, strict in ((["gap"], False), (["slot"], True), (["all"], True)):
+            with self.subTest(kinds=kinds, strict=strict):
+                follower = self.follower_alone(accept=kinds, strict=strict)
+                self.checkpoint.write(False, phase="following", position=0x500, confirmed=0x500)
+                fitting = follower.start.fitting
+                fitting.check_start(0x900, 0x500, interruption.never)
+                follower.watch.show()
+                self.assertEqual(self.checkpoint.read().found, {"slot": "0/900"})
+                self.assertEqual(self.progress.findings.found, {"slot": text})
+                self.checkpoint.write(False, phase="following")
+                with self.assertRaisesRegex(Unfit, "somebody else moved the slot"):
+                    fitting.check_start(0xA00, 0x500, interruption.never)
+                self.follower_alone(accept=kinds, strict=strict).watch.begin()
+                self.assertEqual(self.checkpoint.read().found, {})
+
     def test_a_history_that_is_accepted_confirms_nothing_more(self) -> None:
         """What a keepalive has confirmed above the position is of the other history: the new one's
         commits there are to come."""

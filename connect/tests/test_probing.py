@@ -119,6 +119,12 @@ class Probes(unittest.TestCase):
             "\n  history: y: `pgsub-connect verify --repair --store /s/copy.db --dsn ..`, once it was started with --accept history; then start it so again\n",
         )
 
+    def test_a_gap_that_was_accepted(self) -> None:
+        text = "changes before 0/900 that the store lacks may be missing"
+        self.progress.findings.note({"slot": text})
+        cure = "`pgsub-connect verify --repair --store /s/copy.db --dsn ..`, once it was started"
+        self.fails(f"\n  {text}: {cure} with --accept slot; then start it so again\n")
+
     def test_one_finding_says_its_kind_once(self) -> None:
         self.progress.findings.note({"publication": "table s.u (7) joined"})
         self.fails(

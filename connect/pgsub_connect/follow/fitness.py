@@ -128,7 +128,8 @@ class Fitting:
         log.warning(f"found: history at {at}: {text}: verify --repair, then --accept history again")
 
     def check_start(self, slot_at: int, position: int, check: Check) -> None:
-        """Rejects a gap between store and slot, unless it was said to be wanted."""
+        """Rejects a gap between store and slot, unless it was said to be wanted. One that is
+        accepted is found from then on, until it is accepted again."""
         known = self.checkpoint.known
         is_wanted = known.phase == NEW and self.no_copy and position == 0
         if is_wanted:
@@ -144,6 +145,9 @@ class Fitting:
             self.tolerance.use_gap()
             self.checkpoint.forget_server()
             self.checkpoint.write(False, confirmed=max(slot_at, position), position=position)
+            if not is_wanted:
+                text = f"changes before {lsn_text(slot_at)} that the store lacks may be missing"
+                self.watch.note("slot", slot_at, text)
 
     def check_publications(self, check: Check) -> None:
         """Rejects names of none: the server would say so at the first change alone, and from 18 on

@@ -31,12 +31,13 @@ CURES = {
     "publication": "`pgsub-connect refresh --store {store} --dsn ..`",
     "values": "`pgsub-connect add --store {store} --dsn .. --table T`, or start it with --accept values",
     "missing": "`pgsub-connect verify --repair --store {store} --dsn ..`, then start it with --accept missing",
-    "history": "`pgsub-connect verify --repair --store {store} --dsn ..`, once it was started with --accept history; then start it so again",
 }
 # What doesn't make the copy wrong by itself.
 UNWATCHED = "unwatched"
 UNWATCHED_CURE = "`pgsub-connect verify --store {store} --dsn ..` compares the copy; then start it with --accept unwatched"
 COMPARED = "`pgsub-connect verify --repair --store {store} --dsn ..`, once it was started with --accept {kind}"
+# What the start that accepts it finds again.
+AGAIN = ("history", "slot")
 
 
 class Fault(NamedTuple):
@@ -110,6 +111,7 @@ def of_findings(status: dict[str, Any]) -> Iterator[Fault]:
         texts = []
         for kind, text in sorted(found.items()):
             cure = cures.get(kind, COMPARED).format(store=store, kind=kind)
+            cure += "; then start it so again" if kind in AGAIN else ""
             texts.append(f"{kind}: {text}: {cure}" if len(found) > 1 else f"{text}: {cure}")
         yield Fault(f"the copy may be wrong: {', '.join(sorted(found))}", "\n".join(texts))
 

@@ -17,6 +17,7 @@ class Tolerance:
         self.kinds, self.is_strict = frozenset(kinds), is_strict
         # whether nothing is stored that breaks a rule: what was accepted may still have to come
         self.stops = is_strict and not self.accepts(RULE)
+        self.has_used_gap = False
 
     def accepts(self, kind: str) -> bool:
         """Whether what may be wrong in this way is taken as it is."""
@@ -25,11 +26,14 @@ class Tolerance:
 
     def ends_at(self, kind: str) -> bool:
         """Whether the run ends where something of this kind was found."""
+        if kind == "slot" and self.has_used_gap:
+            return False
         return self.is_strict and kind != UNWATCHED and (kind != RULE or self.stops)
 
     def use_gap(self) -> None:
         """A gap was taken as it is: another one isn't."""
         self.kinds -= {"gap", "slot", "all"}
+        self.has_used_gap = True
 
     def end(self) -> None:
         """Nothing is accepted from now on."""
