@@ -1974,6 +1974,41 @@ BUGS = (
         "",
         ("test_sink_kafka",),
     ),
+    Bug(
+        "a state shows once the file is replaced anyway",
+        "pgsub_connect/status/progress.py",
+        "        self.has_entered.set()\n",
+        "",
+        ("test_reporting",),
+    ),
+    Bug(
+        "the slot of another store is dropped where a store was mistyped",
+        "pgsub_connect/commands/drop.py",
+        "        self.check_store()\n",
+        "",
+        ("test_dropping",),
+    ),
+    Bug(
+        "an alarm stays that went off while it was set",
+        "pgsub_feed/interruption.py",
+        "    try:\n        # (it may have gone off by the time that this returns)\n        signal.setitimer(signal.ITIMER_REAL, seconds, AGAIN)\n",
+        "    signal.setitimer(signal.ITIMER_REAL, seconds, AGAIN)\n    try:\n",
+        ("test_interruption",),
+    ),
+    Bug(
+        "a gap that was accepted is forgotten",
+        "pgsub_connect/follow/fitness.py",
+        "            if not is_wanted:\n                text",
+        "            if False:\n                text",
+        ("test_following",),
+    ),
+    Bug(
+        "a gap that was accepted ends a strict run",
+        "pgsub_connect/stream/common.py",
+        "        self.has_used_gap = True\n",
+        "",
+        ("test_following",),
+    ),
 )
 
 
