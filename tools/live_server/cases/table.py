@@ -21,6 +21,8 @@ from . import (
     copying,
     describing,
     feeding,
+    first_hour,
+    first_words,
     healing,
     indexes,
     kafka,
@@ -110,6 +112,7 @@ THEMES: dict[str, Sequence[Case]] = {
     "waiting": waiting.CASES,
     "sizes": sizes.CASES,
     "altering": (*altering.CASES, *healing.CASES),
+    "first-hour": (*first_hour.CASES, *first_words.CASES),
 }
 
 
