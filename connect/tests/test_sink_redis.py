@@ -1045,8 +1045,18 @@ class Interrupted(unittest.TestCase):
         self.assertTrue(self.calls.is_lost)
 
     def test_the_end_is_passed_over_at_first(self) -> None:
+        real, wanted = signal.setitimer, list[tuple[float, float]]()
+
+        def arm(which: int, seconds: float, again: float = 0.0) -> None:
+            wanted.append((seconds, again))
+            if not seconds:
+                real(which, seconds)
+
         class Slow:
+            """It is removed when the end comes, however long it took to get there."""
+
             def __del__(self) -> None:
+                real(signal.ITIMER_REAL, *wanted[-1])
                 time.sleep(60)
 
         def read() -> None:
@@ -1055,10 +1065,14 @@ class Interrupted(unittest.TestCase):
 
         self.checks = self.stop
         self.library.read_response.side_effect = read
-        with mock.patch("pgsub_feed.sinks.redis_calls.GRACE", 0.05), mock.patch(
-            "pgsub_feed.interruption.AGAIN", 0.05
-        ), mock.patch("sys.unraisablehook") as passed_over, self.assertRaises(Stopped):
-            self.calls.run([("PING",)])
+        grace = mock.patch("pgsub_feed.sinks.redis_calls.GRACE", 0.05)
+        again, timer = (
+            mock.patch("pgsub_feed.interruption.AGAIN", 0.05),
+            mock.patch("signal.setitimer", arm),
+        )
+        with grace, again, timer, mock.patch("sys.unraisablehook") as passed_over:
+            with self.assertRaises(Stopped):
+                self.calls.run([("PING",)])
         self.assertTrue(passed_over.called)
         self.assertEqual(signal.getitimer(signal.ITIMER_REAL), (0, 0))
 
