@@ -309,7 +309,9 @@ class Probes(unittest.TestCase):
         child, terminal = pty.fork()
         if not child:
             os.environ.update({"TERM": "xterm", **environment})
-            os.execv(sys.executable, [sys.executable, COMMAND, "status", "--watch", *self.named()])
+            # (a busy machine may take longer to start it than a sign of life is fresh)
+            words = ["status", "--watch", "--status-file", self.path, "--max-age", "1h"]
+            os.execv(sys.executable, [sys.executable, COMMAND, *words])
         said, late = b"", threading.Timer(60, os.kill, (child, signal.SIGKILL))
         late.start()
         self.addCleanup(late.cancel)
@@ -322,9 +324,6 @@ class Probes(unittest.TestCase):
                 said += more
         self.assertEqual(os.waitstatus_to_exitcode(os.waitpid(child, 0)[1]), 0)
         return said.decode()
-
-    def named(self) -> list[str]:
-        return ["--status-file", self.path]
 
     def test_a_screen(self) -> None:
         for key in (b"q", b"\x03"):
