@@ -160,9 +160,9 @@ fn it_stops_before_another_commit(rt: HostRuntime) {
 fn noted(rt: &(impl Abort + AllocGlobal)) -> MemoryFile {
     let opened = Notes::open(rt.alloc(), MemoryFile::holding(Vec::new(rt.alloc())));
     let mut notes = opened.expect(rt, "open").notes;
-    for (lsn, xid) in [(8, 10), (24, 20)] {
+    for (lsn, xid) in [(8u64, 10), (24, 20)] {
         let commit = Commit {
-            end: lsn + 8,
+            end: lsn.saturating_add(8),
             lsn,
             xid,
             time: 0,
