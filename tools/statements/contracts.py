@@ -16,7 +16,8 @@ CLAUSE = re.compile(rf"^ *(ensures|requires) (?:(\w+) )?({BRACES})", re.M)
 FUNCTION = re.compile(r"^ *(pub )?(?:const )?fn (\w+)", re.M)
 # what begins an impl or a trait, and which type it is of
 OWNER = re.compile(
-    r"^(?:pub(?:\(crate\))? )?(?:impl(?:<[^{;]*?>)?|trait)\s+(?:[\w:<>, ]+\s+for )?(?:\w+::)*(\w+)", re.M
+    r"^(?:pub(?:\(crate\))? )?(?:impl(?:<[^{;]*?>)?|trait)\s+(?:[\w:<>, ]+\s+for )?(?:\w+::)*(\w+)",
+    re.M,
 )
 BODY = re.compile(r"^ *\{|;$|\{$", re.M)
 
