@@ -3,3 +3,4 @@ pub mod Loaded
 pub mod NewFile
 pub mod Recorded
 pub mod Fed
+pub mod Left

@@ -25,5 +25,5 @@ pub use file_folder::FileFolder;
 pub use filed::{Filed, apply, dump, follow};
 pub use laws::new_files_are_empty;
 pub use load_plan::LoadPlan;
-pub use opening::{FeedOpening, LeftUnopened, Opening, StoreFile, TrustedFile};
+pub use opening::{AsLeft, FeedOpening, LeftUnopened, Opening, StoreFile, TrustedFile};
 pub use session_reader::SessionReader;

@@ -12,6 +12,7 @@ ghost use Rattle.pgfeed.specs.declared.fault.FeedFault.{FeedFault as FeedReason}
 ghost use Rattle.pgfeed.specs.declared.feed.Feed.{Feed as FeedValue};
 ghost use Rattle.pgstore.specs.Reopened.{HoldsContent, IsAsLeft, StaysAsFound};
 ghost use Rattle.pgstore.specs.StoreValue.{begun_at, IsHonest, Serves};
+ghost use Rattle.pgruns.specs.Left.{nothing_is_left};
 
 use crate::new_file::{make_file, ready_file};
 use pgapply::StoreFault;
@@ -111,32 +112,27 @@ impl<F: Start> Opening<F> for StoreFile<'_, F> {
     }
 }
 
+/// What files hold that a run of a store left so.
+pub trait AsLeft: Start {
+    /// It is as a run left it.
+    ghost left: { IsAsLeft (image_at Self.Start) };
+}
+
+/// For `main`, to which any file may come: nobody but its caller knows what that holds.
+impl AsLeft for Unknown {
+    ghost left = { nothing_is_left };
+}
+
 /// The store in a file that a run of a store left as it is: opened as
 /// `Store::open_trusted_or_return` opens it, which reads no row.
 ///
-/// That the files are as a run left them is the premise of all that is said of a run over it.
-pub struct TrustedFile<'p, F: Start> {
-    file: StoreFile<'p, F>,
-    ghost left: { IsAsLeft (image_at F.Start) },
+/// That the files are as a run left them (`F`) is the premise of all that is said of a run over it.
+pub struct TrustedFile<'p, F: AsLeft> {
+    /// The file.
+    pub file: StoreFile<'p, F>,
 }
 
-impl<'p, F: Start> TrustedFile<'p, F> {
-    /// The store in this file, where what `start` stands for is as a run left it.
-    pub fn new(file: StoreFile<'p, F>) -> TrustedFile<'p, F>
-        requires { IsAsLeft (image_at F.Start) }
-    {
-        TrustedFile { file }
-    }
-}
-
-impl<'p> TrustedFile<'p, Unknown> {
-    /// The store in any file, for `main`: nobody but its caller knows what it holds.
-    pub fn of_any(file: StoreFile<'p, Unknown>) -> TrustedFile<'p, Unknown> {
-        TrustedFile::new(file)
-    }
-}
-
-impl<F: Start> Opening<F> for TrustedFile<'_, F> {
+impl<F: AsLeft> Opening<F> for TrustedFile<'_, F> {
     ghost fails = { λ _ f. IsOwnFault f ⊎ (f ≡ NotAStore) };
 
     fn open(

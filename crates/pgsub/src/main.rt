@@ -345,7 +345,7 @@ fn run_live<R: SessionReader + Drop, W: Write + Drop, D: Folder + Supposing + Dr
     };
     let file = store_file(rt, path, cache_of(task), true);
     if is_trusted(task) {
-        let opening = TrustedFile::of_any(file);
+        let opening = TrustedFile { file };
         let (status, left, feed, _unloaded) = follow(rt.alloc(), opening, plan, &mut io);
         return (status_of((status, left, feed)), io.link);
     }

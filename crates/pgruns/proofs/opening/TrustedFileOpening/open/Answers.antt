@@ -1,4 +1,4 @@
 use Rattle.pgruns.proofs.opening.TrustedFileOpening.open.Goals as goal
 
 pub open_trusted_or_return-requires : goal.open_trusted_or_return-requires
-open_trusted_or_return-requires g c = c.args.self.left
+open_trusted_or_return-requires g c = g.met.F.AsLeft.left
