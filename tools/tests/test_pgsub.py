@@ -51,7 +51,9 @@ echo "${HOME-no home} $(cat here) $(pwd) $@"
 touch made
 exit 5
 """
-UNPROVED = "pgsub: this program is not proved: it is compiled with checks; that takes three minutes\n"
+UNPROVED = (
+    "pgsub: this program is not proved: it is compiled with checks; that takes three minutes\n"
+)
 KEPT = "pgsub: this program is not proved: it was compiled with checks\n"
 
 
