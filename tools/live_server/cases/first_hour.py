@@ -27,8 +27,9 @@ from .stops import fill
 # How long the first rows may take after the copy, in parts of its time and at least in seconds; and
 # how long what heals by itself.
 PART, LEAST, HEALS = 0.1, 1.0, 45
-# How many rows show that.
-ROWS = 30_000
+# How many rows show that. (With a program that is compiled with checks, the copy takes so long that
+# its tenth says little.)
+ROWS = 100_000
 # How often a filter is killed until `status` tells it.
 KILLS = 4
 
@@ -232,14 +233,14 @@ def leaves_nothing(place: Place) -> None:
 
 
 def full_disk(place: Place) -> None:
-    """With a feed a full disk is told by that name, by `status` too, and passes."""
+    """With a feed a full disk is told as what it is, by `status` too, and passes."""
     place.stock()
     disk = place.small_disk(16)
     place.store, filler = disk / "copy.db", disk / "filler"
     child = with_tables(place, "--status-file", str(disk / "status"))
     fill(filler)
     place.run("INSERT INTO stock SELECT it, it FROM generate_series(1000, 9000) it")
-    child.wait_for("the disk is full")
+    child.wait_for(f"the disk of {place.store} has 0 bytes left")
     found = command(place, "status", "--status-file", str(disk / "status"))
     demand(found[0] == 1 and "full" in found[1], f"status: {found}")
     filler.unlink()
