@@ -59,6 +59,10 @@ PLACEHOLDER = re.compile(
 PARTS = ("src", "specs", "proofs", "must-fail", "mutants")
 OPTION = re.compile(r"(?<![\w-])--[a-z][a-z0-9-]*")
 LONG = re.compile(r"\.long\(\s*\"([a-z0-9-]+)\"")
+# An option of the connector is called as its field is.
+FIELD = re.compile(
+    r"^    (\w+):[^=\n]*= (?:\w+\.)?(?:option|flag|file|repeated|\w+_option|longest)\(", re.M
+)
 # The schemes of what sinks write to, in the connector.
 SCHEMES = re.compile(r"^SCHEMES = \{(.*?)^\}", re.M | re.S)
 SCHEME = re.compile(r'"([a-z+]+)"[,)]')
@@ -270,6 +274,7 @@ def options_in(tree: Tree, files: list[str]) -> set[str]:
     for file in files:
         text = tree.text(file)
         found.update(OPTION.findall(text), (f"--{it}" for it in LONG.findall(text)))
+        found.update("--" + it.replace("_", "-") for it in FIELD.findall(text))
     if any(it.startswith("crates/pgcommand/") for it in files):
         found.add("--version")
     return found
