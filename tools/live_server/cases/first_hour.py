@@ -232,6 +232,11 @@ def leaves_nothing(place: Place) -> None:
     demand(not left, f"left are {left}")
 
 
+def tells_full_disk(place: Place, disk: Path) -> bool:
+    status, said = command(place, "status", "--status-file", str(disk / "status"))
+    return status == 1 and "full" in said
+
+
 def full_disk(place: Place) -> None:
     """With a feed a full disk is told as what it is, by `status` too, and passes."""
     place.stock()
@@ -241,8 +246,7 @@ def full_disk(place: Place) -> None:
     fill(filler)
     place.run("INSERT INTO stock SELECT it, it FROM generate_series(1000, 9000) it")
     child.wait_for(f"the disk of {place.store} has 0 bytes left")
-    found = command(place, "status", "--status-file", str(disk / "status"))
-    demand(found[0] == 1 and "full" in found[1], f"status: {found}")
+    wait_until(lambda: tells_full_disk(place, disk), "status telling the full disk", HEALS)
     filler.unlink()
     have(place, "stock", 8003)
     child.kill()

@@ -123,7 +123,7 @@ def on_a_terminal(place: Place) -> None:
     """A copy tells on a terminal how many rows it has, how fast it is, and the time left."""
     place.run(
         "CREATE TABLE stock (sku int PRIMARY KEY, note text)",
-        f"INSERT INTO stock SELECT it, repeat('x', 50) FROM generate_series(1, {ROWS}) it",
+        f"INSERT INTO stock SELECT it, repeat('x', 50) FROM generate_series(1, {10 * ROWS}) it",
         "ANALYZE stock",
     )
     words = [str(place.options.connect), "follow", "--dsn", place.dsn(), "--store"]
