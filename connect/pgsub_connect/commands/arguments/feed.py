@@ -26,6 +26,7 @@ NEEDS = {
     **dict.fromkeys(("init", "digests", "indexes"), "tables"),
     **dict.fromkeys((f"feed_{it}" for it in OF_FEED), "feed"),
 }
+FEED_BASE = "keep the rows of the initial copy as files of the feed, too, yes or no (default: yes where --feed is named)"
 
 
 @dataclasses.dataclass(frozen=True)
@@ -56,12 +57,7 @@ class FeedOptions:
         "remove segments that are older, as 7d, and that all readers have read (default: as soon as all readers have, where there are any)",
         type=duration,
     )
-    feed_base: str = option(
-        "keep the rows of the initial copy as files of the feed, too, yes or no (default: yes where --feed is named)",
-        "",
-        choices=["yes", "no"],
-        value="WHETHER",
-    )
+    feed_base: str = option(FEED_BASE, "", choices=["yes", "no"], value="WHETHER")
     tables: str = file(
         "keep ordinary tables in this file of SQLite, by `pgsub-connect tables` beside the follower (default: those that the store has had); the feed is STORE.feed by default",
         "",
