@@ -135,6 +135,11 @@ class Place:
     ) -> Child:
         return self.started(self.words(*more, dsn=dsn, store=store), environment)
 
+    def follow_words(self) -> list[str]:
+        """The words that follow into the store as a user writes them, without the program's."""
+        connect, store = str(self.options.connect), str(self.store)
+        return [connect, "follow", "--dsn", self.dsn(), "--store", store]
+
     def started(self, words: list[str], environment: Mapping[str, str] = {}) -> Child:
         child = Child(words, self.log, environment)
         self.closing.callback(child.kill)

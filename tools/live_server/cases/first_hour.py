@@ -41,15 +41,7 @@ def demand(is_so: bool, text: str) -> None:
 
 def follow(place: Place, *more: str) -> Child:
     """A follower of the store."""
-    words = [
-        str(place.options.connect),
-        "follow",
-        "--dsn",
-        place.dsn(),
-        "--store",
-        str(place.store),
-    ]
-    return place.started([*words, "--pgsub", str(place.options.program), *more])
+    return place.started([*place.follow_words(), "--pgsub", str(place.options.program), *more])
 
 
 def call(place: Place, *words: str | Path) -> tuple[int, str]:

@@ -126,8 +126,7 @@ def on_a_terminal(place: Place) -> None:
         f"INSERT INTO stock SELECT it, repeat('x', 50) FROM generate_series(1, {10 * ROWS}) it",
         "ANALYZE stock",
     )
-    words = [str(place.options.connect), "follow", "--dsn", place.dsn(), "--store"]
-    words += [str(place.store), "--pgsub", str(place.options.program), "--create"]
+    words = [*place.follow_words(), "--pgsub", str(place.options.program), "--create"]
     said = said_on_a_terminal([*words, "--until", "now"])
     demand(bool(re.search(r"\d+ of \d+ rows, \d+ a second, .* left", said)), said)
 

@@ -365,14 +365,7 @@ def goes_on_by_the_store(place: Place) -> None:
     rows, place.slot = place.folder / "rows.db", "app"
     place.follow("--create", "--tables", str(rows))
     place.change()
-    words = [
-        str(place.options.connect),
-        "follow",
-        "--dsn",
-        place.dsn(),
-        "--store",
-        str(place.store),
-    ]
+    words = place.follow_words()
     child = place.started([*words, "--slot", "pgsub"])
     place.has_ended(child, UNFIT, "follows the slot app, and not pgsub: leave --slot out")
     child = place.started([*words, "--pgsub", str(place.options.program)])
