@@ -8,10 +8,11 @@ ghost use Rattle.pgapply.specs.Missing.{Counts};
 ghost use Rattle.pgapply.specs.Noted.{noted, KeepsNotes};
 ghost use Rattle.pgapply.specs.Stored.{IsOwnFault};
 ghost use Rattle.pgapply.specs.Taken.{Folds, LeavesFold, LeavesStaged, Begins, Settles, Stays};
-ghost use Rattle.pgapply.specs.Taken.{RefusesWork, Shows};
+ghost use Rattle.pgapply.specs.Taken.{RefusesWork, Shows, HearsOnly};
 
 use crate::commit::Commit;
 use crate::fault::StoreFault;
+use crate::message::LogicalMessage;
 use crate::misses::Misses;
 use crate::replica_store::ReplicaStore;
 use crate::rows::DumpRow;
@@ -212,6 +213,31 @@ impl<C: ReplicaStore + Drop> ReplicaStore for Watched<C> {
     {
         self.note(work)?;
         self.store.take(end, work)
+    }
+
+    /// Hands a message on to the store within. What is noted stays.
+    fn hear(&mut self, message: &LogicalMessage<'_>)
+        ensures noted { self.new.changed.items ≡ self.old.changed.items }
+        ensures hears { HearsOnly (λ s. C.serves s.store) (λ s. C.is_honest s.store)
+            (λ s tables. C.holds s.store tables) (λ s tables. C.stages s.store tables)
+            (λ s. C.place s.store) (λ s. C.reach s.store) (λ s. C.missed s.store)
+            (λ s. C.stages_missed s.store) (λ s other. C.reopens s.store other.store) self.old
+            self.new }
+    {
+        self.store.hear(message);
+    }
+
+    /// Lets the store within forget what it heard. What is noted stays: `Watched::forget` is the
+    /// call that forgets that.
+    fn forget(&mut self)
+        ensures noted { self.new.changed.items ≡ self.old.changed.items }
+        ensures forgets { HearsOnly (λ s. C.serves s.store) (λ s. C.is_honest s.store)
+            (λ s tables. C.holds s.store tables) (λ s tables. C.stages s.store tables)
+            (λ s. C.place s.store) (λ s. C.reach s.store) (λ s. C.missed s.store)
+            (λ s. C.stages_missed s.store) (λ s other. C.reopens s.store other.store) self.old
+            self.new }
+    {
+        self.store.forget();
     }
 
     /// All rows of the store within. What is noted stays.
