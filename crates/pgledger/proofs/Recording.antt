@@ -9,6 +9,7 @@ use Rattle.std.specs.List.{AllByRecursion}
 use Rattle.pgapply.specs.declared.commit.About.{About}
 use Rattle.pgapply.specs.Value.{Tables}
 use Rattle.pgapply.specs.Apply.{Change, fold_changes}
+use Rattle.pgledger.specs.declared.heard.Heard.{Heard}
 use Rattle.pgledger.specs.Images.{images}
 use Rattle.pgledger.specs.Entries.{Entry, entry_of, last_end, LeadTo}
 use Rattle.pgledger.specs.Ledgers.{Appends, AppendsAtMost, CutsAt, Keeps, Rests, StaysOrSticks}
@@ -45,20 +46,20 @@ ends : (es : List Entry) (t : Tables) (at : ℕ) (t' : Tables) (at' : ℕ) → L
 ends [] t at t' at' l = sym l.1
 ends (e ∷ es) t at t' at' l = ends es l.1.2.0 e.end t' at' l.1.2.2
 
-goes_on : (es : List Entry) (t : Tables) (at : ℕ) (t' : Tables) (at' end : ℕ) (about : Option About) (changes : List Change) (next : Tables)
-    → LeadTo t at es t' at' → at' < end → fold_changes t' changes ≡ Ok next
-    → LeadTo t at (es ++ entry_of end about changes (images t' changes) ∷ []) next end
-goes_on [] t at t' at' end about changes next l later e =
+goes_on : (es : List Entry) (t : Tables) (at : ℕ) (t' : Tables) (at' end : ℕ) (about : Option About) (messages : List Heard)
+    (changes : List Change) (next : Tables) → LeadTo t at es t' at' → at' < end → fold_changes t' changes ≡ Ok next
+    → LeadTo t at (es ++ entry_of end about messages changes (images t' changes) ∷ []) next end
+goes_on [] t at t' at' end about messages changes next l later e =
     let place = l.1 in (
       omega arith,
       (
         changes,
-        ap (λ (x : Tables). entry_of end about changes (images x changes)) l.0,
+        ap (λ (x : Tables). entry_of end about messages changes (images x changes)) l.0,
         (next, subst (λ (x : Tables). fold_changes x changes ≡ Ok next) l.0 e, (refl, refl)),
       ),
     )
-goes_on (x ∷ es) t at t' at' end about changes next l later e =
-    (l.0, (l.1.0, l.1.1, (l.1.2.0, l.1.2.1, goes_on es l.1.2.0 x.end t' at' end about changes next l.1.2.2 later e)))
+goes_on (x ∷ es) t at t' at' end about messages changes next l later e =
+    (l.0, (l.1.0, l.1.1, (l.1.2.0, l.1.2.1, goes_on es l.1.2.0 x.end t' at' end about messages changes next l.1.2.2 later e)))
 
 one_more : (P : Entry → Type 0) (es : List Entry) (e : Entry) → AllByRecursion P es → P e → AllByRecursion P (es ++ e ∷ [])
 one_more P [] e all p = (p, tt)
@@ -69,7 +70,7 @@ append_twice [] b c = refl
 append_twice (x ∷ a) b c = ap (λ l. x ∷ l) (append_twice a b c)
 
 module _ {L : Type 0} (begins : L → ℕ) (keeps : L → List Entry → Type 0) (outlasts : L → ℕ → Type 0) (is_stuck : L → Bool)
-    (is_wanting : L → Bool) (reopens : L → ℕ → L → Type 0) where
+    (is_wanting is_hearing : L → Bool) (reopens : L → ℕ → L → Type 0) where
   -- ---- a ledger that begins, and one that is opened anew
 
   pub begun : (l : L) (tables : Tables) (place reach : ℕ) → keeps l [] → begins l ≡ place → outlasts l place
@@ -111,7 +112,7 @@ module _ {L : Type 0} (begins : L → ℕ) (keeps : L → List Entry → Type 0)
 
   -- ---- what becomes of a ledger in a call
 
-  module _ (old new : L) (rests : Rests begins is_wanting outlasts reopens old new) (tables : Tables) (place : ℕ) where
+  module _ (old new : L) (rests : Rests begins is_wanting is_hearing outlasts reopens old new) (tables : Tables) (place : ℕ) where
     -- it keeps what it kept, and may be stuck then
     pub kept_records : (reach reach' : ℕ) → Keeps keeps old new
         → (is_stuck new ≡ false → reach' ≡ place → (is_stuck old ≡ false) × (reach ≡ place))
@@ -167,6 +168,25 @@ module _ {L : Type 0} (begins : L → ℕ) (keeps : L → List Entry → Type 0)
         subst (λ p. Records begins keeps outlasts is_stuck new tables p reach') (sym is)
         (kept_records reach reach' keep (λ stands _. free stands) k)
 
+    -- it keeps what it kept, and stays free if it is
+    module _ (keep : Keeps keeps old new) (free : is_stuck new ≡ false → is_stuck old ≡ false) (reach : ℕ) where
+      pub still_records : Records begins keeps outlasts is_stuck old tables place reach
+          → Records begins keeps outlasts is_stuck new tables place reach
+      still_records k = kept_records reach reach keep (λ stands here. (free stands, here)) k
+
+      pub still_plans : Plans begins keeps outlasts is_stuck old tables place reach
+          → Plans begins keeps outlasts is_stuck new tables place reach
+      still_plans h = record {
+        held = λ here. still_records (h.held here);
+        staged = λ stands. let k = h.staged (free stands) in
+            record {
+              base = k.base;
+              told = k.told;
+              kept = keep k.told k.kept;
+              leads = subst (λ b. LeadTo k.base b k.told tables reach) (sym rests.begins_is) k.leads;
+            };
+      }
+
     -- a commit was refused
     module _ (end : ℕ) (later : place < end) (adds : AppendsAtMost keeps end old new) (untold : StaysOrSticks is_stuck old new) where
       pub refused_records : (reach : ℕ) → Records begins keeps outlasts is_stuck old tables place reach
@@ -189,16 +209,16 @@ module _ {L : Type 0} (begins : L → ℕ) (keeps : L → List Entry → Type 0)
       ]
 
     -- a commit more is staged
-    pub more_staged : (end : ℕ) (about : Option About) (changes : List Change) (next : Tables) → place < end
+    pub more_staged : (end : ℕ) (about : Option About) (messages : List Heard) (changes : List Change) (next : Tables) → place < end
         → fold_changes tables changes ≡ Ok next
-        → Appends keeps (entry_of end about changes (images tables changes)) old new
+        → Appends keeps (entry_of end about messages changes (images tables changes)) old new
         → Stages begins keeps outlasts is_stuck old tables place → Stages begins keeps outlasts is_stuck new next end
-    more_staged end about changes next later e adds k = record {
+    more_staged end about messages changes next later e adds k = record {
       base = k.base;
-      told = k.told ++ entry_of end about changes (images tables changes) ∷ [];
+      told = k.told ++ entry_of end about messages changes (images tables changes) ∷ [];
       kept = adds k.told k.kept;
-      leads = subst (λ b. LeadTo k.base b (k.told ++ entry_of end about changes (images tables changes) ∷ []) next end)
-          (sym rests.begins_is) (goes_on k.told k.base (begins old) tables place end about changes next k.leads later e);
+      leads = subst (λ b. LeadTo k.base b (k.told ++ entry_of end about messages changes (images tables changes) ∷ []) next end)
+          (sym rests.begins_is) (goes_on k.told k.base (begins old) tables place end about messages changes next k.leads later e);
     }
 
     -- all that is staged is taken

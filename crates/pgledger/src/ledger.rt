@@ -1,17 +1,21 @@
 //! What keeps the commits of a store, each with the images of its changes.
 
-ghost use Rattle.std.specs.Prelude.{◌≡◌, ℕ, List, Bool, true, false, OnOk, OnErr, IfErr};
+ghost use Rattle.std.specs.Prelude.{◌≡◌, [], ℕ, List, Bool, true, false, Option, Some, OnOk, OnErr};
+ghost use Rattle.std.specs.Prelude.{IfErr, IsSome};
 ghost use Rattle.pgapply.specs.Stored.{IsOwnFault};
-ghost use Rattle.pgledger.specs.Entries.{Entry, entry_of};
+ghost use Rattle.pgledger.specs.Entries.{Entry, entry_of, messages_of};
 ghost use Rattle.pgledger.specs.Ledgers.{Appends, AppendsAtMost, CutsAt, Keeps, Rests, Syncs};
-ghost use Rattle.pgledger.specs.Ledgers.{UnaskedKeeps};
+ghost use Rattle.pgledger.specs.Ledgers.{Hears, UnaskedKeeps};
 
 use crate::image::Image;
-use pgapply::{Commit, StoreFault};
+use pgapply::{Commit, LogicalMessage, StoreFault};
 
 /// A ledger of commits, as a file or a queue that others read. A store hands it each commit that it
 /// stages, and has it synced before it stores them. So it never has less than the store, and more
 /// by staged commits alone.
+///
+/// It may hear the messages too that a transaction wrote. They are told with the commit that is
+/// appended next, all of them: where it couldn't keep one, it rejects that commit.
 ///
 /// A call that fails leaves the ledger stuck: it accepts nothing more until it is opened again, at
 /// the store's position, and what comes after that is truncated. `NoLedger` keeps nothing, and is
@@ -19,6 +23,8 @@ use pgapply::{Commit, StoreFault};
 ///
 /// PostgreSQL documentation, Logical Replication, Subscription.
 pub trait Ledger {
+    ghost use Rattle.pgledger.specs.declared.heard.Heard.{Heard};
+
     /// The LSN at which it begins.
     ghost begins: { Self → ℕ };
 
@@ -34,6 +40,13 @@ pub trait Ledger {
     /// It wants the images of changes.
     ghost is_wanting: { Self → Bool };
 
+    /// It hears messages.
+    ghost is_hearing: { Self → Bool };
+
+    /// What it has heard since the last commit that it accepted, or was told to forget; none where
+    /// it couldn't keep all of it.
+    ghost heard: { Self → Option (List Heard) };
+
     /// The other one was opened at this LSN, on what a crash at this moment may leave of this one.
     ghost reopens: { Self → ℕ → Self → Type 0 };
 
@@ -45,22 +58,43 @@ pub trait Ledger {
     fn wants(&self) -> bool
         ensures { result ≡ is_wanting self.now };
 
-    /// Appends a commit with one image for each of its changes, or with none where it wants none.
-    /// It isn't synced.
+    /// Hears a message of the transaction whose commit is appended next. One that hears none stays
+    /// as it is.
+    fn hear(&mut self, message: &LogicalMessage<'_>)
+        ensures hears { is_hearing self.old ≡ true →
+            Hears is_stuck heard message.now self.old self.new }
+        ensures deaf { is_hearing self.old ≡ false → self.new ≡ self.old }
+        ensures was_free { is_stuck self.new ≡ false → is_stuck self.old ≡ false }
+        ensures kept { Keeps keeps self.old self.new }
+        ensures rests { Rests begins is_wanting is_hearing outlasts reopens self.old self.new };
+
+    /// Drops what it has heard: another transaction begins.
+    fn forget(&mut self)
+        ensures forgot { heard self.new ≡ Some [] }
+        ensures stuck { is_stuck self.new ≡ is_stuck self.old }
+        ensures kept { Keeps keeps self.old self.new }
+        ensures rests { Rests begins is_wanting is_hearing outlasts reopens self.old self.new };
+
+    /// Appends a commit with the messages that were heard, and with one image for each of its
+    /// changes, or with none where it wants none. It isn't synced.
     ///
     /// # Errors
     ///
-    /// `Memory` or `Refused`, also where it is stuck, and where the commit doesn't end after the
-    /// last one.
+    /// `Memory` or `Refused`, also where it is stuck, where the commit doesn't end after the last
+    /// one, and where not all messages were kept.
     fn append(&mut self, commit: &Commit<'_, '_>, images: &[Image<'_>]) -> Result<(), StoreFault>
         ensures appended { OnOk result (Appends keeps (entry_of commit.now.end commit.now.about
-            commit.now.work.now.changes images.now) self.old self.new) }
+            (messages_of (heard self.old)) commit.now.work.now.changes images.now) self.old
+            self.new) }
+        ensures all_heard { OnOk result (IsSome (heard self.old)) }
+        ensures forgot { OnOk result (heard self.new ≡ Some []) }
         ensures was_free { OnOk result (is_stuck self.old ≡ false) }
         ensures free { OnOk result (is_stuck self.new ≡ false) }
         ensures refused { OnErr result (AppendsAtMost keeps commit.now.end self.old self.new) }
         ensures stuck { OnErr result (is_stuck self.new ≡ true) }
         ensures fault { IfErr result IsOwnFault }
-        ensures rests { Rests begins is_wanting outlasts reopens self.old self.new };
+        ensures rests { Rests begins is_wanting is_hearing outlasts reopens self.old
+            self.new };
 
     /// Makes all that was appended outlast a crash.
     ///
@@ -70,18 +104,28 @@ pub trait Ledger {
     fn sync(&mut self) -> Result<(), StoreFault>
         ensures synced { OnOk result (Syncs keeps begins outlasts self.old self.new) }
         ensures kept { Keeps keeps self.old self.new }
+        ensures heard { heard self.new ≡ heard self.old }
         ensures was_free { OnOk result (is_stuck self.old ≡ false) }
         ensures free { OnOk result (is_stuck self.new ≡ false) }
         ensures stuck { OnErr result (is_stuck self.new ≡ true) }
         ensures fault { IfErr result IsOwnFault }
-        ensures rests { Rests begins is_wanting outlasts reopens self.old self.new };
+        ensures rests { Rests begins is_wanting is_hearing outlasts reopens self.old
+            self.new };
 
     /// Accepts nothing more from now on: commits that it has were not stored by the store, or may
     /// not have been.
     fn stick(&mut self)
         ensures kept { Keeps keeps self.old self.new }
+        ensures heard { heard self.new ≡ heard self.old }
         ensures stuck { is_stuck self.new ≡ true }
-        ensures rests { Rests begins is_wanting outlasts reopens self.old self.new };
+        ensures rests { Rests begins is_wanting is_hearing outlasts reopens self.old
+            self.new };
+
+    /// The last cause of a `Refused`, as a text for the operator, where it is known. No clause
+    /// speaks of it.
+    fn cause(&self) -> Option<&str> {
+        None
+    }
 
     /// Opened again at an LSN, it keeps the entries up to the one that ends there.
     ghost cuts: { CutsAt keeps begins outlasts reopens };
@@ -121,7 +165,7 @@ impl Supposing for NoLedger {
 }
 
 impl Ledger for NoLedger {
-    ghost use Rattle.std.specs.Prelude.{⊤, refl};
+    ghost use Rattle.std.specs.Prelude.{⊤, refl, [], Some};
 
     ghost begins = { λ _. 0 };
 
@@ -133,6 +177,10 @@ impl Ledger for NoLedger {
 
     ghost is_wanting = { λ _. false };
 
+    ghost is_hearing = { λ _. false };
+
+    ghost heard = { λ _. Some [] };
+
     ghost reopens = { λ _ _ _. ⊤ };
 
     fn is_stuck(&self) -> bool {
@@ -142,6 +190,10 @@ impl Ledger for NoLedger {
     fn wants(&self) -> bool {
         false
     }
+
+    fn hear(&mut self, _message: &LogicalMessage<'_>) {}
+
+    fn forget(&mut self) {}
 
     fn append(
         &mut self,

@@ -1,12 +1,13 @@
 //! A store that gives a ledger the images of the commits that it stages.
 
-ghost use Rattle.std.specs.Prelude.{◌≡◌, ◌<◌, ◌⊎◌, false, true, OnOk, OnErr, IfErr};
+ghost use Rattle.std.specs.Prelude.{◌≡◌, ◌<◌, ◌⊎◌, [], false, true, Some, OnOk, OnErr, IfErr};
+ghost use Rattle.std.specs.Prelude.{IsSome};
 ghost use Rattle.pgapply.specs.Value.{Tables};
 ghost use Rattle.pgapply.specs.Stored.{IsOwnFault};
 ghost use Rattle.pgapply.specs.Missing.{Counts};
 ghost use Rattle.pgapply.specs.Taken.{Folds, LeavesStaged, Settles, Stays, RefusesWork};
 ghost use Rattle.pgledger.specs.Images.{images};
-ghost use Rattle.pgledger.specs.Entries.{entry_of};
+ghost use Rattle.pgledger.specs.Entries.{entry_of, messages_of};
 ghost use Rattle.pgledger.specs.Ledgers.{Appends, AppendsAtMost, Keeps, Rests, StaysOrSticks};
 ghost use Rattle.pgledger.specs.Ledgers.{Syncs};
 
@@ -22,7 +23,7 @@ use pgapply::{Commit, ReplicaStore, StoreFault};
 /// PostgreSQL documentation, Logical Replication, Subscription.
 pub trait LedgerStore: ReplicaStore {
     /// Stages a commit as `stage` does, and once all its changes are made, appends it to the ledger
-    /// with their images.
+    /// with their images and with the messages that the ledger has heard.
     ///
     /// # Errors
     ///
@@ -64,12 +65,15 @@ pub trait LedgerStore: ReplicaStore {
             Self.ReplicaStore.reopens self.new other → Self.ReplicaStore.reopens self.old other }
         ensures told { Self.ReplicaStore.serves self.new → OnOk result ((tables : Tables) →
             Self.ReplicaStore.stages self.old tables → Appends L.keeps (entry_of commit.now.end
-            commit.now.about commit.now.work.now.changes
+            commit.now.about (messages_of (L.heard ledger.old)) commit.now.work.now.changes
             (images tables commit.now.work.now.changes)) ledger.old ledger.new) }
+        ensures all_heard { OnOk result (IsSome (L.heard ledger.old)) }
+        ensures forgot { OnOk result (L.heard ledger.new ≡ Some []) }
         ensures free { OnOk result (L.is_stuck ledger.new ≡ false) }
         ensures at_most { AppendsAtMost L.keeps commit.now.end ledger.old ledger.new }
         ensures untold { OnErr result (StaysOrSticks L.is_stuck ledger.old ledger.new) }
-        ensures rests { Rests L.begins L.is_wanting L.outlasts L.reopens ledger.old ledger.new };
+        ensures rests { Rests L.begins L.is_wanting L.is_hearing L.outlasts L.reopens ledger.old
+            ledger.new };
 
     /// Syncs the ledger, once, and then stores all that is staged as `settle` does. Where nothing
     /// is staged, nothing is done.
@@ -110,11 +114,13 @@ pub trait LedgerStore: ReplicaStore {
             × (L.is_stuck ledger.old ≡ false)
             × Syncs L.keeps L.begins L.outlasts ledger.old ledger.new) }
         ensures kept { Keeps L.keeps ledger.old ledger.new }
+        ensures heard { L.heard ledger.new ≡ L.heard ledger.old }
         ensures synced { Self.ReplicaStore.place self.old < Self.ReplicaStore.reach self.old →
             OnOk result (Syncs L.keeps L.begins L.outlasts ledger.old ledger.new) }
         ensures was_free { Self.ReplicaStore.place self.old < Self.ReplicaStore.reach self.old →
             OnOk result (L.is_stuck ledger.old ≡ false) }
         ensures free { OnOk result (L.is_stuck ledger.new ≡ L.is_stuck ledger.old) }
         ensures stuck { OnErr result (L.is_stuck ledger.new ≡ true) }
-        ensures rests { Rests L.begins L.is_wanting L.outlasts L.reopens ledger.old ledger.new };
+        ensures rests { Rests L.begins L.is_wanting L.is_hearing L.outlasts L.reopens ledger.old
+            ledger.new };
 }

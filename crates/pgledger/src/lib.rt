@@ -1,5 +1,5 @@
 //! A ledger of commits beside a store: what each commit did to single rows, appended as the store
-//! stages it and synced before the store settles it.
+//! stages it and synced before the store settles it. It may tell the transaction's messages too.
 //!
 //! A store that implements [`LedgerStore`] gives its [`Ledger`] each commit with an [`Image`] of
 //! each change: the whole row before it and the whole row after it, also where the server sent
@@ -17,12 +17,14 @@
 //! PostgreSQL documentation, Logical Replication, Subscription; ALTER TABLE, REPLICA IDENTITY.
 #![tactic(auto)]
 
+mod heard;
 mod image;
 mod laws;
 mod ledger;
 mod ledger_store;
 mod recorded;
 
+pub use heard::Heard;
 pub use image::Image;
 pub use laws::lines_lead;
 pub use ledger::{Ledger, NoLedger, Supposing};

@@ -1,13 +1,17 @@
 //! A store with a ledger of its commits.
 
-ghost use Rattle.std.specs.Prelude.{◌≡◌, [], false};
+ghost use Rattle.std.specs.Prelude.{◌≡◌, ◌<◌, [], true, false, Some, IsSome, OnOk, OnErr, IfErr};
 ghost use Rattle.pgapply.specs.Value.{Tables};
-ghost use Rattle.pgledger.specs.Ledgers.{Keeps, Rests};
+ghost use Rattle.pgapply.specs.Missing.{Counts};
+ghost use Rattle.pgapply.specs.Taken.{Folds, HearsOnly, RefusesWork, Stays};
+ghost use Rattle.pgledger.specs.Images.{images};
+ghost use Rattle.pgledger.specs.Entries.{entry_of, messages_of};
+ghost use Rattle.pgledger.specs.Ledgers.{Appends, Hears, Keeps, Rests};
 ghost use Rattle.pgledger.specs.Records.{Plans, Records};
 
 use crate::ledger::{Ledger, Supposing};
 use crate::ledger_store::LedgerStore;
-use pgapply::{Commit, DumpRow, DumpSink, Misses, ReplicaStore, StoreFault};
+use pgapply::{Commit, DumpRow, DumpSink, LogicalMessage, Misses, ReplicaStore, StoreFault};
 use pglsn::Lsn;
 
 /// A store with a ledger of its commits. It holds what the store holds; and where that is so which
@@ -56,11 +60,12 @@ impl<S: LedgerStore + Drop, L: Ledger + Supposing + Drop> Recorded<S, L> {
     fn leave_staged(&mut self)
         ensures store { self.new.store ≡ self.old.store }
         ensures kept { Keeps L.keeps self.old.ledger self.new.ledger }
+        ensures heard { L.heard self.new.ledger ≡ L.heard self.old.ledger }
         ensures free { L.is_stuck self.new.ledger ≡ false →
             (L.is_stuck self.old.ledger ≡ false)
             × (S.reach self.old.store ≡ S.place self.old.store) }
-        ensures rests { Rests L.begins L.is_wanting L.outlasts L.reopens self.old.ledger
-            self.new.ledger }
+        ensures rests { Rests L.begins L.is_wanting L.is_hearing L.outlasts L.reopens
+            self.old.ledger self.new.ledger }
     {
         if self.store.reached() != self.store.position() {
             self.ledger.stick();
@@ -105,13 +110,79 @@ impl<S: LedgerStore + Drop, L: Ledger + Supposing + Drop> ReplicaStore for Recor
         self.store.unstage();
     }
 
-    fn stage(&mut self, commit: &Commit<'_, '_>) -> Result<(), StoreFault> {
+    /// Stages a commit in the store, which appends it to the ledger with the messages that were
+    /// heard.
+    fn stage(&mut self, commit: &Commit<'_, '_>) -> Result<(), StoreFault>
+        requires { S.reach self.old.store < commit.now.end }
+        ensures told { S.serves self.new.store → OnOk result ((tables : Tables) →
+            S.stages self.old.store tables → Appends L.keeps (entry_of commit.now.end
+            commit.now.about (messages_of (L.heard self.old.ledger)) commit.now.work.now.changes
+            (images tables commit.now.work.now.changes)) self.old.ledger self.new.ledger) }
+        ensures all_heard { OnOk result (IsSome (L.heard self.old.ledger)) }
+        ensures forgot { OnOk result (L.heard self.new.ledger ≡ Some []) }
+        ensures staged { S.serves self.new.store → OnOk result
+            (Folds ⟦<Recorded<S, L> as ReplicaStore>⟧.stages self.old self.new
+            commit.now.work.now.changes) }
+        ensures end { OnOk result (S.reach self.new.store ≡ commit.now.end) }
+        ensures undone { S.serves self.new.store → OnErr result
+            (Stays ⟦<Recorded<S, L> as ReplicaStore>⟧.stages self.old self.new) }
+        ensures reach { OnErr result (S.reach self.new.store ≡ S.reach self.old.store) }
+        ensures fault { S.serves self.new.store → IfErr result
+            (RefusesWork ⟦<Recorded<S, L> as ReplicaStore>⟧.stages self.old
+            commit.now.work.now.changes) }
+        ensures why { S.is_honest self.new.store → S.serves self.old.store → IfErr result
+            (RefusesWork ⟦<Recorded<S, L> as ReplicaStore>⟧.stages self.old
+            commit.now.work.now.changes) }
+        ensures unchanged { S.serves self.new.store →
+            Stays ⟦<Recorded<S, L> as ReplicaStore>⟧.holds self.old self.new }
+        ensures position { S.place self.new.store ≡ S.place self.old.store }
+        ensures counts { S.serves self.new.store → OnOk result
+            (Counts ⟦<Recorded<S, L> as ReplicaStore>⟧.stages self.old
+            commit.now.work.now.changes commit.now.end (S.stages_missed self.old.store)
+            (S.stages_missed self.new.store)) }
+        ensures uncounted { OnErr result
+            (S.stages_missed self.new.store ≡ S.stages_missed self.old.store) }
+        ensures missed { S.missed self.new.store ≡ S.missed self.old.store }
+        ensures served { S.serves self.new.store → S.serves self.old.store }
+        ensures open { S.is_honest self.new.store → OnOk result (S.serves self.new.store) }
+        ensures honest { S.is_honest self.new.store → S.is_honest self.old.store }
+        ensures crash { S.is_honest self.new.store → (other : Recorded S L) →
+            ⟦<Recorded<S, L> as ReplicaStore>⟧.reopens self.new other →
+            ⟦<Recorded<S, L> as ReplicaStore>⟧.reopens self.old other }
+    {
         if self.ledger.is_stuck() {
             return Err(StoreFault::Refused);
         }
         // the call tells that what is staged doesn't end before the position
         let _reached = self.store.reached();
         self.store.stage_with(commit, &mut self.ledger)
+    }
+
+    /// Hands a message on to the ledger.
+    fn hear(&mut self, message: &LogicalMessage<'_>)
+        ensures heard { L.is_hearing self.old.ledger ≡ true →
+            Hears L.is_stuck L.heard message.now self.old.ledger self.new.ledger }
+        ensures hears { HearsOnly ⟦<Recorded<S, L> as ReplicaStore>⟧.serves
+            ⟦<Recorded<S, L> as ReplicaStore>⟧.is_honest ⟦<Recorded<S, L> as ReplicaStore>⟧.holds
+            ⟦<Recorded<S, L> as ReplicaStore>⟧.stages ⟦<Recorded<S, L> as ReplicaStore>⟧.place
+            ⟦<Recorded<S, L> as ReplicaStore>⟧.reach ⟦<Recorded<S, L> as ReplicaStore>⟧.missed
+            ⟦<Recorded<S, L> as ReplicaStore>⟧.stages_missed
+            ⟦<Recorded<S, L> as ReplicaStore>⟧.reopens self.old self.new }
+    {
+        self.ledger.hear(message);
+    }
+
+    /// Lets the ledger drop what it has heard.
+    fn forget(&mut self)
+        ensures forgot { L.heard self.new.ledger ≡ Some [] }
+        ensures forgets { HearsOnly ⟦<Recorded<S, L> as ReplicaStore>⟧.serves
+            ⟦<Recorded<S, L> as ReplicaStore>⟧.is_honest ⟦<Recorded<S, L> as ReplicaStore>⟧.holds
+            ⟦<Recorded<S, L> as ReplicaStore>⟧.stages ⟦<Recorded<S, L> as ReplicaStore>⟧.place
+            ⟦<Recorded<S, L> as ReplicaStore>⟧.reach ⟦<Recorded<S, L> as ReplicaStore>⟧.missed
+            ⟦<Recorded<S, L> as ReplicaStore>⟧.stages_missed
+            ⟦<Recorded<S, L> as ReplicaStore>⟧.reopens self.old self.new }
+    {
+        self.ledger.forget();
     }
 
     fn settle(&mut self) -> Result<(), StoreFault> {
@@ -136,6 +207,9 @@ impl<S: LedgerStore + Drop, L: Ledger + Supposing + Drop> ReplicaStore for Recor
     }
 
     fn cause(&self) -> Option<&str> {
-        self.store.cause()
+        match self.ledger.cause() {
+            Some(cause) => Some(cause),
+            None => self.store.cause(),
+        }
     }
 }

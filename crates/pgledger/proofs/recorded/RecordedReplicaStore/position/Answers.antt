@@ -7,7 +7,7 @@ returns-clause-contains g c serves other r =
     let left = c.position.ensures.contains serves other.store r.0 in (
       λ tables h. (
         left.0 tables h.0,
-        λ so. same_records l.begins l.keeps l.outlasts l.is_stuck l.is_wanting l.reopens
+        λ so. same_records l.begins l.keeps l.outlasts l.is_stuck l.is_wanting l.is_hearing l.reopens
             g.met.L.Ledger.cuts c.args.self.now.ledger other.ledger
             tables _ _ _ _ left.1 (r.1 so) (h.1 so),
       ),

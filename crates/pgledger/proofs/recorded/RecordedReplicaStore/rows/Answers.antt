@@ -9,7 +9,8 @@ returns-clause-unchanged g c serves tables h =
     let old = c.args.self.now in
     let now = c.leave_staged.new.self in (
       c.rows.ensures.unchanged serves tables (subst (λ x. s.holds x tables) (sym c.leave_staged.ensures.store) h.0),
-      λ so. dropped_records l.begins l.keeps l.outlasts l.is_stuck l.is_wanting l.reopens old.ledger now.ledger c.leave_staged.ensures.rests
+      λ so. dropped_records l.begins l.keeps l.outlasts l.is_stuck l.is_wanting l.is_hearing l.reopens
+          old.ledger now.ledger c.leave_staged.ensures.rests
           tables (s.place old.store) (s.reach old.store) (s.place c.rows.new.self) (s.reach c.rows.new.self)
           c.leave_staged.ensures.kept c.leave_staged.ensures.free (c.rows.ensures.position ∙ ap s.place c.leave_staged.ensures.store)
           (h.1 so),

@@ -22,7 +22,7 @@ returns-clause-settled g c serves =
       settles tables h.0,
       λ so. subst (λ p. Records l.begins l.keeps l.outlasts l.is_stuck c.settle_with.new.ledger tables p (s.reach c.settle_with.new.self))
           (sym is)
-          (settled_records l.begins l.keeps l.outlasts l.is_stuck l.is_wanting l.reopens old.ledger c.settle_with.new.ledger
+          (settled_records l.begins l.keeps l.outlasts l.is_stuck l.is_wanting l.is_hearing l.reopens old.ledger c.settle_with.new.ledger
           c.settle_with.ensures.rests tables (s.reach old.store) (s.reach c.settle_with.new.self)
           c.settle_with.ensures.kept both.0 ((h.1 so).staged both.1)),
     ))
@@ -37,7 +37,7 @@ returns-clause-unchanged g c serves =
       stays tables h.0,
       λ so. subst (λ p. Records l.begins l.keeps l.outlasts l.is_stuck c.settle_with.new.ledger tables p (s.reach c.settle_with.new.self))
           (sym is)
-          (kept_records l.begins l.keeps l.outlasts l.is_stuck l.is_wanting l.reopens old.ledger c.settle_with.new.ledger
+          (kept_records l.begins l.keeps l.outlasts l.is_stuck l.is_wanting l.is_hearing l.reopens old.ledger c.settle_with.new.ledger
           c.settle_with.ensures.rests tables (s.place old.store) (s.reach old.store) (s.reach c.settle_with.new.self)
           c.settle_with.ensures.kept (λ stands _. absurd (let never : ⊥ = cc in never)) (h.1 so)),
     ))
@@ -54,9 +54,11 @@ returns-clause-crash g c honest other r =
         (
           λ tables h. (
             all.1.0 tables h.0,
-            λ so. same_records l.begins l.keeps l.outlasts l.is_stuck l.is_wanting l.reopens g.met.L.Ledger.cuts c.settle_with.new.ledger
+            λ so. same_records l.begins l.keeps l.outlasts l.is_stuck l.is_wanting l.is_hearing l.reopens
+                g.met.L.Ledger.cuts c.settle_with.new.ledger
                 other.ledger tables (s.reach old.store) (s.reach old.store) _ _ all.1.1 (r.1 so)
-                (settled_records l.begins l.keeps l.outlasts l.is_stuck l.is_wanting l.reopens old.ledger c.settle_with.new.ledger
+                (settled_records l.begins l.keeps l.outlasts l.is_stuck l.is_wanting l.is_hearing l.reopens
+                old.ledger c.settle_with.new.ledger
                 c.settle_with.ensures.rests tables (s.reach old.store) (s.reach old.store) c.settle_with.ensures.kept all.3
                 ((h.1 so).staged all.2)),
           ),

@@ -1,4 +1,5 @@
 use Rattle.std.proofs.Common.{◌≡◌, ◌<◌, ◌∙◌, false, sym, subst, arith}
+use Rattle.pgledger.specs.Entries.{messages_of}
 use Rattle.pgledger.specs.Records.{Plans, Records, Stages}
 use Rattle.pgledger.proofs.Recording.{more_records, more_staged, of_both, of_err, of_ok}
 use Rattle.pgledger.proofs.Recording.{refused_plans, refused_records}
@@ -24,8 +25,9 @@ returns-clause-staged g c serves =
               let place = c.stage_with.ensures.position in let never : ⊥ = omega (arith, order, later, place, is, here) in never);
           staged = λ stands.
               subst (λ p. Stages l.begins l.keeps l.outlasts l.is_stuck ledger n.0 p) (sym is)
-              (more_staged l.begins l.keeps l.outlasts l.is_stuck l.is_wanting l.reopens old.ledger ledger c.stage_with.ensures.rests tables
-              (s.reach old.store) end c.args.commit.now.about
+              (more_staged l.begins l.keeps l.outlasts l.is_stuck l.is_wanting l.is_hearing l.reopens
+              old.ledger ledger c.stage_with.ensures.rests tables
+              (s.reach old.store) end c.args.commit.now.about (messages_of (l.heard old.ledger))
               c.args.commit.now.work.now.changes n.0 c.requires n.1 (told tables h.0) ((h.1 so).staged free));
         },
       ),
@@ -45,7 +47,8 @@ returns-clause-undone g c serves =
       λ so. subst (λ p. Plans l.begins l.keeps l.outlasts l.is_stuck ledger tables p (s.reach c.stage_with.new.self))
           (sym c.stage_with.ensures.position)
           (subst (λ r. Plans l.begins l.keeps l.outlasts l.is_stuck ledger tables (s.place old.store) r) (sym is)
-          (refused_plans l.begins l.keeps l.outlasts l.is_stuck l.is_wanting l.reopens old.ledger ledger c.stage_with.ensures.rests tables
+          (refused_plans l.begins l.keeps l.outlasts l.is_stuck l.is_wanting l.is_hearing l.reopens
+          old.ledger ledger c.stage_with.ensures.rests tables
           (s.place old.store) c.args.commit.now.end later c.stage_with.ensures.at_most untold (s.reach old.store) (h.1 so))),
     ))
 
@@ -62,10 +65,12 @@ returns-clause-unchanged g c serves tables h =
       λ so. subst (λ p. Records l.begins l.keeps l.outlasts l.is_stuck ledger tables p (s.reach c.stage_with.new.self))
           (sym c.stage_with.ensures.position)
           (of_both c.stage_with.result c.stage_with.ensures.end c.stage_with.ensures.reach c.stage_with.ensures.untold
-          (λ is. more_records l.begins l.keeps l.outlasts l.is_stuck l.is_wanting l.reopens old.ledger ledger c.stage_with.ensures.rests
+          (λ is. more_records l.begins l.keeps l.outlasts l.is_stuck l.is_wanting l.is_hearing l.reopens
+          old.ledger ledger c.stage_with.ensures.rests
           tables (s.place old.store) (s.reach old.store) (s.reach c.stage_with.new.self) end later
           c.stage_with.ensures.at_most (λ _ here. let never : ⊥ = omega (arith, later, is, here) in never) (h.1 so))
           (λ is untold. subst (λ r. Records l.begins l.keeps l.outlasts l.is_stuck ledger tables (s.place old.store) r) (sym is)
-          (refused_records l.begins l.keeps l.outlasts l.is_stuck l.is_wanting l.reopens old.ledger ledger c.stage_with.ensures.rests tables
+          (refused_records l.begins l.keeps l.outlasts l.is_stuck l.is_wanting l.is_hearing l.reopens
+          old.ledger ledger c.stage_with.ensures.rests tables
           (s.place old.store) end later c.stage_with.ensures.at_most untold (s.reach old.store) (h.1 so)))),
     )

@@ -9,7 +9,8 @@ returns-clause-unchanged g c tables h =
     let old = c.args.self.now in
     let now = c.leave_staged.new.self in (
       c.unstage.ensures.unchanged tables (subst (λ x. s.holds x tables) (sym c.leave_staged.ensures.store) h.0),
-      λ so. dropped_records l.begins l.keeps l.outlasts l.is_stuck l.is_wanting l.reopens old.ledger now.ledger c.leave_staged.ensures.rests
+      λ so. dropped_records l.begins l.keeps l.outlasts l.is_stuck l.is_wanting l.is_hearing l.reopens
+          old.ledger now.ledger c.leave_staged.ensures.rests
           tables (s.place old.store) (s.reach old.store) (s.place c.unstage.new.self) (s.reach c.unstage.new.self)
           c.leave_staged.ensures.kept c.leave_staged.ensures.free (c.unstage.ensures.position ∙ ap s.place c.leave_staged.ensures.store)
           (h.1 so),
@@ -22,9 +23,10 @@ returns-clause-staged g c tables h =
     let old = c.args.self.now in
     let now = c.leave_staged.new.self in (
       c.unstage.ensures.staged tables (subst (λ x. s.holds x tables) (sym c.leave_staged.ensures.store) h.0),
-      λ so. held_plans l.begins l.keeps l.outlasts l.is_stuck l.is_wanting l.reopens now.ledger tables _ _
+      λ so. held_plans l.begins l.keeps l.outlasts l.is_stuck l.is_wanting l.is_hearing l.reopens now.ledger tables _ _
           (c.unstage.ensures.reach ∙ sym c.unstage.ensures.position)
-          (dropped_records l.begins l.keeps l.outlasts l.is_stuck l.is_wanting l.reopens old.ledger now.ledger c.leave_staged.ensures.rests
+          (dropped_records l.begins l.keeps l.outlasts l.is_stuck l.is_wanting l.is_hearing l.reopens
+          old.ledger now.ledger c.leave_staged.ensures.rests
           tables (s.place old.store) (s.reach old.store) (s.place c.unstage.new.self) (s.reach c.unstage.new.self)
           c.leave_staged.ensures.kept c.leave_staged.ensures.free (c.unstage.ensures.position ∙ ap s.place c.leave_staged.ensures.store)
           (h.1 so)),

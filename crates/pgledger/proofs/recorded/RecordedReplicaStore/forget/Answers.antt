@@ -1,0 +1,30 @@
+use Rattle.std.proofs.Common.{◌∙◌, refl, sym}
+use Rattle.pgledger.proofs.Recording.{still_plans, still_records}
+use Rattle.pgledger.proofs.recorded.RecordedReplicaStore.forget.Goals as goal
+
+pub returns-clause-forgets : goal.returns-clause-forgets
+returns-clause-forgets g c =
+    let l = g.L.Ledger in
+    let s = g.S.ReplicaStore in
+    let old = c.args.self.now in
+    let new = c.forget.new.self in record {
+      serves_on = λ h. h;
+      served = λ h. h;
+      stays_honest = λ h. h;
+      honest = λ h. h;
+      held = λ tables h. (
+        h.0,
+        λ so. still_records l.begins l.keeps l.outlasts l.is_stuck l.is_wanting l.is_hearing l.reopens old.ledger new c.forget.ensures.rests
+            tables (s.place old.store) c.forget.ensures.kept (λ stands. sym c.forget.ensures.stuck ∙ stands) (s.reach old.store) (h.1 so),
+      );
+      staged = λ tables h. (
+        h.0,
+        λ so. still_plans l.begins l.keeps l.outlasts l.is_stuck l.is_wanting l.is_hearing l.reopens old.ledger new c.forget.ensures.rests
+            tables (s.place old.store) c.forget.ensures.kept (λ stands. sym c.forget.ensures.stuck ∙ stands) (s.reach old.store) (h.1 so),
+      );
+      place_is = refl;
+      reach_is = refl;
+      missed_is = refl;
+      stages_missed_is = refl;
+      reopens_less = λ other r. (r.0, λ so. c.forget.ensures.rests.reopens_less _ other.ledger (r.1 so));
+    }
