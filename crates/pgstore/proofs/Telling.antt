@@ -11,6 +11,7 @@ use Rattle.pgapply.specs.Value.{Rows, Tables}
 use Rattle.pgapply.specs.Apply.{Change, ◌>>=◌, apply, fold_changes, found_rows}
 use Rattle.pgledger.specs.declared.image.Image.{Image}
 use Rattle.pgledger.specs.Images.{change_image, image_of, images, images_after, rows_or_none}
+use Rattle.pgledger.specs.declared.heard.Heard.{Heard}
 use Rattle.pgledger.specs.Entries.{Entry, entry_of}
 use Rattle.pgledger.specs.Ledgers.{Appends, UnaskedKeeps}
 use Rattle.pgstore.specs.Looks.{begun_telling, told_more}
@@ -70,12 +71,14 @@ told_none v (Some told) = ap Some (sym (append-nil told))
 -- ---- a ledger that is told
 
 module _ {L : Type 0} (keeps : L → List Entry → Type 0) (is_wanting : L → Bool) (unasked : UnaskedKeeps keeps is_wanting) (old new : L)
-    (still : is_wanting new ≡ is_wanting old) (end : ℕ) (about : Option About) (changes : List Change) where
+    (still : is_wanting new ≡ is_wanting old) (end : ℕ) (about : Option About)
+    (messages : List Heard) (changes : List Change) where
   -- it has the images of the changes, or wants none
   pub told_appends : (wants : Bool) → wants ≡ is_wanting old → (telling : Option (List Image)) (shown more : List Image)
       → telling ≡ told_more (begun_telling wants) more → IfSome telling (λ told. shown ≡ told)
-      → Appends keeps (entry_of end about changes shown) old new → Appends keeps (entry_of end about changes more) old new
+      → Appends keeps (entry_of end about messages changes shown) old new
+      → Appends keeps (entry_of end about messages changes more) old new
   told_appends true asks telling shown more is shows appends es kept =
-      subst (λ told. keeps new (es ++ entry_of end about changes told ∷ [])) (subst (λ o. IfSome o (λ told. shown ≡ told)) is shows)
-      (appends es kept)
+      subst (λ told. keeps new (es ++ entry_of end about messages changes told ∷ []))
+      (subst (λ o. IfSome o (λ told. shown ≡ told)) is shows) (appends es kept)
   told_appends false asks telling shown more is shows appends es kept = unasked new (still ∙ sym asks) _

@@ -18,6 +18,7 @@ use Rattle.pgapply.specs.Apply.{Change, in_store, row_at}
 use Rattle.pgapply.specs.Stored.{IsFault}
 use Rattle.pgledger.specs.declared.image.Image.{Image}
 use Rattle.pgledger.specs.Images.{image_of, images}
+use Rattle.pgledger.specs.declared.heard.Heard.{Heard}
 use Rattle.pgledger.specs.Entries.{Entry, entry_of}
 use Rattle.pgledger.specs.Ledgers.{Appends}
 use Rattle.pgstore.specs.Spelled.{IsChanging, IsStored}
@@ -72,7 +73,8 @@ abbrev pub TellsFrom : stored.Tables → List RelationDef → List (ℕ × Op) �
 TellsFrom t definitions changes before after = (v : Tables) → IsStored v t
     → after ≡ told_more before (images v (change_values definitions changes))
 
--- the ledger has the commit, with its images over these tables
-abbrev pub AppendsFrom : {L : Type 0} → (L → List Entry → Type 0) → stored.Tables → ℕ → Option About → List Change → L → L → Type 0
-AppendsFrom keeps t end about changes old new = (v : Tables) → IsStored v t
-    → Appends keeps (entry_of end about changes (images v changes)) old new
+-- the ledger has the commit with these messages, and with its images over these tables
+abbrev pub AppendsFrom : {L : Type 0} → (L → List Entry → Type 0) → stored.Tables → ℕ → Option About → List Heard → List Change → L → L
+    → Type 0
+AppendsFrom keeps t end about messages changes old new = (v : Tables) → IsStored v t
+    → Appends keeps (entry_of end about messages changes (images v changes)) old new

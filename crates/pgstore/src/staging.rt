@@ -1,7 +1,8 @@
 //! Commits that share a transaction: each goes in after those before it, wholly or not at all, and
 //! one commit stores them all.
 
-ghost use Rattle.std.specs.Prelude.{◌≡◌, ◌≢◌, ◌<◌, ◌^◌, [], true, false, OnOk, OnErr, IfErr};
+ghost use Rattle.std.specs.Prelude.{◌≡◌, ◌≢◌, ◌<◌, ◌^◌, [], true, false, Some, IsSome, OnOk, OnErr};
+ghost use Rattle.std.specs.Prelude.{IfErr};
 ghost use Rattle.std.specs.Int.{w64, to_be_bytes};
 ghost use Rattle.std.specs.List.{AllByRecursion};
 ghost use Rattle.sqlite.specs.State.{HasCleanDisk, KeepsCommit, Survives};
@@ -14,6 +15,7 @@ ghost use Rattle.pgapply.specs.Value.{Tables};
 ghost use Rattle.pgstore.specs.Known.{AreKnown, HasTables};
 ghost use Rattle.pgstore.specs.Spelled.{IsStored};
 ghost use Rattle.pgstore.specs.Sources.{IsSource, rows_in};
+ghost use Rattle.pgledger.specs.Entries.{messages_of};
 ghost use Rattle.pgledger.specs.Ledgers.{AppendsAtMost, Keeps, Rests, StaysOrSticks, Syncs};
 ghost use Rattle.pgstore.specs.Looks.{AppendsFrom, TellsFrom};
 ghost use Rattle.pgstore.specs.Staged.{before_of, CommitsNothing, HasStaged, KeepsStaged};
@@ -309,12 +311,15 @@ pub(crate) fn stage_told<S: Alter + Drop, L: Ledger>(
         (state S.Store (rows_in source.new)) (λ _. ⊥) }
     ensures told { HasCleanDisk (state S.Store (rows_in source.new)) → OnOk result
         (AppendsFrom L.Ledger.keeps (before_of S.Store is_first (rows_in source.old))
-        commit.now.end commit.now.about commit.now.work.now.changes ledger.old ledger.new) }
+        commit.now.end commit.now.about (messages_of (L.Ledger.heard ledger.old))
+        commit.now.work.now.changes ledger.old ledger.new) }
+    ensures all_heard { OnOk result (IsSome (L.Ledger.heard ledger.old)) }
+    ensures forgot { OnOk result (L.Ledger.heard ledger.new ≡ Some []) }
     ensures free { OnOk result (L.Ledger.is_stuck ledger.new ≡ false) }
     ensures at_most { AppendsAtMost L.Ledger.keeps commit.now.end ledger.old ledger.new }
     ensures untold { OnErr result (StaysOrSticks L.Ledger.is_stuck ledger.old ledger.new) }
-    ensures rests { Rests L.Ledger.begins L.Ledger.is_wanting L.Ledger.outlasts L.Ledger.reopens
-        ledger.old ledger.new }
+    ensures rests { Rests L.Ledger.begins L.Ledger.is_wanting L.Ledger.is_hearing L.Ledger.outlasts
+        L.Ledger.reopens ledger.old ledger.new }
 {
     let mut telling = Telling::new(alloc, ledger.wants());
     stage_all(
@@ -374,12 +379,13 @@ pub(crate) fn settle_told<S: Alter + Drop, L: Ledger>(
         × (L.Ledger.is_stuck ledger.old ≡ false)
         × Syncs L.Ledger.keeps L.Ledger.begins L.Ledger.outlasts ledger.old ledger.new) }
     ensures kept { Keeps L.Ledger.keeps ledger.old ledger.new }
+    ensures heard { L.Ledger.heard ledger.new ≡ L.Ledger.heard ledger.old }
     ensures synced { OnOk result
         (Syncs L.Ledger.keeps L.Ledger.begins L.Ledger.outlasts ledger.old ledger.new) }
     ensures was_free { OnOk result (L.Ledger.is_stuck ledger.old ≡ false) }
     ensures free { OnOk result (L.Ledger.is_stuck ledger.new ≡ false) }
-    ensures rests { Rests L.Ledger.begins L.Ledger.is_wanting L.Ledger.outlasts L.Ledger.reopens
-        ledger.old ledger.new }
+    ensures rests { Rests L.Ledger.begins L.Ledger.is_wanting L.Ledger.is_hearing L.Ledger.outlasts
+        L.Ledger.reopens ledger.old ledger.new }
 {
     if let Err(fault) = ledger.sync() {
         return Err(Refusal::new(fault));

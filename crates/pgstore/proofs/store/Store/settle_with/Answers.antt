@@ -97,7 +97,7 @@ returns-in-Err-clause-commits_synced g c =
     (LeavesSynced g.S.Store (l.is_stuck before) (Syncs l.keeps l.begins l.outlasts before after) s)) c.self.view_is
     (survives_synced g.S.Store old new position group more stands c.reach-reach.result c.reach-reach.ensures (l.is_stuck before)
     (Syncs l.keeps l.begins l.outlasts before c.settle_told.new.ledger) (Syncs l.keeps l.begins l.outlasts before after)
-    (λ syncs. syncs_then l.begins l.is_wanting l.outlasts l.reopens l.keeps before c.settle_told.new.ledger after syncs
+    (λ syncs. syncs_then l.begins l.is_wanting l.is_hearing l.outlasts l.reopens l.keeps before c.settle_told.new.ledger after syncs
     c.stick-in-Err.ensures.rests) c.self.invariant.2.range c.settle_told.ensures.crash_synced)
 
 pub returns-clause-commits_synced : goal.returns-clause-commits_synced
@@ -121,7 +121,7 @@ returns-clause-commits_synced g c =
 pub returns-in-Err-clause-rests : goal.returns-in-Err-clause-rests
 returns-in-Err-clause-rests g c =
     let l = g.L.Ledger in
-    rests_then l.begins l.is_wanting l.outlasts l.reopens c.args.ledger.now c.settle_told.new.ledger c.stick-in-Err.new.self
+    rests_then l.begins l.is_wanting l.is_hearing l.outlasts l.reopens c.args.ledger.now c.settle_told.new.ledger c.stick-in-Err.new.self
     c.settle_told.ensures.rests c.stick-in-Err.ensures.rests
 
 pub returns-in-Err-clause-kept : goal.returns-in-Err-clause-kept
