@@ -10,8 +10,8 @@ use Rattle.clap.specs.Words.{with_rule, with_subcommand}
 use Rattle.clap.specs.declared.builder.arg.Arg.{Arg}
 use Rattle.clap.specs.declared.builder.command.Command.{Command}
 use Rattle.pgcommand.specs.declared.watching.Watching.{Watching}
-use Rattle.pgcommand.specs.Asked.{IsCommand, ReadsAsOne, ReadsOr, ReadsUpTo, misnames_watch}
-use Rattle.pgcommand.specs.Asked.{watching_of}
+use Rattle.pgcommand.specs.Asked.{IsCommand, ReadsAsOne, ReadsIfGiven, ReadsOr, ReadsUpTo}
+use Rattle.pgcommand.specs.Asked.{misnames_watch, watching_of}
 
 pub none≢some : {X : Type 0} {x : X} → None ≡ Some x → ⊥
 none≢some e = true≢false (sym (ap is_some e))
@@ -89,6 +89,17 @@ pub reads_or : (E : Type 0) (G : List ℕ → Result ℕ E → Type 0) (k most d
 reads_or E G k most default None r below only none value = ap (λ (o : Option ℕ). unwrap_or o default) (none refl)
 reads_or E G k most default (Some u) r below only none value =
     reads_up_to E G k most (Some u) r below only value (unwrap_or r default) (λ m e small. ap (λ (o : Option ℕ). unwrap_or o default) e)
+
+-- and the same where it is none then
+pub reads_if_given : (E : Type 0) (G : List ℕ → Result ℕ E → Type 0) (k most : ℕ) (t : Option (List ℕ)) (r : Option ℕ) → most < 2 ^ k
+    → ((u : List ℕ) (x : Result ℕ E) → G u x → ParsesUnsigned k 10 u x) → (t ≡ None → r ≡ None)
+    → ((u : List ℕ) → t ≡ Some u → ReadsOne G u r)
+    → ReadsIfGiven most t r
+reads_if_given E G k most None r below only none value = none refl
+reads_if_given E G k most (Some u) (Some m) below only none value = λ numeral small. ap Some (only u (Ok m) (value u refl)).1
+reads_if_given E G k most (Some u) None below only none value = λ numeral small.
+    let failed = value u refl in
+    absurd (only u (Err failed.0) failed.1 (numeral, omega (arith, small, below)))
 
 pub is_some_text : (o : Option (Bor (List ℕ))) → is_some o ≡ is_some (option_map (λ s. s.now) o)
 is_some_text None = refl

@@ -112,10 +112,18 @@ feed_seconds_rule = record (new_rule (codes "feed-segment-seconds")) {
   parser = Some (Signed (pos 0) (pos 4294967295));
 }
 
+-- how many bytes the messages of a transaction have at most
+abbrev pub messages_rule : Rule
+messages_rule = record (new_rule (codes "messages")) {
+  long = Some (codes "messages");
+  value_names = 1;
+  parser = Some (Unsigned 0 18446744073709551615);
+}
+
 abbrev pub with_feed : App → App
-with_feed a = with_rule (with_rule
+with_feed a = with_rule (with_rule (with_rule
     (with_rule (with_rule (with_rule (with_rule a feed_rule) (feed_text_rule (codes "feed-system")))
-    (feed_text_rule (codes "feed-database"))) (feed_text_rule (codes "feed-slot"))) feed_bytes_rule) feed_seconds_rule
+    (feed_text_rule (codes "feed-database"))) (feed_text_rule (codes "feed-slot"))) feed_bytes_rule) feed_seconds_rule) messages_rule
 
 abbrev pub show_app : App
 show_app = with_rule (with_rule (new_app (codes "show")) proto_rule) (word_rule (codes "FILE"))
@@ -199,6 +207,13 @@ abbrev pub ReadsOr : ℕ → ℕ → Option Text → ℕ → Type 0
 ReadsOr default most None n = n ≡ default
 ReadsOr default most (Some text) n = ReadsUpTo most (Some text) n
 
+-- the same number, and none where the option isn't given
+abbrev pub ReadsIfGiven : ℕ → Option Text → Option ℕ → Type 0
+ReadsIfGiven most None number = number ≡ None
+ReadsIfGiven most (Some text) number =
+    IsNumeral 10 (without_leading_plus text) → digits_value 10 (without_leading_plus text) ≤ most
+    → number ≡ Some (digits_value 10 (without_leading_plus text))
+
 -- a feed in the folder that `--feed` names, of what the other options tell, which are empty where
 -- they aren't given
 pub record IsFeed (rows : List Row) (feed : FeedOptions) : Type 0 where
@@ -208,6 +223,7 @@ pub record IsFeed (rows : List Row) (feed : FeedOptions) : Type 0 where
   pub slot : string_bytes feed.slot ≡ text_in (codes "feed-slot") rows
   pub bytes : ReadsOr 67108864 18446744073709551615 (one_of (codes "feed-segment-bytes") rows) feed.segment_bytes
   pub seconds : ReadsOr 0 4294967295 (one_of (codes "feed-segment-seconds") rows) feed.segment_seconds
+  pub messages : ReadsIfGiven 18446744073709551615 (one_of (codes "messages") rows) feed.messages
 
 -- the feed that is asked for, and none where `--feed` isn't given
 abbrev pub AsksFeed : List Row → Option FeedOptions → Type 0
@@ -257,7 +273,8 @@ tells_of_feed rows =
     is_given (codes "feed-system") rows
     || (is_given (codes "feed-database") rows
     || (is_given (codes "feed-slot") rows
-    || (is_given (codes "feed-segment-bytes") rows || is_given (codes "feed-segment-seconds") rows)))
+    || (is_given (codes "feed-segment-bytes") rows
+    || (is_given (codes "feed-segment-seconds") rows || is_given (codes "messages") rows))))
 
 -- a feed without a store is asked for, or something is told of a feed that isn't asked for
 abbrev pub lacks_of_feed : List Row → Bool

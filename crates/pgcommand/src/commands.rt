@@ -6,9 +6,9 @@ ghost use Rattle.clap.specs.Words.{App, new_app, rule_of, with_rule, with_subcom
 ghost use Rattle.pgcommand.specs.Asked.{IsCommand, word_rule, proto_rule, raw_rule, progress_rule};
 ghost use Rattle.pgcommand.specs.Asked.{store_rule, cache_rule, max_buffered_rule, max_frame_rule};
 ghost use Rattle.pgcommand.specs.Asked.{feed_rule, feed_text_rule, feed_bytes_rule};
-ghost use Rattle.pgcommand.specs.Asked.{feed_seconds_rule, with_feed, show_app, apply_app};
-ghost use Rattle.pgcommand.specs.Asked.{dump_app, follow_app, same_app, resume_app, lsn_app};
-ghost use Rattle.pgcommand.specs.Asked.{watch_app, watch_rule, repeats_rule, load_rule};
+ghost use Rattle.pgcommand.specs.Asked.{feed_seconds_rule, messages_rule, with_feed, show_app};
+ghost use Rattle.pgcommand.specs.Asked.{apply_app, dump_app, follow_app, same_app, resume_app};
+ghost use Rattle.pgcommand.specs.Asked.{lsn_app, watch_app, watch_rule, repeats_rule, load_rule};
 ghost use Rattle.pgcommand.specs.Asked.{trust_rule, bare_app, pgsub_app};
 
 use crate::task::WATCH;
@@ -241,6 +241,16 @@ fn feed_seconds<'a>(alloc: Global) -> Arg<'a>
     seconds.value_parser(value_parser!(u32).range(0..=4294967295))
 }
 
+/// `--messages BYTES`.
+fn messages<'a>(alloc: Global) -> Arg<'a>
+    ensures rule { rule_of result ≡ messages_rule }
+    ensures local { result.global ≡ false }
+{
+    let help =
+        "The feed tells the transactional messages too, of at most so many bytes in one transaction";
+    option(alloc, "messages", "BYTES", help).value_parser(value_parser!(u64))
+}
+
 /// Adds the options of a feed.
 fn with_feed<'a>(alloc: Global, command: Command<'a>) -> Result<Command<'a>, AllocError>
     ensures { (app : App) → IsCommand app command.entry →
@@ -255,7 +265,8 @@ fn with_feed<'a>(alloc: Global, command: Command<'a>) -> Result<Command<'a>, All
         .arg(feed_text(alloc, "feed-database", database))?
         .arg(feed_text(alloc, "feed-slot", slot))?
         .arg(feed_bytes(alloc))?
-        .arg(feed_seconds(alloc))
+        .arg(feed_seconds(alloc))?
+        .arg(messages(alloc))
 }
 
 /// Adds `--store FILE` and `--cache PAGES`.

@@ -17,6 +17,9 @@ pub struct FeedOptions {
     /// And before a commit whose time is so many seconds after that of its first one, where this
     /// isn't 0. That is the default.
     pub segment_seconds: u32,
+    /// It tells transactional messages, which have at most so many bytes in one transaction, or
+    /// none of them. That is the default.
+    pub messages: Option<u64>,
 }
 
 impl FeedOptions {

@@ -4,8 +4,8 @@ ghost use Rattle.std.specs.Prelude.{◌≡◌, ◌↔◌, IfOk, Option, Some, is
 ghost use Rattle.std.specs.Prelude.{string_bytes};
 ghost use Rattle.clap.specs.Words.{first_of, found_of, one_of, rows_of};
 ghost use Rattle.pgcommand.specs.Asked.{AsksFeed, IsAsked, IsCache, IsCommandName, IsFeed, IsFlag};
-ghost use Rattle.pgcommand.specs.Asked.{IsLimits, NamesFile, ReadsAsOne, ReadsOr, ReadsUpTo};
-ghost use Rattle.pgcommand.specs.Asked.{IsVersion, is_given, lacks_of_feed, lacks_word};
+ghost use Rattle.pgcommand.specs.Asked.{IsLimits, NamesFile, ReadsAsOne, ReadsIfGiven, ReadsOr};
+ghost use Rattle.pgcommand.specs.Asked.{IsVersion, ReadsUpTo, is_given, lacks_of_feed, lacks_word};
 ghost use Rattle.pgcommand.specs.Asked.{misnames_watch, tells_of_feed, text_in, watching_in};
 
 use crate::feed::FeedOptions;
@@ -188,6 +188,7 @@ fn tells_of_feed(found: &ArgMatches<'_>) -> bool
         || is_given(found, "feed-slot")
         || is_given(found, "feed-segment-bytes")
         || is_given(found, "feed-segment-seconds")
+        || is_given(found, "messages")
 }
 
 /// The word of `--watch`, as a usage names it.
@@ -262,6 +263,14 @@ fn segment_seconds_of(found: &ArgMatches<'_>) -> u32
     found.get_one::<u32>("feed-segment-seconds").unwrap_or(0)
 }
 
+/// The value of `--messages`.
+fn messages_of(found: &ArgMatches<'_>) -> Option<u64>
+    ensures { ReadsIfGiven 18446744073709551615
+        (one_of (codes "messages") (rows_of (found_of found.now))) result }
+{
+    found.get_one::<u64>("messages")
+}
+
 /// What is told of the feed in this folder.
 fn feed_in(alloc: Global, found: &ArgMatches<'_>, folder: &str) -> Result<FeedOptions, AllocError>
     ensures { Some folder.now ≡ first_of (codes "feed") (rows_of (found_of found.now)) →
@@ -278,6 +287,7 @@ fn feed_in(alloc: Global, found: &ArgMatches<'_>, folder: &str) -> Result<FeedOp
         slot,
         segment_bytes: segment_bytes_of(found),
         segment_seconds: segment_seconds_of(found),
+        messages: messages_of(found),
     })
 }
 

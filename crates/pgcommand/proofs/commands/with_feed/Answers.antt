@@ -9,5 +9,6 @@ returns c app is =
     let three = with_arg _ _ _ _ _ two c.feed_text-2.ensures.rule c.feed_text-2.ensures.local c.in_ok-arg-3.ensures in
     let four = with_arg _ _ _ _ _ three c.feed_text-3.ensures.rule c.feed_text-3.ensures.local c.in_ok-arg-4.ensures in
     let five = with_arg _ _ _ _ _ four c.feed_bytes.ensures.rule c.feed_bytes.ensures.local c.in_ok-arg-5.ensures in
-    IfOk-weaker c.arg-6.result _ _ (λ r h. with_arg _ r _ _ _ five c.feed_seconds.ensures.rule c.feed_seconds.ensures.local h)
-    c.arg-6.ensures
+    let six = with_arg _ _ _ _ _ five c.feed_seconds.ensures.rule c.feed_seconds.ensures.local c.in_ok-arg-6.ensures in
+    IfOk-weaker c.arg-7.result _ _ (λ r h. with_arg _ r _ _ _ six c.messages.ensures.rule c.messages.ensures.local h)
+    c.arg-7.ensures
