@@ -23,6 +23,7 @@ ghost use Rattle.pgsub_core.specs.Machine.ApplyState.{pushed};
 ghost use Rattle.pgsub_core.specs.Machine.Taking.{take};
 ghost use Rattle.pgsub_core.specs.Machine.Opened.{AreOpened, Fits, under_way_behind};
 ghost use Rattle.pgapply.specs.Taken.{Begins, Leaves, LeavesStaged, Settles, Stays, Shows};
+ghost use Rattle.pgapply.specs.Taken.{HearsOnly};
 ghost use Rattle.pgsub_core.specs.Subscriber.Applied.{Goes, Stops, IsKept, StaysBesideStore};
 ghost use Rattle.pgsub_core.specs.Calls.Committing.{Commits, RefusesCommit};
 ghost use Rattle.pgsub_core.specs.Machine.Counted.{message_counted, decoded_counted, frame_counted};
@@ -35,7 +36,7 @@ ghost use Rattle.pgsub_core.specs.Machine.Faults.{IsOfFeedingOver, IsOfSpools, I
 use crate::committing::{Ending, about_of, commit, later};
 use crate::fault::Fault;
 use bytes::BytesMut;
-use pgapply::{DumpRow, Misses, ReplicaStore};
+use pgapply::{DumpRow, LogicalMessage, Misses, ReplicaStore};
 use pglogical::{MessageRef, decode_ref};
 use pglsn::Lsn;
 use pgorder::{Event, Order, Version};
@@ -423,6 +424,33 @@ impl<P: Spools + Drop, C: ReplicaStore + Drop> Applier<P, C> {
         }
     }
 
+    // Hands a message that belongs to a transaction to the store, which keeps it for the next
+    // commit. What it heard before a pair or the commit of a streamed transaction is of another
+    // one, also where that was a repeat or its session broke off.
+    #[inline(always)]
+    fn hear(&mut self, message: &MessageRef<'_>)
+        ensures beside { StaysBesideStore self.old self.new }
+        ensures hears { HearsOnly C.serves C.is_honest C.holds C.stages C.place C.reach C.missed
+            C.stages_missed C.reopens self.old.store self.new.store }
+    {
+        match message {
+            MessageRef::Begin { .. } | MessageRef::StreamCommit { .. } => self.store.forget(),
+            MessageRef::Logical {
+                xid,
+                transactional: true,
+                lsn,
+                prefix,
+                content,
+            } => self.store.hear(&LogicalMessage {
+                lsn: *lsn,
+                prefix,
+                content,
+                is_streamed: xid.is_some(),
+            }),
+            _ => {}
+        }
+    }
+
     /// Applies a logical message. `start` and `end` are the fields of its XLogData.
     #[tactic(auto, using(crate::proofs::Spooling::feeding_over))]
     pub fn take_message(
@@ -465,6 +493,7 @@ impl<P: Spools + Drop, C: ReplicaStore + Drop> Applier<P, C> {
         ensures rests { Rests C.holds C.place C.reopens C.serves C.is_honest self.old.store
             self.new.store }
     {
+        self.hear(message);
         let event = self.order.step(message)?;
         self.take_event(message, event)?;
         self.received = later(self.confirmed, later(self.received, later(start, end)));
